@@ -1,0 +1,4 @@
+pub mod Dotted
+pub mod OrderLaws
+pub mod Risen
+pub mod Walks

@@ -1,0 +1,5 @@
+pub mod Rising
+pub mod Tally
+pub mod ValueOrder
+pub mod PathText
+pub mod Names

@@ -1,0 +1,31 @@
+//! The words that every other crate speaks: ids, values and their order, steps,
+//! refusals, and the limits. It stands on nothing but the standard library.
+//!
+//! Rooms: `id` (numbers and cells), `sequence`, `word` and `ref_list` (values that
+//! contracts see as lists), `value` (the values and their one order), `steps`
+//! (counting evaluations), `place` and `refusal` (what an answer other than Ok
+//! names), `limits` (every bound that a caller can meet).
+#![tactic(auto)]
+
+mod id;
+pub mod limits;
+mod memory;
+mod place;
+mod ref_list;
+mod refusal;
+mod sequence;
+mod steps;
+#[cfg(test)]
+mod tests;
+mod value;
+mod word;
+
+pub use id::{Cell, FieldNo, ModelNo, RecId};
+pub use memory::NoMemory;
+pub use place::{PathStep, Place};
+pub use ref_list::RefList;
+pub use refusal::{Broken, BrokenKind, Op, Refusal};
+pub use sequence::Sequence;
+pub use steps::{Counted, Ledger, Silent, Steps};
+pub use value::{Value, value_cmp, value_eq};
+pub use word::Word;

@@ -1,0 +1,131 @@
+//! Each public call once with memory to spare, and a table of the order of values.
+//! Expected values are worked out by hand, never taken from the output.
+
+use super::*;
+use std::alloc::Global;
+use std::cmp::Ordering;
+use std::test::Fail;
+
+fn word(alloc: Global, text: &str) -> Result<Value, NoMemory> {
+    Ok(Value::Word(Word::from_text(alloc, text)?))
+}
+
+#[test]
+fn words_keep_their_text(rt: HostRuntime) -> Result<(), Fail> {
+    let name = Word::from_text(rt.alloc(), "name")?;
+    assert_eq!(rt; name.as_str(), "name");
+    assert_eq!(rt; name.len(), 4);
+    assert!(rt; !name.is_empty());
+    let again = Word::new(name.try_clone(rt.alloc())?.into_string());
+    assert_eq!(rt; format!(in rt.alloc(); "<{again}>")?.as_str(), "<name>");
+    Ok(())
+}
+
+#[test]
+fn sequences_keep_their_items(rt: HostRuntime) -> Result<(), Fail> {
+    let mut items = Sequence::new(rt.alloc());
+    assert!(rt; items.is_empty());
+    items.push(7u32)?;
+    items.push(5)?;
+    let items = Sequence::from_vec(items.into_vec());
+    assert_eq!(rt; items.len(), 2);
+    assert_eq!(rt; items.as_slice(), [7, 5].as_slice());
+    Ok(())
+}
+
+#[test]
+fn ref_lists_keep_their_ids(rt: HostRuntime) -> Result<(), Fail> {
+    let mut ids = RefList::new(rt.alloc());
+    assert!(rt; ids.is_empty());
+    ids.push(RecId(3))?;
+    ids.push(RecId(8))?;
+    let again = ids.try_clone(rt.alloc())?;
+    assert_eq!(rt; again.len(), 2);
+    assert_eq!(rt; again.as_slice(), [RecId(3), RecId(8)].as_slice());
+    Ok(())
+}
+
+#[test]
+fn ledgers_hear_of_each_tick(rt: HostRuntime) {
+    let mut steps = Steps::new(Counted {
+        total: u64::MAX - 1,
+    });
+    steps.tick();
+    assert_eq!(rt; steps.ledger().total, u64::MAX);
+    steps.tick();
+    assert_eq!(rt; steps.ledger().total, u64::MAX);
+    let mut silent = Steps::new(Silent);
+    silent.tick();
+    assert_eq!(rt; *silent.ledger(), Silent);
+}
+
+#[test]
+fn places_print_their_steps(rt: HostRuntime) -> Result<(), Fail> {
+    let mut place = Place::whole(rt.alloc());
+    assert_eq!(rt; place.to_word(rt.alloc())?.as_str(), "");
+    place.push(PathStep::Key(Word::from_text(rt.alloc(), "args")?))?;
+    place.push(PathStep::Item(10))?;
+    place.push(PathStep::Key(Word::from_text(rt.alloc(), "name")?))?;
+    assert_eq!(rt; place.steps().len(), 3);
+    assert_eq!(rt; place.to_word(rt.alloc())?.as_str(), "args.10.name");
+    Ok(())
+}
+
+#[test]
+fn names_print_as_replies_spell_them(rt: HostRuntime) -> Result<(), Fail> {
+    let (op, kind) = (Op::Unlink, BrokenKind::MissingRef);
+    assert_eq!(rt; op.name(), "unlink");
+    assert_eq!(rt; kind.name(), "MissingRef");
+    assert_eq!(rt;
+        format!(in rt.alloc(); "{op} {kind}")?.as_str(),
+        "unlink MissingRef"
+    );
+    Ok(())
+}
+
+/// Values of each variant, each below the next.
+fn rising_values(alloc: Global) -> Result<Vec<Value>, NoMemory> {
+    let mut first = RefList::new(alloc);
+    first.push(RecId(1))?;
+    let mut both = first.try_clone(alloc)?;
+    both.push(RecId(2))?;
+    let mut second = RefList::new(alloc);
+    second.push(RecId(2))?;
+    Ok(vec![in alloc;
+        Value::Nil,
+        Value::Bool(false),
+        Value::Bool(true),
+        Value::Int(i64::MIN),
+        Value::Int(-1),
+        Value::Int(i64::MAX),
+        word(alloc, "")?,
+        word(alloc, "B")?,
+        word(alloc, "a")?,
+        word(alloc, "ab")?,
+        Value::Day(-1),
+        Value::Day(0),
+        Value::Moment(-2),
+        Value::Moment(-1),
+        Value::Ref(RecId(9)),
+        Value::Ref(RecId(10)),
+        Value::Refs(RefList::new(alloc)),
+        Value::Refs(first),
+        Value::Refs(both),
+        Value::Refs(second),
+    ]?)
+}
+
+#[test]
+fn values_are_ordered_by_variant_then_content(rt: HostRuntime) -> Result<(), Fail> {
+    let values = rising_values(rt.alloc())?;
+    for pair in values.windows(2) {
+        if let [low, high] = pair {
+            let again = low.try_clone(rt.alloc())?;
+            assert_eq!(rt; value_cmp(low, high), Ordering::Less, "{low:?} {high:?}");
+            assert_eq!(rt; value_cmp(high, low), Ordering::Greater, "{high:?} {low:?}");
+            assert_eq!(rt; value_cmp(low, &again), Ordering::Equal, "{low:?}");
+            assert!(rt; value_eq(low, &again) && !value_eq(low, high), "{low:?}");
+        }
+    }
+    Ok(())
+}

@@ -1,0 +1,10 @@
+pub mod Held
+pub mod LinksInOrder
+pub mod Occupied
+pub mod PageFits
+pub mod Paged
+pub mod RisingIds
+pub mod Room
+pub mod Shown
+pub mod SortedEntries
+pub mod StoreFit

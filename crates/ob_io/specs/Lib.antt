@@ -1,0 +1,11 @@
+pub mod Cause
+pub mod Bytes
+pub mod Connections
+pub mod Store
+pub mod Moments
+pub mod Plan
+pub mod Faults
+pub mod Memory
+pub mod Host
+pub mod Slots
+pub mod Kept

@@ -1,0 +1,75 @@
+//! The clock of the real thing: the host's, in whole seconds.
+
+ghost use Rattle.std.specs.Prelude.{◌≡◌, ◌≤◌, ◌⊎◌, pos, None, Ok, IfSome};
+ghost use Rattle.ob_io.specs.Moments.{IsMoment};
+ghost use Rattle.ob_io.specs.Plan.{one_more};
+
+use crate::clock::Clock;
+use ob_base::NoMemory;
+use ob_base::limits::MAX_MOMENT;
+use std::marker::Model;
+use std::rt;
+use std::time::SystemTime;
+
+/// The host's clock. Where the host fails or gives no moment of the years 1970 to 9999,
+/// which is counted, it gives its last moment again, at first 1970-01-01 00:00:00 UTC.
+#[derive(Drop)]
+pub struct HostClock<R: rt::Clock> {
+    rt: R,
+    last: i64,
+    faults: u64,
+}
+
+impl<R: rt::Clock> Model for HostClock<R> {
+    ghost use Rattle.ob_io.specs.Moments.{IsMoment};
+    ghost use Rattle.ob_io.specs.Host.{HostTime};
+
+    ghost Value = { HostTime };
+
+    ghost view = { λ c. record { last = c.last; faults = c.faults } };
+
+    ghost invariant = { λ c. IsMoment c.last };
+}
+
+impl<R: rt::Clock> HostClock<R> {
+    /// Gives the moments of this runtime.
+    pub fn new(rt: R) -> Result<HostClock<R>, NoMemory>
+        ensures { result ≡ Ok (record { last = pos 0; faults = 0 }) }
+    {
+        Ok(HostClock {
+            rt,
+            last: 0,
+            faults: 0,
+        })
+    }
+}
+
+/// The moment of the host, where it gives one of the years to 9999.
+fn moment_of(rt: &impl rt::Clock) -> Option<i64>
+    ensures { IfSome result IsMoment }
+{
+    let now = SystemTime::now(rt).ok()?;
+    let since = now.duration_since(SystemTime::UNIX_EPOCH).ok()?;
+    let seconds = i64::try_from(since.as_secs()).ok()?;
+    (seconds <= MAX_MOMENT).then_some(seconds)
+}
+
+impl<R: rt::Clock> Clock for HostClock<R> {
+    ghost coming = { λ _. None };
+
+    ghost faults = { λ c. c.faults };
+
+    fn now(&mut self) -> i64
+        ensures within { IsMoment result }
+        ensures last { self.new.last ≡ result }
+        ensures counted { (self.new.faults ≡ self.old.faults)
+            ⊎ ((result ≡ self.old.last) × (self.new.faults ≡ one_more self.old.faults)) }
+        ensures count { self.old.faults ≤ self.new.faults }
+    {
+        match moment_of(&self.rt) {
+            Some(moment) => self.last = moment,
+            None => self.faults = self.faults.saturating_add(1),
+        }
+        self.last
+    }
+}

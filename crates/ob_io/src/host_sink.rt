@@ -1,0 +1,58 @@
+//! The sink of the real thing: standard output.
+
+ghost use Rattle.std.specs.Prelude.{◌≡◌, None, Ok, IfOk, IsErr, is_err};
+ghost use Rattle.ob_io.specs.Cause.{HasCause};
+ghost use Rattle.ob_io.specs.Bytes.{Writes};
+ghost use Rattle.ob_io.specs.Faults.{count_after};
+
+use crate::fault::Failed;
+use crate::sink::Sink;
+use ob_base::NoMemory;
+use std::io;
+use std::io::Write;
+use std::marker::Model;
+
+/// Standard output, without a buffer. Each write of the host that fails is counted, and
+/// one that takes nothing of a piece that isn't empty; the count is what contracts see.
+#[derive(Drop)]
+pub struct StdSink<R: Print> {
+    rt: R,
+    faults: u64,
+}
+
+impl<R: Print> Model for StdSink<R> {
+    ghost use Rattle.std.specs.Prelude.{ℕ};
+
+    ghost Value = { ℕ };
+
+    ghost view = { λ s. s.faults };
+}
+
+impl<R: Print> StdSink<R> {
+    /// Writes where this runtime prints.
+    pub fn new(rt: R) -> Result<StdSink<R>, NoMemory>
+        ensures { result ≡ Ok 0 }
+    {
+        Ok(StdSink { rt, faults: 0 })
+    }
+}
+
+impl<R: Print> Sink for StdSink<R> {
+    ghost written = { λ _. None };
+
+    ghost faults = { λ s. s };
+
+    fn write(&mut self, piece: &[u8]) -> Result<usize, Failed>
+        ensures writes { IfOk result (λ n. Writes None None piece.now n) }
+        ensures counted { self.new ≡ count_after (is_err result) self.old }
+        ensures cause { HasCause self.old self.new (IsErr result) }
+    {
+        match io::writer(&self.rt).write(piece) {
+            Ok(count) if count > 0 || piece.is_empty() => Ok(count),
+            _ => {
+                self.faults = self.faults.saturating_add(1);
+                Err(Failed)
+            }
+        }
+    }
+}

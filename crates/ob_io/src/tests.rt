@@ -1,0 +1,197 @@
+//! What no clause says: that each constructor and call succeeds where memory is ample,
+//! with values worked out by hand, and what the real forms do with a host.
+
+use crate::{
+    Clock, Door, Failed, FileFault, Files, HostClock, MemClock, MemSink, MemSource, Sink, Source,
+    StdSink, StdSource, SureDoor, SureFiles, SureSink, SureSource,
+};
+use ob_base::limits::{MAX_MOMENT, MIN_MOMENT};
+use std::alloc::Allocator;
+use std::fmt::Display;
+use std::io::{BufRead, Input, Lines};
+use std::test::Fail;
+use std::time::Duration;
+use std::{io, rt as host};
+
+#[test]
+fn sure_source_cuts(rt: HostRuntime) -> Result<(), Fail> {
+    let mut source = SureSource::new(vec![in rt.alloc(); 1, 2, 3, 4, 5]?, 2)?;
+    let mut room = [9; 3];
+    for (count, want) in [
+        (2, [1, 2, 9]),
+        (2, [3, 4, 9]),
+        (1, [5, 4, 9]),
+        (0, [5, 4, 9]),
+    ] {
+        assert_eq!(rt; source.read(&mut room), Ok(count));
+        assert_eq!(rt; room, want);
+    }
+    Ok(())
+}
+
+#[test]
+fn a_cut_of_zero_counts_as_one(rt: HostRuntime) -> Result<(), Fail> {
+    let mut source = SureSource::new(vec![in rt.alloc(); 1, 2]?, 0)?;
+    assert_eq!(rt; source.read(&mut []), Ok(0));
+    let mut room = [9; 3];
+    assert_eq!(rt; source.read(&mut room), Ok(1));
+    assert_eq!(rt; room, [1, 9, 9]);
+    Ok(())
+}
+
+#[test]
+fn mem_source_fails_the_listed_reads(rt: HostRuntime) -> Result<(), Fail> {
+    let fail = vec![in rt.alloc(); 2, 4]?;
+    let mut source = MemSource::new(vec![in rt.alloc(); 1, 2, 3]?, 8, fail)?;
+    let mut room = [9; 2];
+    for (answer, want) in [
+        (Ok(2), [1, 2]),
+        (Err(Failed), [1, 2]),
+        (Ok(1), [3, 2]),
+        (Err(Failed), [3, 2]),
+        (Ok(0), [3, 2]),
+    ] {
+        assert_eq!(rt; source.read(&mut room), answer);
+        assert_eq!(rt; room, want);
+    }
+    Ok(())
+}
+
+#[test]
+fn sure_sink_fills_up(rt: HostRuntime) -> Result<(), Fail> {
+    let mut sink = SureSink::new(rt.alloc(), 3)?;
+    assert_eq!(rt; sink.write(&[1, 2]), Ok(2));
+    assert_eq!(rt; sink.write(&[3, 4]), Ok(1));
+    assert_eq!(rt; sink.write(&[5]), Err(Failed));
+    assert_eq!(rt; sink.write(&[]), Ok(0));
+    assert_eq!(rt; sink.written(), [1, 2, 3].as_slice());
+    Ok(())
+}
+
+#[test]
+fn mem_sink_fails_the_listed_writes(rt: HostRuntime) -> Result<(), Fail> {
+    let mut sink = MemSink::new(rt.alloc(), 2, vec![in rt.alloc(); 1, 3]?)?;
+    assert_eq!(rt; sink.write(&[1]), Err(Failed));
+    assert_eq!(rt; sink.write(&[2]), Ok(1));
+    assert_eq!(rt; sink.write(&[]), Err(Failed));
+    assert_eq!(rt; sink.write(&[3, 4]), Ok(1));
+    assert_eq!(rt; sink.write(&[5]), Err(Failed));
+    assert_eq!(rt; sink.written(), [2, 3].as_slice());
+    Ok(())
+}
+
+#[test]
+fn mem_clock_stays_in_its_years(rt: HostRuntime) -> Result<(), Fail> {
+    for (start, step, want) in [
+        (0, 60, [0, 60, 120]),
+        (10, -20, [10, -10, -30]),
+        (
+            MAX_MOMENT - 3,
+            2,
+            [MAX_MOMENT - 3, MAX_MOMENT - 1, MAX_MOMENT - 1],
+        ),
+        (MIN_MOMENT + 1, -1, [MIN_MOMENT + 1, MIN_MOMENT, MIN_MOMENT]),
+        (1, i64::MAX, [1, 1, 1]),
+    ] {
+        assert!(rt; MIN_MOMENT <= start && start <= MAX_MOMENT);
+        let mut clock = MemClock::new(start, step)?;
+        assert_eq!(rt;
+            [clock.now(), clock.now(), clock.now()],
+            want,
+            "from {start} by {step}"
+        );
+    }
+    Ok(())
+}
+
+#[test]
+fn closed_ones_hold_nothing(rt: HostRuntime) -> Result<(), Fail> {
+    let mut files = SureFiles::new(rt.alloc())?;
+    match files.read_file("main") {
+        Ok(_) => assert!(rt; false),
+        Err(fault) => assert_eq!(rt; fault, FileFault::Absent),
+    }
+    let mut door = SureDoor::new(rt.alloc())?;
+    let mut room = [9; 2];
+    assert_eq!(rt; door.next(), Ok(false));
+    assert_eq!(rt; door.read(&mut room), Ok(0));
+    assert_eq!(rt; room, [9, 9]);
+    assert_eq!(rt; door.write(&[1, 2, 3]), Ok(3));
+    door.shut();
+    Ok(())
+}
+
+#[test]
+fn the_host_has_a_clock_and_an_output(rt: HostRuntime) -> Result<(), Fail> {
+    // 2023-11-14, which lies behind.
+    let moment = HostClock::new(&rt)?.now();
+    assert!(rt; 1_700_000_000 < moment && moment <= MAX_MOMENT);
+    assert_eq!(rt; StdSink::new(&rt)?.write(b"one line\n"), Ok(9));
+    assert_eq!(rt; StdSource::new(&rt)?.read(&mut []), Ok(0));
+    Ok(())
+}
+
+/// A host whose clock gives the first second of the year 10000, whose input is three
+/// bytes, and which prints nothing.
+struct Odd;
+
+impl host::Clock for Odd {
+    fn monotonic(&self) -> io::Result<Duration> {
+        Ok(Duration::ZERO)
+    }
+
+    fn since_1970(&self) -> io::Result<Duration> {
+        Ok(Duration::from_secs(253_402_300_800))
+    }
+}
+
+impl Input for Odd {
+    type Reader = &'static [u8];
+
+    fn read_line<A: Allocator + Clone>(&self, buf: &mut String<A>) -> io::Result<usize> {
+        self.reader().read_line(buf)
+    }
+
+    fn lines<A: Allocator>(&self, alloc: A) -> Lines<&'static [u8], A> {
+        self.reader().lines(alloc)
+    }
+
+    fn reader(&self) -> &'static [u8] {
+        b"abc"
+    }
+}
+
+impl Print for Odd {
+    fn print<D: Display + Drop>(&self, _value: D) -> io::Result<()> {
+        Ok(())
+    }
+
+    fn println<D: Display + Drop>(&self, _value: D) -> io::Result<()> {
+        Ok(())
+    }
+
+    fn write_all(&self, _bytes: &[u8]) -> io::Result<()> {
+        Ok(())
+    }
+
+    fn write_some(&self, _bytes: &[u8]) -> io::Result<usize> {
+        Ok(0)
+    }
+}
+
+#[test]
+fn an_odd_host_is_borne(rt: HostRuntime) -> Result<(), Fail> {
+    assert_eq!(rt; HostClock::new(&Odd)?.now(), 0);
+
+    let mut sink = StdSink::new(&Odd)?;
+    assert_eq!(rt; sink.write(b"a"), Err(Failed));
+    assert_eq!(rt; sink.write(b""), Ok(0));
+
+    let mut source = StdSource::new(&Odd)?;
+    let mut room = [9; 2];
+    for (count, want) in [(2, [97, 98]), (1, [99, 98]), (0, [99, 98])] {
+        assert_eq!(rt; source.read(&mut room), Ok(count));
+        assert_eq!(rt; room, want);
+    }
+    Ok(())
+}

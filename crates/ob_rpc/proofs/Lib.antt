@@ -1,0 +1,4 @@
+mod Lines
+mod Members
+mod Parts
+mod Pieces

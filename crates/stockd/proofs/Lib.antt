@@ -1,0 +1,13 @@
+pub mod LineLaws
+pub mod ReadingLaws
+pub mod ReadingSteps
+pub mod AnswerLaws
+pub mod ReadOn
+pub mod ReadStops
+pub mod RunOn
+pub mod ServedOn
+pub mod SessionOn
+pub mod LeastRow
+pub mod OneWord
+pub mod WholeCall
+pub mod WrittenParts

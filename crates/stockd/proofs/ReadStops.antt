@@ -1,0 +1,133 @@
+-- How a session ends whose input gives no further line.
+use Rattle.std.proofs.Common.{◌≡◌, ◌≢◌, ◌+◌, ℕ, true, false, List, [], ◌∷◌, ◌++◌, length, get_or, refl, ap, sym, ◌∙◌, arith, Option, Some, None, subst, append_assoc}
+use Rattle.std.specs.Prelude.{All, take, not, option_map, IfSome}
+use Rattle.std.specs.List.{list_any}
+use Rattle.std.proofs.lemmas.List.{append-nil}
+use Rattle.std.proofs.lemmas.List.Elements.{filter-append}
+use Rattle.std.proofs.lemmas.List.Folds.{list_any_none}
+use Rattle.std.proofs.lemmas.Bool.Decides.{nat_tests}
+use Rattle.std.proofs.Math.Seq.{take-append_seam}
+use Rattle.stockd.specs.declared.ending.Ending.{Ending}
+use Rattle.stockd.specs.declared.ending.Ending.TheVariants as ending
+use Rattle.stockd.specs.declared.lines.LineFault.{LineFault}
+use Rattle.stockd.specs.declared.lines.LineFault.TheVariants as fault
+use Rattle.stockd.specs.Lines.{is_line_feed, is_blank, lines_of, bodies_of, Reading, stream_of, GivesPart, IsAtEnd, StopsInLine, IsTooLong}
+use Rattle.stockd.specs.Out.{whole_part}
+use Rattle.stockd.specs.SessionSteps.{bodies_in, whole_lines, HasRead, StopsReading}
+use Rattle.stockd.proofs.ReadOn.{rest_after, size_before, lines_of-stream, lines_of-read, joined}
+
+-- the stream up to its last line feed
+
+no_feed_in : (bytes : List ℕ) → All (λ byte. byte ≢ 10) bytes → list_any is_line_feed bytes ≡ false
+no_feed_in bytes h =
+    list_any_none is_line_feed bytes (λ k d l. let other : get_or bytes k d ≢ 10 = h k d l in grind (arith, nat_tests))
+
+feed_in : (line rest : List ℕ) → list_any is_line_feed (line ++ 10 ∷ rest) ≡ true
+feed_in [] rest = refl
+feed_in (byte ∷ line) rest = rw (feed_in line rest) (grind (arith, nat_tests))
+
+whole_part-none : (bytes : List ℕ) → All (λ byte. byte ≢ 10) bytes → whole_part bytes ≡ []
+whole_part-none [] h = refl
+whole_part-none (byte ∷ bytes) h =
+    let none = no_feed_in (byte ∷ bytes) h in
+    rw none refl
+
+whole_part-line : (line rest : List ℕ) → whole_part (line ++ 10 ∷ rest) ≡ line ++ 10 ∷ whole_part rest
+whole_part-line [] rest = refl
+whole_part-line (byte ∷ line) rest =
+    let some = feed_in (byte ∷ line) rest in
+    rw some (ap (λ bytes. byte ∷ bytes) (whole_part-line line rest))
+
+regroup : (line rest : List ℕ) → line ++ 10 ∷ rest ≡ (line ++ 10 ∷ []) ++ rest
+regroup line rest = simp append_assoc
+
+whole_part-read : (lines : List (List ℕ)) (bytes : List ℕ) → All (λ byte. byte ≢ 10) bytes → whole_part (whole_lines lines ++ bytes) ≡ whole_lines lines
+whole_part-read [] bytes h = whole_part-none bytes h
+whole_part-read (line ∷ lines) bytes h =
+    ap whole_part (joined line lines bytes) ∙ whole_part-line line (whole_lines lines ++ bytes)
+    ∙ ap (λ s. line ++ 10 ∷ s) (whole_part-read lines bytes h) ∙ regroup line (whole_lines lines)
+
+-- where a source tells what it has left, it tells it after it gave a part
+
+told_part : (before left : Option (List ℕ)) (part rest : List ℕ) → before ≡ Some rest → GivesPart before left part → (now : List ℕ) × (left ≡ Some now) × (rest ≡ part ++ now)
+told_part before None part rest told given = absurd (cc)
+told_part before (Some now) part rest told given = (now, refl, cc)
+
+told_before : (held : List ℕ) (before : Option (List ℕ)) (rest : List ℕ) → option_map (λ left. held ++ left) before ≡ Some rest → (left : List ℕ) × (before ≡ Some left) × (rest ≡ held ++ left)
+told_before held None rest e = absurd (cc)
+told_before held (Some left) rest e = (left, refl, cc)
+
+-- what is left after a part was given, where the stream is told
+told_after : {stream : List ℕ} {reader : Reading} {before left : Option (List ℕ)} {lines : List (List ℕ)} (h : HasRead stream reader before lines) (part : List ℕ) → GivesPart before left part → (now : List ℕ) × (left ≡ Some now) × (h.rest ≡ reader.held ++ (part ++ now))
+told_after {stream} {reader} {before} {left} {lines} h part given =
+    let was = told_before reader.held before h.rest h.coming in
+    let now = told_part before left part was.0 was.1 given in
+    (now.0, now.1, was.2 ∙ ap (λ s. reader.held ++ s) now.2)
+
+bodies_of-stream : {stream : List ℕ} {reader : Reading} {left : Option (List ℕ)} {lines : List (List ℕ)} (h : HasRead stream reader left lines) → bodies_of stream ≡ bodies_in lines ++ bodies_of h.rest
+bodies_of-stream {stream} {reader} {left} {lines} h =
+    ap bodies_in (lines_of-stream h) ∙ filter-append (λ (line : List ℕ). not (is_blank line)) lines (lines_of h.rest)
+
+-- the endings
+
+pub stops_at_end : {stream : List ℕ} {old new : Reading} {before left : Option (List ℕ)} {lines : List (List ℕ)} → HasRead stream old before lines → IsAtEnd old new before left → StopsReading ending.Done stream left lines
+stops_at_end {stream} {old} {new} {before} {left} {lines} h e =
+    let was = told_before old.held before h.rest h.coming in
+    let none : was.0 ≡ [] = subst (λ b. IfSome b (λ rest. rest ≡ [])) was.1 e.none_left in
+    let rest : h.rest ≡ [] = was.2 ∙ ap (λ s. s ++ was.0) e.none_held ∙ none in record {
+      left = [];
+      left_is = e.left ∙ was.1 ∙ ap Some none;
+      takes_in = (sym (bodies_of-stream h ∙ ap (λ s. bodies_in lines ++ bodies_of s) rest ∙ append-nil (bodies_in lines)), refl);
+    }
+
+parted : (front held part now : List ℕ) → front ++ (held ++ (part ++ now)) ≡ (front ++ (held ++ part)) ++ now
+parted front held part now = simp append_assoc
+
+pub stops_failed : {stream : List ℕ} {old new : Reading} {before left : Option (List ℕ)} {lines : List (List ℕ)} → HasRead stream old before lines → StopsInLine old new before left → StopsReading ending.ReadFault stream left lines
+stops_failed {stream} {old} {new} {before} {left} {lines} h s =
+    let now = told_after h s.part s.given in
+    let read = whole_lines lines ++ (old.held ++ s.part) in
+    let front : whole_part read ≡ whole_lines lines = whole_part-read lines (old.held ++ s.part) s.no_line_feed in
+    let lines_are : lines_of (whole_lines lines ++ []) ≡ lines ++ [] = lines_of-read lines [] h.no_feeds in record {
+      left = now.0;
+      left_is = now.1;
+      takes_in = (
+        read,
+        h.stream_is ∙ ap (λ t. whole_lines lines ++ t) now.2 ∙ parted (whole_lines lines) old.held s.part now.0,
+        sym (ap bodies_of front ∙ ap bodies_of (sym (append-nil (whole_lines lines))) ∙ ap bodies_in (lines_are ∙ append-nil lines)),
+      );
+    }
+
+pub stops_too_long : {stream : List ℕ} {old : Reading} {before left : Option (List ℕ)} {lines : List (List ℕ)} (number : ℕ) (part : List ℕ) → HasRead stream old before lines → number ≡ old.lines + 1 → IfSome (stream_of old before) (IsTooLong old.consumed) → GivesPart before left part → StopsReading (ending.TooLong number) stream left lines
+stops_too_long {stream} {old} {before} {left} {lines} number part h counted long given =
+    let now = told_after h part given in
+    let here : IsTooLong old.consumed h.rest = subst (λ s. IfSome s (IsTooLong old.consumed)) h.coming long in record {
+      left = now.0;
+      left_is = now.1;
+      takes_in = (
+        length lines,
+        omega (arith, counted, h.count),
+        record { too_long = rw (size_before h, rest_after h) here; first = h.none_too_long },
+        sym (ap (λ ls. bodies_in (take (length lines) ls)) (lines_of-stream h) ∙ ap bodies_in (take-append_seam lines (lines_of h.rest))),
+      );
+    }
+
+pub stops_no_memory : {stream : List ℕ} {old : Reading} {before left : Option (List ℕ)} {lines : List (List ℕ)} (part : List ℕ) → HasRead stream old before lines → GivesPart before left part → StopsReading ending.NoMemory stream left lines
+stops_no_memory {stream} {old} {before} {left} {lines} part h given =
+    let now = told_after h part given in record {
+      left = now.0;
+      left_is = now.1;
+      takes_in = (bodies_of h.rest, bodies_of-stream h);
+    }
+
+-- by what the reader says
+pub stops_by_fault : {stream : List ℕ} {old new : Reading} {before left : Option (List ℕ)} {lines : List (List ℕ)} (f : LineFault) (why : Ending) (part : List ℕ) → HasRead stream old before lines → GivesPart before left part
+    → (f ≡ fault.Failed → why ≡ ending.ReadFault) → ((n : ℕ) → f ≡ fault.TooLong n → why ≡ ending.TooLong n) → (f ≡ fault.NoMemory → why ≡ ending.NoMemory)
+    → (f ≡ fault.Failed → StopsInLine old new before left) → ((n : ℕ) → f ≡ fault.TooLong n → n ≡ old.lines + 1) → ((n : ℕ) → f ≡ fault.TooLong n → IfSome (stream_of old before) (IsTooLong old.consumed))
+    → StopsReading why stream left lines
+stops_by_fault {stream} {old} {new} {before} {left} {lines} fault.Failed why part h given failed too_long no_memory within number long =
+    subst (λ w. StopsReading w stream left lines) (sym (failed refl)) (stops_failed h (within refl))
+stops_by_fault {stream} {old} {new} {before} {left} {lines} (fault.TooLong n) why part h given failed too_long no_memory within number long =
+    subst (λ w. StopsReading w stream left lines) (sym (too_long n refl)) (stops_too_long n part h (number n refl) (long n refl) given)
+stops_by_fault {stream} {old} {new} {before} {left} {lines} fault.NoMemory why part h given failed too_long no_memory within number long =
+    subst (λ w. StopsReading w stream left lines) (sym (no_memory refl)) (stops_no_memory part h given)

@@ -1,0 +1,106 @@
+-- From what `call` did up to its last line to what the whole run did.
+use Rattle.std.proofs.Common.{◌≡◌, ℕ, ◌≤◌, ℤ, List, [], ◌∷◌, ◌++◌, Option, Some, None, refl, subst, inl, inr, arith}
+use Rattle.ob_io.specs.Cause.{Rose}
+use Rattle.ob_io.specs.Store.{Store}
+use Rattle.std.specs.FinMap.{get-empty}
+use Rattle.ob_orm.specs.Tables.{Tables, empty_tables}
+use Rattle.ob_orm.specs.Kept.{Kept}
+use Rattle.ob_orm.specs.Line.{line_schema}
+use Rattle.stockd.specs.declared.ending.Ending.{Ending}
+use Rattle.stockd.specs.declared.ending.Ending.TheVariants.{Usage}
+use Rattle.stockd.specs.Request.{Request, request_of}
+use Rattle.stockd.specs.Machine.{FailsBy, Step, Run}
+use Rattle.stockd.specs.Out.{status_of, last_line, IsNew, WritesLast, ServesSession, RunsCall, HasCauses}
+use Rattle.stockd.specs.Opening.{EndsCall}
+
+-- a count that rose from a later moment on rose from an earlier one on
+rose_from : (a b c : ℕ) → a ≤ b → Rose b c → Rose a c
+rose_from a b c h (inl rose) = inl (omega arith)
+rose_from a b c h (inr most) = inr most
+
+fails_from : (a b c : ℕ) → a ≤ b → (request : Option Request) (reply : List ℕ) → FailsBy (Rose b c) request reply → FailsBy (Rose a c) request reply
+fails_from a b c h None reply fails = fails
+fails_from a b c h (Some request) reply fails = (rose_from a b c h fails.0, fails.1)
+
+step_from : (a b c : ℕ) → a ≤ b → (old : Tables) (now : ℤ) (body reply : List ℕ) (new : Tables) → Step old now (Rose b c) body reply new → Step old now (Rose a c) body reply new
+step_from a b c h old now body reply new (inl answers) = inl answers
+step_from a b c h old now body reply new (inr (same, inl text)) = inr (same, inl text)
+step_from a b c h old now body reply new (inr (same, inr fails)) =
+    inr (same, inr (fails_from a b c h (request_of body) reply fails))
+
+-- a run of the machine from a later count of faults on is one from an earlier one on
+pub run_from : (moments : ℕ → ℤ) (old : Tables) (a b : ℕ) → a ≤ b → (bodies replies : List (List ℕ)) (rest : ℕ → ℤ) (now : ℕ) (new : Tables) → Run moments old b bodies replies rest now new → Run moments old a bodies replies rest now new
+run_from moments old a b h [] [] rest now new run = (run.0, omega (arith, run.1), run.2)
+run_from moments old a b h [] (reply ∷ replies) rest now new run = run
+run_from moments old a b h (body ∷ bodies) [] rest now new run = run
+run_from moments old a b h (body ∷ bodies) (reply ∷ replies) rest now new run =
+    (run.0, run.1, run.2, run.3, omega (arith, run.4), step_from a b run.2 h old (moments 0) body reply run.1 run.5, run.6)
+
+-- the same of a session
+pub session_from : (moments : ℕ → ℤ) (a b now : ℕ) → a ≤ b → (why : Ending) (stream before : List ℕ) (kept_now : Option Store) (left_now written_now : Option (List ℕ)) → ServesSession moments b now why stream before kept_now left_now written_now → ServesSession moments a now why stream before kept_now left_now written_now
+session_from moments a b now h why stream before kept_now left_now written_now s =
+    let t = s.session in
+    record {
+      store = s.store;
+      left = s.left;
+      written = s.written;
+      kept_is = s.kept_is;
+      left_is = s.left_is;
+      written_is = s.written_is;
+      session = record {
+        bodies = t.bodies;
+        replies = t.replies;
+        rest = t.rest;
+        tables = t.tables;
+        run = run_from moments empty_tables a b h t.bodies t.replies t.rest now t.tables t.run;
+        kept = t.kept;
+        takes_in = t.takes_in;
+        tells = t.tells;
+      };
+    }
+
+-- a new store has the rows of tables without rows
+pub new_is_kept : (store : Store) → IsNew store → Kept line_schema store empty_tables
+new_is_kept store new = record { rows = λ id. rw get-empty (new.no_row id); next = rw get-empty new.next }
+
+last_from : (a b c : ℕ) → a ≤ b → (before now : Option (List ℕ)) (line : List ℕ) → WritesLast (Rose b c) before now line → WritesLast (Rose a c) before now line
+last_from a b c h before now line (inl whole) = inl whole
+last_from a b c h before now line (inr (rose, part)) = inr (rose_from a b c h rose, part)
+
+-- what `call` did, and its last line then, is the whole run
+pub whole_call : (moments : ℕ → ℤ) (faults_before faults_now : ℕ) (a b c : ℕ) → a ≤ b → (why : Ending) (status : ℕ) → status ≡ status_of why → (stream before : List ℕ) (store : Store) (kept_now : Option Store) (left_now written_mid written_now : Option (List ℕ))
+    → WritesLast (Rose b c) written_mid written_now (last_line why) → EndsCall moments faults_before faults_now why stream before store kept_now left_now written_mid
+    → RunsCall moments faults_before faults_now (Rose a c) status stream before store kept_now left_now written_now
+whole_call moments faults_before faults_now a b c h why status is stream before store kept_now left_now written_mid written_now line (inl stopped) = record {
+  why = why;
+  status_is = is;
+  outcome = inl (record {
+    stops = stopped.stops;
+    kept_is = stopped.kept_is;
+    written = last_from a b c h (Some before) written_now (last_line why) (subst (λ (w : Option (List ℕ)). WritesLast (Rose b c) w written_now (last_line why)) stopped.written_is line);
+  });
+}
+whole_call moments faults_before faults_now a b c h why status is stream before store kept_now left_now written_mid written_now line (inr served) =
+    let s = served.session in
+    record {
+      why = why;
+      status_is = is;
+      outcome = inr (record {
+        new = served.new;
+        told = before ++ s.written;
+        session = record { store = s.store; left = s.left; written = s.written; kept_is = s.kept_is; left_is = s.left_is; written_is = refl; session = s.session };
+        written = last_from a b c h (Some (before ++ s.written)) written_now (last_line why) (subst (λ (w : Option (List ℕ)). WritesLast (Rose b c) w written_now (last_line why)) s.written_is line);
+      });
+    }
+
+-- other words than `call` end with status 2, whatever the objects do
+pub other_words : (is_call source_rose sink_rose keeper_rose : Type 0) (status : ℕ) → status ≡ 2 → (is_call → ⊥) → HasCauses is_call source_rose sink_rose keeper_rose status
+other_words is_call source_rose sink_rose keeper_rose status is not_call = record {
+  ending = Usage;
+  status_is = is;
+  usage = λ _. not_call;
+  other_words = λ _. is;
+  read_fault = λ four. absurd (omega arith);
+  write_fault = λ five. absurd (omega arith);
+  keeper_fault = λ six. absurd (omega arith);
+}

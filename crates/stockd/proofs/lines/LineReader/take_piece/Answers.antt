@@ -1,0 +1,31 @@
+use Rattle.std.proofs.Common.{refl, arith, rules, take, drop, ◌-◌}
+use Rattle.stockd.proofs.ReadingSteps.{takes_piece, held_rest, taken_within, piece_too_long-by_line, piece_too_long-by_input}
+use Rattle.stockd.proofs.lines.LineReader.take_piece.Goals as goal
+use Rattle.stockd.proofs.lines.LineReader.take_piece.Goals.{then-length-gt-LONGEST_LINE-via-then-length-gt-LONGEST_LINE, then-length-gt-LONGEST_LINE-via-else-length-gt-LONGEST_LINE+then-consumed-gt-LONGEST_INPUT}
+
+pub returns-clause-piece : goal.returns-clause-piece
+returns-clause-piece c =
+    let s = c.self.inside in
+    let held = take (s.end - s.start) (drop s.start s.room.items) in
+    let room = c.deref.ensures.value in
+    let step = rw room at c.from.ensures in
+    let below = rw room at c.line_len-count.ensures.bound in
+    rw (← c.self.view_is, room) (takes_piece held _ s.line.items _ s.lines _ s.consumed _ c.line_len-count.result c.from.result
+    (rw room at c.line_len-count.ensures.value)
+    step
+    (held_rest s.room.items s.start s.end _ (taken_within s.room.items s.start s.end _ _ step below (omega (arith, c.self.invariant))))
+    (rw room at c.in_ok-extend_from_slice.ensures.items)
+    (search rules) refl)
+
+pub returns-then-length-gt-LONGEST_LINE-clause-too_long :
+    goal.returns-then-length-gt-LONGEST_LINE-clause-too_long
+returns-then-length-gt-LONGEST_LINE-clause-too_long c n is =
+    let s = c.self.inside in
+    let held = take (s.end - s.start) (drop s.start s.room.items) in
+    let room = c.deref.ensures.value in
+    let at = rw room at c.line_len-count.ensures.value in
+    let step = rw room at c.from.ensures in
+    elim c.then-length-gt-LONGEST_LINE.branch [
+      | then-length-gt-LONGEST_LINE-via-then-length-gt-LONGEST_LINE w ↦ rw (← c.self.view_is) (piece_too_long-by_line held _ s.lines s.consumed c.line_len-count.result at (omega (arith, w.if-length-gt-LONGEST_LINE.true)))
+      | then-length-gt-LONGEST_LINE-via-else-length-gt-LONGEST_LINE+then-consumed-gt-LONGEST_INPUT w ↦ rw (← c.self.view_is) (piece_too_long-by_input held s.line.items s.lines s.consumed c.line_len-count.result c.from.result at step (omega (arith, w.if-consumed-gt-LONGEST_INPUT.true)))
+    ]

@@ -1,0 +1,12 @@
+pub mod Lines
+pub mod LineSteps
+pub mod Request
+pub mod Asked
+pub mod Texts
+pub mod Machine
+pub mod Words
+pub mod Out
+pub mod Serving
+pub mod Served
+pub mod SessionSteps
+pub mod Opening

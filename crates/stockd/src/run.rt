@@ -1,0 +1,152 @@
+//! A run of the program, from its words to its status.
+
+ghost use Rattle.std.specs.Prelude.{◌≡◌, ◌≤◌, ◌↔◌, ℕ, ℤ, List, Some, IsTrue, IsErrOf, IfSome, IfOk, IfErr, MatchResult};
+ghost use Rattle.ob_io.specs.Cause.{Rose, HasCause};
+ghost use Rattle.ob_io.specs.Store.{Store};
+ghost use Rattle.stockd.specs.Words.{IsCall};
+ghost use Rattle.stockd.specs.Out.{status_of, last_line, WritesLast, IsNew, StopsOpening, RunsCall, HasCauses};
+ghost use Rattle.stockd.specs.Opening.{IsLeastOf, fault_ending, MayStop, HasReason, EndsCall};
+
+use crate::ending::Ending;
+use crate::session::serve_lines;
+use ob_base::RecId;
+use ob_io::{Clock, Door, Files, KeepFault, Keeper, Sink, Source};
+use ob_orm::{LINE, LineModel};
+use std::alloc::Global;
+
+/// Runs the program over these objects and answers its status.
+pub fn run<F: Files, K: Keeper, S: Source, W: Sink, D: Door, C: Clock>(
+    alloc: Global,
+    words: &[String],
+    _files: &mut F,
+    keeper: &mut K,
+    input: &mut S,
+    output: &mut W,
+    _door: &mut D,
+    clock: &mut C,
+) -> u8
+    // Other words than `call`: the usage line, and nothing else is touched.
+    ensures usage { (IsCall words.now → ⊥) → (result ≡ 2)
+        × WritesLast (Rose (W.faults output.old) (W.faults output.new))
+        (W.written output.old) (W.written output.new) (last_line Ending.Usage)
+        × (K.kept keeper.new ≡ K.kept keeper.old) }
+    ensures untouched { (IsCall words.now → ⊥) →
+        (S.left input.new ≡ S.left input.old) × (C.coming clock.new ≡ C.coming clock.old) }
+
+    // `call`: the machine's replies to the bodies of the input, and its tables as kept
+    // rows. This is where the headline stands.
+    ensures call { (stream before : List ℕ) (store : Store) (moments : ℕ → ℤ) → IsCall words.now
+        → S.left input.old ≡ Some stream → W.written output.old ≡ Some before
+        → K.kept keeper.old ≡ Some store → C.coming clock.old ≡ Some moments
+        → RunsCall moments (K.faults keeper.old) (K.faults keeper.new)
+        (Rose (W.faults output.old) (W.faults output.new)) result stream before store
+        (K.kept keeper.new) (S.left input.new) (W.written output.new) }
+
+    // Each status has its cause, whatever the objects tell.
+    ensures causes { HasCauses (IsCall words.now) (Rose (S.faults input.old) (S.faults input.new))
+        (Rose (W.faults output.old) (W.faults output.new))
+        (Rose (K.faults keeper.old) (K.faults keeper.new)) result }
+{
+    if !is_call(words) {
+        return finish(Ending::Usage, output);
+    }
+    let ending = call(alloc, keeper, input, output, clock);
+    finish(ending, output)
+}
+
+/// Whether the words are the one action that is served.
+fn is_call(words: &[String]) -> bool
+    ensures { IsTrue result ↔ IsCall words.now }
+{
+    match words {
+        [word] => word.as_str() == "call",
+        _ => false,
+    }
+}
+
+/// Tells how the run ends, and answers its status.
+fn finish<W: Sink>(ending: Ending, output: &mut W) -> u8
+    ensures status { result ≡ status_of ending }
+    ensures line { WritesLast (Rose (W.faults output.old) (W.faults output.new))
+        (W.written output.old) (W.written output.new) (last_line ending) }
+    ensures count { W.faults output.old ≤ W.faults output.new }
+{
+    ending.tell(output);
+    ending.status()
+}
+
+/// Serves the lines of the input over a new store.
+fn call<K: Keeper, S: Source, W: Sink, C: Clock>(
+    alloc: Global,
+    keeper: &mut K,
+    input: &mut S,
+    output: &mut W,
+    clock: &mut C,
+) -> Ending
+    // Over objects that tell what they hold: the opening stopped, or a session was served.
+    ensures outcome { (stream before : List ℕ) (store : Store) (moments : ℕ → ℤ)
+        → S.left input.old ≡ Some stream → W.written output.old ≡ Some before
+        → K.kept keeper.old ≡ Some store → C.coming clock.old ≡ Some moments
+        → EndsCall moments (K.faults keeper.old) (K.faults keeper.new) result stream before store
+        (K.kept keeper.new) (S.left input.new) (W.written output.new) }
+    ensures reason { HasReason (Rose (S.faults input.old) (S.faults input.new))
+        (Rose (W.faults output.old) (W.faults output.new))
+        (Rose (K.faults keeper.old) (K.faults keeper.new)) result }
+    ensures output_count { W.faults output.old ≤ W.faults output.new }
+{
+    let Ok(model) = LineModel::build(alloc) else {
+        return Ending::NoMemory;
+    };
+    match open(keeper) {
+        Ok(()) => serve_lines(alloc, keeper, input, output, clock, &model),
+        Err(ending) => ending,
+    }
+}
+
+/// Tests that the store is new: no row, and the next id 1.
+fn open<K: Keeper>(keeper: &mut K) -> Result<(), Ending>
+    ensures told { IfSome (K.kept keeper.old) (λ store. MatchResult result (λ _. IsNew store)
+        (StopsOpening store (Rose (K.faults keeper.old) (K.faults keeper.new)))) }
+    ensures err { IfErr result (MayStop (Rose (K.faults keeper.old) (K.faults keeper.new))) }
+    ensures same { K.kept keeper.new ≡ K.kept keeper.old }
+    ensures count { K.faults keeper.old ≤ K.faults keeper.new }
+{
+    match least_row(keeper) {
+        Ok(None) => {}
+        Ok(Some(id)) => return Err(Ending::Store(id)),
+        Err(fault) => return Err(opening_fault(fault)),
+    }
+    match keeper.next_id(LINE) {
+        Ok(1) => Ok(()),
+        Ok(next) => Err(Ending::Store(next)),
+        Err(fault) => Err(opening_fault(fault)),
+    }
+}
+
+/// The least id of a row that is kept.
+fn least_row<K: Keeper>(keeper: &mut K) -> Result<Option<u64>, KeepFault>
+    ensures told { IfOk result
+        (λ least. IfSome (K.kept keeper.old) (λ store. IsLeastOf store least)) }
+    ensures same { K.kept keeper.new ≡ K.kept keeper.old }
+    ensures cause { HasCause (K.faults keeper.old) (K.faults keeper.new)
+        (IsErrOf result KeepFault.Failed) }
+{
+    if keeper.fetch(LINE, RecId(0))?.is_some() {
+        return Ok(Some(0));
+    }
+    let rows = keeper.page(LINE, RecId(0), 1)?;
+    match rows.as_slice() {
+        [row, ..] => Ok(Some(row.id.0)),
+        [] => Ok(None),
+    }
+}
+
+/// How a run ends whose keeper fails while the store is opened.
+fn opening_fault(fault: KeepFault) -> Ending
+    ensures { result ≡ fault_ending fault }
+{
+    match fault {
+        KeepFault::Failed => Ending::KeeperFault,
+        KeepFault::NoMemory => Ending::NoMemory,
+    }
+}

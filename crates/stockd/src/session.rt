@@ -1,0 +1,178 @@
+//! Serving lines: each line that isn't blank is a body, and its reply is written
+//! before the next line is read. A last line without a line feed ends the session,
+//! and nothing is read after it.
+//!
+//! How a stream is cut into lines and how a body is answered is settled in `lines` and
+//! `answer`; only the order of reading, answering and writing may be changed here.
+
+ghost use Rattle.std.specs.Prelude.{◌≡◌, ◌≤◌, ◌<◌, ◌++◌, ◌∷◌, [], ℕ, ℤ, List, Some, false, IsErr, IfOk, IfErr, IfNone, IfSome, OnOk, OnErr, MatchOption};
+ghost use Rattle.ob_io.specs.Cause.{HasCause, Rose};
+ghost use Rattle.ob_io.specs.Store.{Store};
+ghost use Rattle.ob_orm.specs.Tables.{empty_tables};
+ghost use Rattle.ob_orm.specs.Kept.{Kept};
+ghost use Rattle.ob_orm.specs.Line.{line_schema};
+ghost use Rattle.stockd.specs.declared.lines.TheConstants.{LONGEST_INPUT};
+ghost use Rattle.stockd.specs.Lines.{is_blank};
+ghost use Rattle.stockd.specs.Out.{ServesSession, IsSessionEnding, Tells, reply_lines};
+ghost use Rattle.stockd.specs.SessionSteps.{bodies_in, HasRead, HasReadTo, StopsReading, IsServing, ServesOn, StopsAt};
+
+use crate::answer::answer;
+use crate::ending::Ending;
+use crate::lines::{LineFault, LineReader, is_blank};
+use crate::output::write_line;
+use ob_base::{Silent, Steps};
+use ob_io::{Clock, Failed, Keeper, Sink, Source};
+use ob_orm::LineModel;
+use std::alloc::Global;
+
+/// Serves the lines of the input to its end.
+pub(crate) fn serve_lines<K: Keeper, S: Source, W: Sink, C: Clock>(
+    alloc: Global,
+    keeper: &mut K,
+    input: &mut S,
+    output: &mut W,
+    clock: &mut C,
+    model: &LineModel,
+) -> Ending
+    // Over a new store, and objects that tell what they hold, it is a run of the machine.
+    ensures session { (stream before : List ℕ) (store : Store) (moments : ℕ → ℤ) → S.left input.old ≡ Some stream → W.written output.old ≡ Some before
+        → K.kept keeper.old ≡ Some store → C.coming clock.old ≡ Some moments → Kept line_schema store empty_tables
+        → ServesSession moments (K.faults keeper.old) (K.faults keeper.new) result stream before (K.kept keeper.new) (S.left input.new) (W.written output.new) }
+    ensures kind { IsSessionEnding result }
+    ensures read_fault { result ≡ Ending.ReadFault → Rose (S.faults input.old) (S.faults input.new) }
+    ensures write_fault { result ≡ Ending.WriteFault → Rose (W.faults output.old) (W.faults output.new) }
+    ensures input_count { S.faults input.old ≤ S.faults input.new }
+    ensures output_count { W.faults output.old ≤ W.faults output.new }
+    ensures keeper_count { K.faults keeper.old ≤ K.faults keeper.new }
+{
+    let Ok(mut reader) = LineReader::new(alloc) else {
+        return Ending::NoMemory;
+    };
+    'lines: loop {
+        if let Some(ending) = serve_next(alloc, keeper, input, output, clock, model, &mut reader) {
+            return ending;
+        }
+    }
+}
+
+/// Reads and serves the next line. Answers how the session ends, where it does.
+fn serve_next<K: Keeper, S: Source, W: Sink, C: Clock>(
+    alloc: Global,
+    keeper: &mut K,
+    input: &mut S,
+    output: &mut W,
+    clock: &mut C,
+    model: &LineModel,
+    reader: &mut LineReader,
+) -> Option<Ending>
+    // A session goes on, or ends.
+    ensures session { (stream before : List ℕ) (moments : ℕ → ℤ) (faults_before : ℕ)
+        → IsServing moments faults_before stream before reader.old (S.left input.old)
+        (record { faults = K.faults keeper.old; kept = K.kept keeper.old; coming = C.coming clock.old; written = W.written output.old })
+        → MatchOption result
+        (IsServing moments faults_before stream before reader.new (S.left input.new)
+        (record { faults = K.faults keeper.new; kept = K.kept keeper.new; coming = C.coming clock.new; written = W.written output.new }))
+        (λ why. ServesSession moments faults_before (K.faults keeper.new) why stream before (K.kept keeper.new) (S.left input.new) (W.written output.new)) }
+    ensures kind { IfSome result IsSessionEnding }
+    ensures moved { IfNone result (reader.old.consumed < reader.new.consumed) }
+    ensures in_input { reader.new.consumed ≤ LONGEST_INPUT }
+    ensures read_fault { result ≡ Some Ending.ReadFault → Rose (S.faults input.old) (S.faults input.new) }
+    ensures write_fault { result ≡ Some Ending.WriteFault → Rose (W.faults output.old) (W.faults output.new) }
+    ensures input_count { S.faults input.old ≤ S.faults input.new }
+    ensures output_count { W.faults output.old ≤ W.faults output.new }
+    ensures keeper_count { K.faults keeper.old ≤ K.faults keeper.new }
+{
+    let whole = match next_line(reader, input) {
+        Ok(whole) => whole,
+        Err(ending) => return Some(ending),
+    };
+    if serve_line(alloc, keeper, output, clock, model, reader.line()).is_err() {
+        return Some(Ending::WriteFault);
+    }
+    if whole { None } else { Some(Ending::Done) }
+}
+
+/// Reads the next line, and says whether it ends with a line feed. Without one it is the
+/// last. Where no line is read, answers how the session ends.
+fn next_line<S: Source>(reader: &mut LineReader, input: &mut S) -> Result<bool, Ending>
+    ensures line { IfOk result (λ whole. (stream : List ℕ) (lines : List (List ℕ)) → HasRead stream reader.old (S.left input.old) lines
+        → HasReadTo whole stream reader.new (S.left input.new) (lines ++ reader.new.line ∷ [])) }
+    ensures end { IfErr result (λ why. (stream : List ℕ) (lines : List (List ℕ)) → HasRead stream reader.old (S.left input.old) lines
+        → StopsReading why stream (S.left input.new) lines) }
+
+    // After such an ending each reply stands whole.
+    ensures whole_replies { IfErr result (λ why. (replies : List (List ℕ)) → Tells why replies (reply_lines replies)) }
+    ensures read_fault { result ≡ Err Ending.ReadFault → Rose (S.faults input.old) (S.faults input.new) }
+    ensures moved { IfOk result (λ whole. reader.old.consumed < reader.new.consumed) }
+    ensures in_input { reader.new.consumed ≤ LONGEST_INPUT }
+    ensures count { S.faults input.old ≤ S.faults input.new }
+{
+    let before = reader.consumed();
+    match reader.advance(input) {
+        // With its line feed a line takes a byte more.
+        Ok(true) => Ok(reader.consumed() - before > reader.line().len() as u64),
+        Ok(false) => Err(Ending::Done),
+        Err(fault) => Err(reading_fault(fault)),
+    }
+}
+
+/// Serves one line: nothing where it is blank, else its reply.
+fn serve_line<K: Keeper, W: Sink, C: Clock>(
+    alloc: Global,
+    keeper: &mut K,
+    output: &mut W,
+    clock: &mut C,
+    model: &LineModel,
+    line: &[u8],
+) -> Result<(), Failed>
+    ensures ok { OnOk result (ServesOn (bodies_in (line.now ∷ []))
+        (record { faults = K.faults keeper.old; kept = K.kept keeper.old; coming = C.coming clock.old; written = W.written output.old })
+        (record { faults = K.faults keeper.new; kept = K.kept keeper.new; coming = C.coming clock.new; written = W.written output.new })) }
+    ensures err { OnErr result (StopsAt line.now
+        (record { faults = K.faults keeper.old; kept = K.kept keeper.old; coming = C.coming clock.old; written = W.written output.old })
+        (record { faults = K.faults keeper.new; kept = K.kept keeper.new; coming = C.coming clock.new; written = W.written output.new })) }
+    ensures body { OnErr result (is_blank line.now ≡ false) }
+    ensures cause { HasCause (W.faults output.old) (W.faults output.new) (IsErr result) }
+    ensures count { K.faults keeper.old ≤ K.faults keeper.new }
+{
+    if is_blank(line) {
+        return Ok(());
+    }
+    serve_body(alloc, keeper, output, clock, model, line)
+}
+
+/// Answers one body, and writes the reply on a line.
+fn serve_body<K: Keeper, W: Sink, C: Clock>(
+    alloc: Global,
+    keeper: &mut K,
+    output: &mut W,
+    clock: &mut C,
+    model: &LineModel,
+    body: &[u8],
+) -> Result<(), Failed>
+    ensures ok { OnOk result (ServesOn (body.now ∷ [])
+        (record { faults = K.faults keeper.old; kept = K.kept keeper.old; coming = C.coming clock.old; written = W.written output.old })
+        (record { faults = K.faults keeper.new; kept = K.kept keeper.new; coming = C.coming clock.new; written = W.written output.new })) }
+    ensures err { OnErr result (StopsAt body.now
+        (record { faults = K.faults keeper.old; kept = K.kept keeper.old; coming = C.coming clock.old; written = W.written output.old })
+        (record { faults = K.faults keeper.new; kept = K.kept keeper.new; coming = C.coming clock.new; written = W.written output.new })) }
+    ensures cause { HasCause (W.faults output.old) (W.faults output.new) (IsErr result) }
+    ensures count { K.faults keeper.old ≤ K.faults keeper.new }
+{
+    let mut steps = Steps::new(Silent);
+    let reply = answer(alloc, keeper, clock, model, &mut steps, body);
+    write_line(output, reply.as_str())
+}
+
+/// How a run ends whose input gives no further line.
+fn reading_fault(fault: LineFault) -> Ending
+    ensures failed { fault ≡ LineFault.Failed → result ≡ Ending.ReadFault }
+    ensures too_long { (line : ℕ) → fault ≡ LineFault.TooLong line → result ≡ Ending.TooLong line }
+    ensures no_memory { fault ≡ LineFault.NoMemory → result ≡ Ending.NoMemory }
+{
+    match fault {
+        LineFault::Failed => Ending::ReadFault,
+        LineFault::TooLong(line) => Ending::TooLong(line),
+        LineFault::NoMemory => Ending::NoMemory,
+    }
+}

@@ -1,0 +1,231 @@
+//! Runs over objects in memory. The expected texts were worked out by hand from the
+//! rules of docs/CALL.md.
+
+use crate::run::run;
+use ob_base::RecId;
+use ob_io::{Keeper, MemClock, MemKeeper, MemSink, MemSource, SureDoor, SureFiles};
+use ob_orm::LINE;
+use std::alloc::Global;
+use std::test::Fail;
+
+const CREATE: &str =
+    "{\"jsonrpc\":\"2.0\",\"method\":\"call\",\"params\":{\"service\":\"object\",\"method\":\"execute_kw\",\"args\":[\"stock\",2,\"admin\",\"demo.line\",\"create\",[{\"name\":\"bolt\",\"qty\":3,\"price\":25}]]},\"id\":1}";
+
+const LARGE: &str =
+    "{\"method\":\"call\",\"params\":{\"service\":\"object\",\"method\":\"execute_kw\",\"args\":[\"stock\",2,\"admin\",\"demo.line\",\"create\",[{\"qty\":9223372036854775807,\"price\":2}]]},\"id\":\"big\"}";
+
+const READ: &str =
+    "{\"jsonrpc\":\"2.0\",\"method\":\"call\",\"params\":{\"service\":\"object\",\"method\":\"execute_kw\",\"args\":[\"stock\",2,\"admin\",\"demo.line\",\"read\",[[1],[\"name\",\"subtotal\"]]]},\"id\":2}";
+
+const READ_MISSING: &str =
+    "{\"method\":\"call\",\"params\":{\"service\":\"object\",\"method\":\"execute_kw\",\"args\":[\"stock\",2,\"admin\",\"demo.line\",\"read\",[[9,1,8],[\"qty\"]]]},\"id\":3}";
+
+const CREATED: &str = "{\"id\":1,\"jsonrpc\":\"2.0\",\"result\":1}\n";
+
+const TOLD: &str =
+    "{\"id\":2,\"jsonrpc\":\"2.0\",\"result\":[{\"id\":1,\"name\":\"bolt\",\"subtotal\":75}]}\n";
+
+const OVERFLOWS: &str =
+    "{\"error\":{\"code\":200,\"data\":{\"message\":\"demo.line 1 subtotal\",\"name\":\"Constraint.Overflow\"},\"message\":\"Odoo Server Error\"},\"id\":\"big\",\"jsonrpc\":\"2.0\"}\n";
+
+const MISSING: &str =
+    "{\"error\":{\"code\":200,\"data\":{\"message\":\"demo.line 8 does not exist\",\"name\":\"Missing\"},\"message\":\"Odoo Server Error\"},\"id\":3,\"jsonrpc\":\"2.0\"}\n";
+
+const MALFORMED: &str =
+    "{\"error\":{\"code\":200,\"data\":{\"message\":\"malformed at \",\"name\":\"Request\"},\"message\":\"Odoo Server Error\"},\"id\":null,\"jsonrpc\":\"2.0\"}\n";
+
+const USAGE: &str = "usage: stockd call|serve|audit|gen [options]\n";
+
+const FAILED: &str =
+    "{\"error\":{\"code\":200,\"data\":{\"message\":\"keeper fault\",\"name\":\"Keeper\"},\"message\":\"Odoo Server Error\"},\"id\":1,\"jsonrpc\":\"2.0\"}\n";
+
+/// Room for what any of these runs writes.
+const ROOM: usize = 4096;
+
+/// A word, the size of the input's pieces, and which calls fail.
+#[derive(Clone, Copy)]
+struct Setting {
+    word: &'static str,
+    cut: usize,
+    room: usize,
+    reads: &'static [u64],
+    keeps: &'static [u64],
+}
+
+/// All calls answer.
+const PLAIN: Setting = Setting {
+    word: "call",
+    cut: 64,
+    room: ROOM,
+    reads: &[],
+    keeps: &[],
+};
+
+/// What a run leaves.
+#[derive(Drop)]
+struct Left {
+    status: u8,
+    output: MemSink,
+    keeper: MemKeeper,
+}
+
+/// Runs the program over objects in memory.
+fn run_over(alloc: Global, setting: &Setting, input: String) -> Result<Left, Fail> {
+    let mut words = Vec::new(alloc);
+    words.push(String::from_str(alloc, setting.word)?)?;
+    let mut source = MemSource::new(
+        input.into_bytes(),
+        setting.cut,
+        setting.reads.to_vec(alloc)?,
+    )?;
+    let mut output = MemSink::new(alloc, setting.room, Vec::new(alloc))?;
+    let mut keeper = MemKeeper::new(
+        alloc,
+        Vec::new(alloc),
+        Vec::new(alloc),
+        setting.keeps.to_vec(alloc)?,
+    )?;
+    let mut clock = MemClock::new(1_700_000_000, 0)?;
+    let status = run(
+        alloc,
+        words.as_slice(),
+        &mut SureFiles::new(alloc)?,
+        &mut keeper,
+        &mut source,
+        &mut output,
+        &mut SureDoor::new(alloc)?,
+        &mut clock,
+    );
+    Ok(Left {
+        status,
+        output,
+        keeper,
+    })
+}
+
+/// The body of the row of three bolts at 25.
+const BOLTS: [u8; 63] = *b"\x01\x00\x04\
+    \x04name\x03\x00\x00\x00\x04bolt\
+    \x05price\x02\x00\x00\x00\x00\x00\x00\x00\x19\
+    \x03qty\x02\x00\x00\x00\x00\x00\x00\x00\x03\
+    \x08subtotal\x02\x00\x00\x00\x00\x00\x00\x00\x4b";
+
+#[test]
+fn replies_of_worked_requests(rt: HostRuntime) -> Result<(), Fail> {
+    let alloc = rt.alloc();
+    let rows: [(&'static [&'static str], &'static [&'static str]); 7] = [
+        (&[], &[]),
+        (&[" \t\r\n\n"], &[]),
+        (&[CREATE, "\n", READ, "\n"], &[CREATED, TOLD]),
+        (&[CREATE, "\r\n \n", READ], &[CREATED, TOLD]),
+        (&[LARGE, "\n", CREATE, "\n"], &[OVERFLOWS, CREATED]),
+        (&[CREATE, "\n", READ_MISSING], &[CREATED, MISSING]),
+        (&["[1\n", CREATE], &[MALFORMED, CREATED]),
+    ];
+    for (input, output) in rows {
+        for cut in [1, 7, 64] {
+            let left = run_over(alloc, &Setting { cut, ..PLAIN }, input.concat(alloc)?)?;
+            assert_eq!(rt; left.status, 0);
+            assert_eq!(rt; left.output.written(), output.concat(alloc)?.as_bytes());
+        }
+    }
+    Ok(())
+}
+
+#[test]
+fn statuses_and_last_lines(rt: HostRuntime) -> Result<(), Fail> {
+    let alloc = rt.alloc();
+    let both: &'static [&'static str] = &[CREATE, "\n", READ];
+    let thrice: &'static [&'static str] = &[CREATE, "\n", CREATE, "\n", CREATE];
+    let rows: [(
+        Setting,
+        &'static [&'static str],
+        u8,
+        &'static [&'static str],
+    ); 6] = [
+        (
+            Setting {
+                word: "serve",
+                ..PLAIN
+            },
+            both,
+            2,
+            &[USAGE],
+        ),
+        (
+            Setting {
+                reads: &[1],
+                ..PLAIN
+            },
+            both,
+            4,
+            &["read fault\n"],
+        ),
+        (
+            Setting {
+                reads: &[2],
+                cut: ROOM,
+                ..PLAIN
+            },
+            both,
+            4,
+            &[CREATED, "read fault\n"],
+        ),
+        (Setting { room: 10, ..PLAIN }, both, 5, &["{\"id\":1,\"j"]),
+        (
+            Setting {
+                keeps: &[1],
+                ..PLAIN
+            },
+            both,
+            6,
+            &["keeper fault\n"],
+        ),
+        (
+            Setting {
+                keeps: &[7],
+                ..PLAIN
+            },
+            thrice,
+            0,
+            &[
+                CREATED,
+                FAILED,
+                "{\"id\":1,\"jsonrpc\":\"2.0\",\"result\":2}\n",
+            ],
+        ),
+    ];
+    for (setting, input, status, output) in rows {
+        let left = run_over(alloc, &setting, input.concat(alloc)?)?;
+        assert_eq!(rt; left.status, status);
+        assert_eq!(rt; left.output.written(), output.concat(alloc)?.as_bytes());
+    }
+    Ok(())
+}
+
+#[test]
+fn keeps_the_worked_row(rt: HostRuntime) -> Result<(), Fail> {
+    let alloc = rt.alloc();
+    let mut left = run_over(alloc, &PLAIN, String::from_str(alloc, CREATE)?)?;
+    let row = left.keeper.fetch(LINE, RecId(1))?.ok_or("no row is kept")?;
+    assert_eq!(rt; row.body.as_slice(), BOLTS.as_slice());
+    assert!(rt; row.links.is_empty());
+    assert_eq!(rt; left.keeper.next_id(LINE), Ok(2));
+    Ok(())
+}
+
+#[test]
+fn a_line_of_eight_mebibytes_is_the_longest(rt: HostRuntime) -> Result<(), Fail> {
+    let alloc = rt.alloc();
+    let setting = Setting {
+        cut: 65_536,
+        ..PLAIN
+    };
+    let left = run_over(alloc, &setting, "x".repeat(alloc, 8_388_608)?)?;
+    assert_eq!(rt; left.status, 0);
+    assert_eq!(rt; left.output.written(), MALFORMED.as_bytes());
+    let left = run_over(alloc, &setting, "x".repeat(alloc, 8_388_609)?)?;
+    assert_eq!(rt; left.status, 9);
+    assert_eq!(rt; left.output.written(), b"line 1 too long\n".as_slice());
+    Ok(())
+}
