@@ -140,13 +140,15 @@ reads_whole_line stream lines {old} {new} {before} {after} h t short few less =
       none_too_long = λ k below. none_longer h (not_too_long old.consumed h.rest (rw (← t.line) short) (omega (arith, t.consumed))) k (omega (arith, more));
     }
 
-reads_last_line : (stream : List ℕ) (lines : List (List ℕ)) {old new : Reading} {before after : Option (List ℕ)} (h : HasRead stream old before lines) → TakesLine old new after h.rest → length h.rest ≤ feed_at h.rest → HasReadAll stream after (lines ++ new.line ∷ [])
-reads_last_line stream lines {old} {new} {before} {after} h t past =
+reads_last_line : (stream : List ℕ) (lines : List (List ℕ)) {old new : Reading} {before after : Option (List ℕ)} (h : HasRead stream old before lines) → TakesLine old new after h.rest → length new.line ≤ LONGEST_LINE → new.consumed ≤ LONGEST_INPUT → length h.rest ≤ feed_at h.rest → HasReadAll stream after (lines ++ new.line ∷ [])
+reads_last_line stream lines {old} {new} {before} {after} h t short few past =
+    let more : length (lines ++ new.line ∷ []) ≡ length lines + 1 = length-append lines (new.line ∷ []) in
     let all : feed_at h.rest ≡ length h.rest = omega (arith, feed_at-le-length h.rest) in
     let line : new.line ≡ h.rest = t.line ∙ take_all (feed_at h.rest) h.rest past in
     let back : line_back h.rest ≡ [] = drop_all (feed_at h.rest + 1) h.rest (omega arith) in record {
       lines_are = lines_of-stream h ∙ ap (λ more. lines ++ more) (lines_of-open h.rest t.some all ∙ ap (λ l. l ∷ []) (sym line));
       none_left = told_nil new.held after (t.coming ∙ ap Some back);
+      none_too_long = λ k below. none_longer h (not_too_long old.consumed h.rest (rw (← t.line) short) (omega (arith, t.consumed))) k (omega (arith, more));
     }
 
 -- A line was read: whole where more bytes were consumed than it has, else the last.
@@ -159,5 +161,5 @@ reads_on stream lines {old} {new} {before} {after} h r short few len now was len
       | inl less ↦ let whole : ltb len (now - was) ≡ true = lt-ltb _ _ (omega (arith, length-line_front h.rest)) in
           subst (λ w. HasReadTo w stream new after (lines ++ new.line ∷ [])) (sym whole) (reads_whole_line stream lines h t short few less)
       | inr past ↦ let last : ltb len (now - was) ≡ false = le-ltb _ _ (omega (arith, length-line_front h.rest)) in
-          subst (λ w. HasReadTo w stream new after (lines ++ new.line ∷ [])) (sym last) (reads_last_line stream lines h t past)
+          subst (λ w. HasReadTo w stream new after (lines ++ new.line ∷ [])) (sym last) (reads_last_line stream lines h t short few past)
     ]

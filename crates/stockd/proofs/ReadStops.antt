@@ -1,9 +1,8 @@
 -- How a session ends whose input gives no further line.
 use Rattle.std.proofs.Common.{◌≡◌, ◌≢◌, ◌+◌, ℕ, true, false, List, [], ◌∷◌, ◌++◌, length, get_or, refl, ap, sym, ◌∙◌, arith, Option, Some, None, subst, append_assoc}
-use Rattle.std.specs.Prelude.{All, take, not, option_map, IfSome}
+use Rattle.std.specs.Prelude.{All, take, option_map, IfSome}
 use Rattle.std.specs.List.{list_any}
 use Rattle.std.proofs.lemmas.List.{append-nil}
-use Rattle.std.proofs.lemmas.List.Elements.{filter-append}
 use Rattle.std.proofs.lemmas.List.Folds.{list_any_none}
 use Rattle.std.proofs.lemmas.Bool.Decides.{nat_tests}
 use Rattle.std.proofs.Math.Seq.{take-append_seam}
@@ -11,8 +10,8 @@ use Rattle.stockd.specs.declared.ending.Ending.{Ending}
 use Rattle.stockd.specs.declared.ending.Ending.TheVariants as ending
 use Rattle.stockd.specs.declared.lines.LineFault.{LineFault}
 use Rattle.stockd.specs.declared.lines.LineFault.TheVariants as fault
-use Rattle.stockd.specs.Lines.{is_line_feed, is_blank, lines_of, bodies_of, Reading, stream_of, GivesPart, IsAtEnd, StopsInLine, IsTooLong}
-use Rattle.stockd.specs.Out.{whole_part}
+use Rattle.stockd.specs.Lines.{is_line_feed, lines_of, Reading, stream_of, GivesPart, IsAtEnd, StopsInLine, IsTooLong}
+use Rattle.stockd.specs.Out.{whole_part, NoneTooLong, AreAmong}
 use Rattle.stockd.specs.SessionSteps.{bodies_in, whole_lines, HasRead, StopsReading}
 use Rattle.stockd.proofs.ReadOn.{rest_after, size_before, lines_of-stream, lines_of-read, joined}
 
@@ -64,9 +63,12 @@ told_after {stream} {reader} {before} {left} {lines} h part given =
     let now = told_part before left part was.0 was.1 given in
     (now.0, now.1, was.2 ∙ ap (λ s. reader.held ++ s) now.2)
 
-bodies_of-stream : {stream : List ℕ} {reader : Reading} {left : Option (List ℕ)} {lines : List (List ℕ)} (h : HasRead stream reader left lines) → bodies_of stream ≡ bodies_in lines ++ bodies_of h.rest
-bodies_of-stream {stream} {reader} {left} {lines} h =
-    ap bodies_in (lines_of-stream h) ∙ filter-append (λ (line : List ℕ). not (is_blank line)) lines (lines_of h.rest)
+-- the bodies of the lines that were read
+pub among_read : {stream : List ℕ} {reader : Reading} {left : Option (List ℕ)} {lines : List (List ℕ)} → HasRead stream reader left lines → AreAmong (length lines) stream (bodies_in lines)
+among_read {stream} {reader} {left} {lines} h = record {
+  bodies_are = sym (ap (λ ls. bodies_in (take (length lines) ls)) (lines_of-stream h) ∙ ap bodies_in (take-append_seam lines (lines_of h.rest)));
+  none_too_long = h.none_too_long;
+}
 
 -- the endings
 
@@ -74,10 +76,11 @@ pub stops_at_end : {stream : List ℕ} {old new : Reading} {before left : Option
 stops_at_end {stream} {old} {new} {before} {left} {lines} h e =
     let was = told_before old.held before h.rest h.coming in
     let none : was.0 ≡ [] = subst (λ b. IfSome b (λ rest. rest ≡ [])) was.1 e.none_left in
-    let rest : h.rest ≡ [] = was.2 ∙ ap (λ s. s ++ was.0) e.none_held ∙ none in record {
+    let rest : h.rest ≡ [] = was.2 ∙ ap (λ s. s ++ was.0) e.none_held ∙ none in
+    let all : lines_of stream ≡ lines = lines_of-stream h ∙ ap (λ s. lines ++ lines_of s) rest ∙ append-nil lines in record {
       left = [];
       left_is = e.left ∙ was.1 ∙ ap Some none;
-      takes_in = (sym (bodies_of-stream h ∙ ap (λ s. bodies_in lines ++ bodies_of s) rest ∙ append-nil (bodies_in lines)), refl);
+      takes_in = (sym (ap bodies_in all), refl, subst (λ (ls : List (List ℕ)). NoneTooLong (length ls) stream) (sym all) h.none_too_long);
     }
 
 parted : (front held part now : List ℕ) → front ++ (held ++ (part ++ now)) ≡ (front ++ (held ++ part)) ++ now
@@ -88,13 +91,15 @@ stops_failed {stream} {old} {new} {before} {left} {lines} h s =
     let now = told_after h s.part s.given in
     let read = whole_lines lines ++ (old.held ++ s.part) in
     let front : whole_part read ≡ whole_lines lines = whole_part-read lines (old.held ++ s.part) s.no_line_feed in
-    let lines_are : lines_of (whole_lines lines ++ []) ≡ lines ++ [] = lines_of-read lines [] h.no_feeds in record {
+    let lines_are : lines_of (whole_lines lines ++ []) ≡ lines ++ [] = lines_of-read lines [] h.no_feeds in
+    let all : lines_of (whole_part read) ≡ lines = ap lines_of front ∙ ap lines_of (sym (append-nil (whole_lines lines))) ∙ lines_are ∙ append-nil lines in record {
       left = now.0;
       left_is = now.1;
       takes_in = (
         read,
         h.stream_is ∙ ap (λ t. whole_lines lines ++ t) now.2 ∙ parted (whole_lines lines) old.held s.part now.0,
-        sym (ap bodies_of front ∙ ap bodies_of (sym (append-nil (whole_lines lines))) ∙ ap bodies_in (lines_are ∙ append-nil lines)),
+        sym (ap bodies_in all),
+        subst (λ (ls : List (List ℕ)). NoneTooLong (length ls) stream) (sym all) h.none_too_long,
       );
     }
 
@@ -107,8 +112,8 @@ stops_too_long {stream} {old} {before} {left} {lines} number part h counted long
       takes_in = (
         length lines,
         omega (arith, counted, h.count),
-        record { too_long = rw (size_before h, rest_after h) here; first = h.none_too_long },
-        sym (ap (λ ls. bodies_in (take (length lines) ls)) (lines_of-stream h) ∙ ap bodies_in (take-append_seam lines (lines_of h.rest))),
+        rw (size_before h, rest_after h) here,
+        among_read h,
       );
     }
 
@@ -117,7 +122,7 @@ stops_no_memory {stream} {old} {before} {left} {lines} part h given =
     let now = told_after h part given in record {
       left = now.0;
       left_is = now.1;
-      takes_in = (bodies_of h.rest, bodies_of-stream h);
+      takes_in = (length lines, among_read h);
     }
 
 -- by what the reader says

@@ -1,8 +1,8 @@
 -- A session goes on by one line, or ends.
-use Rattle.std.proofs.Common.{◌≡◌, ◌≢◌, ℕ, ℤ, Bool, true, false, List, [], ◌∷◌, ◌++◌, length, refl, ap, sym, ◌∙◌, arith, Option, Some, None, Result, Ok, Err, subst, length-append}
-use Rattle.std.specs.Prelude.{not, option_map, is_err, OnOk, OnErr}
+use Rattle.std.proofs.Common.{◌≡◌, ℕ, ℤ, Bool, true, false, List, [], ◌∷◌, ◌++◌, length, refl, ap, sym, ◌∙◌, arith, Option, Some, None, Result, Ok, Err, subst, length-append}
+use Rattle.std.specs.Prelude.{not, take, option_map, is_err, OnOk, OnErr}
 use Rattle.std.proofs.lemmas.Bool.{false≢true}
-use Rattle.std.proofs.lemmas.List.{append-nil}
+use Rattle.std.proofs.lemmas.List.{take_all}
 use Rattle.std.proofs.lemmas.List.Elements.{filter-append}
 use Rattle.ob_io.specs.Store.{Store}
 use Rattle.ob_orm.specs.Tables.{empty_tables}
@@ -10,10 +10,10 @@ use Rattle.ob_orm.specs.Kept.{Kept}
 use Rattle.ob_orm.specs.Line.{line_schema}
 use Rattle.stockd.specs.declared.ending.Ending.{Ending}
 use Rattle.stockd.specs.declared.ending.Ending.TheVariants as ending
-use Rattle.stockd.specs.Lines.{is_blank, lines_of, bodies_of, Reading}
-use Rattle.stockd.specs.Out.{reply_lines, TakesIn, Tells, IsFront, IsSessionEnding, ServesSession}
+use Rattle.stockd.specs.Lines.{is_blank, Reading}
+use Rattle.stockd.specs.Out.{reply_lines, NoneTooLong, AreAmong, TakesIn, Tells, IsSessionEnding, ServesSession}
 use Rattle.stockd.specs.SessionSteps.{bodies_in, HasRead, HasReadAll, HasReadTo, StopsReading, Standing, HasServed, IsServing, ServesOn, StopsAt}
-use Rattle.stockd.proofs.ReadOn.{lines_of-stream}
+use Rattle.stockd.proofs.ReadStops.{among_read}
 use Rattle.stockd.proofs.ServedOn.{served_none}
 
 -- an ending after which each reply stands whole
@@ -79,7 +79,7 @@ begins {moments} {stream} {before} {store} {reader} {left} now new l w k c same 
 -- there was no memory for a reader
 pub ends_at_once : {moments : ℕ → ℤ} {stream before : List ℕ} {store : Store} {left : Option (List ℕ)} (now : Standing) → left ≡ Some stream → now.written ≡ Some before → now.kept ≡ Some store → now.coming ≡ Some moments → Kept line_schema store empty_tables → ServesSession moments now.faults now.faults ending.NoMemory stream before now.kept left now.written
 ends_at_once {moments} {stream} {before} {store} now l w k c same =
-    ends_served (served_none moments before store now k c w same) stream stream ending.NoMemory l (bodies_of stream, refl) (λ replies. refl)
+    ends_served (served_none moments before store now k c w same) stream stream ending.NoMemory l (0, record { bodies_are = refl; none_too_long = λ k below. absurd (omega arith) }) (λ replies. refl)
 
 -- a line more
 
@@ -98,12 +98,15 @@ goes_on h line now read serves =
 -- the last line had no line feed
 pub ends_at_end : {moments : ℕ → ℤ} {faults_before : ℕ} {stream before : List ℕ} {reader : Reading} {left left_now : Option (List ℕ)} {old : Standing} (h : IsServing moments faults_before stream before reader left old) (line : List ℕ) (now : Standing) → HasReadAll stream left_now (h.lines ++ line ∷ []) → ServesOn (bodies_in (line ∷ [])) old now → ServesSession moments faults_before now.faults ending.Done stream before now.kept left_now now.written
 ends_at_end {stream = stream} h line now read serves =
-    ends_served (serves_more h line now serves) stream [] ending.Done read.none_left (sym (ap bodies_in read.lines_are), refl) (λ replies. refl)
+    ends_served (serves_more h line now serves) stream [] ending.Done read.none_left (sym (ap bodies_in read.lines_are), refl, subst (λ (ls : List (List ℕ)). NoneTooLong (length ls) stream) (sym read.lines_are) read.none_too_long) (λ replies. refl)
 
--- the lines that were read are a front of the stream's, and the source tells what it has left
-read_front : (whole : Bool) (stream : List ℕ) (reader : Reading) (left : Option (List ℕ)) (lines : List (List ℕ)) → HasReadTo whole stream reader left lines → IsFront lines (lines_of stream)
-read_front true stream reader left lines h = (lines_of h.rest, lines_of-stream h)
-read_front false stream reader left lines h = ([], h.lines_are ∙ sym (append-nil lines))
+-- the lines that were read are the stream's first ones, and the source tells what it has left
+read_among : (whole : Bool) (stream : List ℕ) (reader : Reading) (left : Option (List ℕ)) (lines : List (List ℕ)) → HasReadTo whole stream reader left lines → AreAmong (length lines) stream (bodies_in lines)
+read_among true stream reader left lines h = among_read h
+read_among false stream reader left lines h = record {
+  bodies_are = sym (ap (λ (ls : List (List ℕ)). bodies_in (take (length lines) ls)) h.lines_are ∙ ap bodies_in (take_all (length lines) lines (omega arith)));
+  none_too_long = h.none_too_long;
+}
 
 told_left : (held : List ℕ) (left : Option (List ℕ)) (rest : List ℕ) → option_map (λ more. held ++ more) left ≡ Some rest → (now : List ℕ) × (left ≡ Some now)
 told_left held None rest e = absurd (cc)
@@ -113,24 +116,24 @@ read_left : (whole : Bool) (stream : List ℕ) (reader : Reading) (left : Option
 read_left true stream reader left lines h = told_left reader.held left h.rest h.coming
 read_left false stream reader left lines h = ([], h.none_left)
 
-bodies_front : (stream : List ℕ) (lines : List (List ℕ)) (line : List ℕ) → is_blank line ≡ false → IsFront (lines ++ line ∷ []) (lines_of stream) → IsFront (bodies_in lines ++ line ∷ []) (bodies_of stream)
-bodies_front stream lines line body front =
+bodies_in-body : (lines : List (List ℕ)) (line : List ℕ) → is_blank line ≡ false → bodies_in (lines ++ line ∷ []) ≡ bodies_in lines ++ line ∷ []
+bodies_in-body lines line body =
     let last : bodies_in (line ∷ []) ≡ line ∷ [] = rw body refl in
-    (bodies_in front.0, ap bodies_in front.1 ∙ bodies_in-append (lines ++ line ∷ []) front.0 ∙ ap (λ bodies. bodies ++ bodies_in front.0) (bodies_in-append lines (line ∷ []) ∙ ap (λ more. bodies_in lines ++ more) last))
+    bodies_in-append lines (line ∷ []) ∙ ap (λ more. bodies_in lines ++ more) last
 
 -- the sink failed within the reply's line
 pub ends_writing : {moments : ℕ → ℤ} {faults_before : ℕ} {stream before : List ℕ} {reader : Reading} {left left_now : Option (List ℕ)} {old : Standing} (h : IsServing moments faults_before stream before reader left old) (whole : Bool) (new : Reading) (line : List ℕ) (now : Standing) → HasReadTo whole stream new left_now (h.lines ++ line ∷ []) → is_blank line ≡ false → StopsAt line old now → ServesSession moments faults_before now.faults ending.WriteFault stream before now.kept left_now now.written
 ends_writing {moments} {faults_before} {stream} {before} {left_now = left_now} h whole new line now read body stops =
     let stop = stops moments faults_before before (bodies_in h.lines) h.served in
     let left = read_left whole stream new left_now (h.lines ++ line ∷ []) read in
-    let front = read_front whole stream new left_now (h.lines ++ line ∷ []) read in record {
+    let among = read_among whole stream new left_now (h.lines ++ line ∷ []) read in record {
       store = stop.store;
       left = left.0;
       written = stop.written;
       kept_is = stop.kept_is;
       left_is = left.1;
       written_is = stop.written_is;
-      session = record { bodies = bodies_in h.lines ++ line ∷ []; replies = stop.replies; rest = stop.rest; tables = stop.tables; run = stop.run; kept = stop.kept; takes_in = bodies_front stream h.lines line body front; tells = stop.tells };
+      session = record { bodies = bodies_in h.lines ++ line ∷ []; replies = stop.replies; rest = stop.rest; tables = stop.tables; run = stop.run; kept = stop.kept; takes_in = (length (h.lines ++ line ∷ []), subst (λ (bodies : List (List ℕ)). AreAmong (length (h.lines ++ line ∷ [])) stream bodies) (bodies_in-body h.lines line body) among); tells = stop.tells };
     }
 
 -- what holds of an answer by whether it is an error

@@ -1,5 +1,5 @@
 -- How a run of `call` over a new store ends: its status, what it wrote, and what is kept.
-use Rattle.std.specs.Prelude.{◌≡◌, ℕ, zero, suc, ◌+◌, ◌<◌, ◌≤◌, ◌⊎◌, not, ℤ, List, [], ◌∷◌, ◌++◌, length, take, filter, codes, decimal, if◌then◌else◌, Option, Some, None, option_map, IsSome, ⊤}
+use Rattle.std.specs.Prelude.{◌≡◌, ℕ, zero, suc, ◌+◌, ◌<◌, ◌⊎◌, not, ℤ, List, [], ◌∷◌, ◌++◌, length, take, filter, codes, decimal, if◌then◌else◌, Option, Some, None, option_map, IsSome, ⊤}
 use Rattle.std.specs.List.{flat_map, list_any}
 use Rattle.ob_io.specs.Cause.{Rose}
 use Rattle.ob_io.specs.Store.{Store, row_at, next_of}
@@ -56,24 +56,28 @@ lines_size (suc n) stream = line_size stream + lines_size n (line_back stream)
 abbrev pub bodies_among : ℕ → List ℕ → List (List ℕ)
 bodies_among n stream = filter (λ line. not (is_blank line)) (take n (lines_of stream))
 
--- after so many lines comes the first that is too long
-pub record IsFirstTooLong (before : ℕ) (stream : List ℕ) : Type 0 where
-  pub too_long : IsTooLong (lines_size before stream) (after_lines before stream)
-  pub first : (k : ℕ) → k < before → IsTooLong (lines_size k stream) (after_lines k stream) → ⊥
+-- none of the first so many lines is too long
+abbrev pub NoneTooLong : ℕ → List ℕ → Type 0
+NoneTooLong count stream = (k : ℕ) → k < count → IsTooLong (lines_size k stream) (after_lines k stream) → ⊥
+
+-- the bodies are those among the first so many lines, none of which is too long
+pub record AreAmong (count : ℕ) (stream : List ℕ) (bodies : List (List ℕ)) : Type 0 where
+  pub bodies_are : bodies ≡ bodies_among count stream
+  pub none_too_long : NoneTooLong count stream
 
 -- the list is a front of the other
 abbrev pub IsFront : {X : Type 0} → List X → List X → Type 0
 IsFront {X} front whole = (rest : List X) × (whole ≡ front ++ rest)
 
 -- The bodies that were taken in from a stream, by how the session ended: all of them;
--- or those whose line feed was read, where the source failed; or those before the line
--- that is too long; or some front.
+-- or those whose line feed was read, where the source failed; or those before the first
+-- line that is too long; or those of some first lines.
 abbrev pub TakesIn : Ending → (stream left : List ℕ) → List (List ℕ) → Type 0
-TakesIn ending.Done stream left bodies = (bodies ≡ bodies_of stream) × (left ≡ [])
-TakesIn ending.ReadFault stream left bodies = (read : List ℕ) × (stream ≡ read ++ left) × (bodies ≡ bodies_of (whole_part read))
-TakesIn (ending.TooLong number) stream left bodies = (before : ℕ) × (number ≡ before + 1) × IsFirstTooLong before stream × (bodies ≡ bodies_among before stream)
-TakesIn ending.WriteFault stream left bodies = IsFront bodies (bodies_of stream)
-TakesIn ending.NoMemory stream left bodies = IsFront bodies (bodies_of stream)
+TakesIn ending.Done stream left bodies = (bodies ≡ bodies_of stream) × (left ≡ []) × NoneTooLong (length (lines_of stream)) stream
+TakesIn ending.ReadFault stream left bodies = (read : List ℕ) × (stream ≡ read ++ left) × (bodies ≡ bodies_of (whole_part read)) × NoneTooLong (length (lines_of (whole_part read))) stream
+TakesIn (ending.TooLong number) stream left bodies = (before : ℕ) × (number ≡ before + 1) × IsTooLong (lines_size before stream) (after_lines before stream) × AreAmong before stream bodies
+TakesIn ending.WriteFault stream left bodies = (count : ℕ) × AreAmong count stream bodies
+TakesIn ending.NoMemory stream left bodies = (count : ℕ) × AreAmong count stream bodies
 TakesIn ending.Usage stream left bodies = ⊥
 TakesIn ending.KeeperFault stream left bodies = ⊥
 TakesIn (ending.Store id) stream left bodies = ⊥

@@ -1,5 +1,5 @@
 -- How far a session has come: what of the stream was read, and what was answered.
-use Rattle.std.specs.Prelude.{◌≡◌, ℕ, ◌<◌, not, Bool, true, false, ℤ, List, [], ◌∷◌, ◌++◌, length, filter, All, ◌≢◌, Option, Some}
+use Rattle.std.specs.Prelude.{◌≡◌, ℕ, not, Bool, true, false, ℤ, List, [], ◌∷◌, ◌++◌, length, filter, All, ◌≢◌, Option, Some}
 use Rattle.ob_io.specs.Store.{Store}
 use Rattle.ob_orm.specs.Tables.{Tables, empty_tables}
 use Rattle.ob_orm.specs.Sound.{IsSound}
@@ -7,9 +7,9 @@ use Rattle.ob_orm.specs.Kept.{Kept}
 use Rattle.ob_orm.specs.Line.{line_schema}
 use Rattle.stockd.specs.declared.ending.Ending.{Ending}
 use Rattle.stockd.specs.declared.ending.Ending.TheVariants.{WriteFault}
-use Rattle.stockd.specs.Lines.{is_blank, lines_of, Reading, stream_of, IsTooLong}
+use Rattle.stockd.specs.Lines.{is_blank, lines_of, Reading, stream_of}
 use Rattle.stockd.specs.Machine.{Run}
-use Rattle.stockd.specs.Out.{reply_lines, after_lines, lines_size, TakesIn, Tells}
+use Rattle.stockd.specs.Out.{reply_lines, NoneTooLong, TakesIn, Tells}
 
 -- the lines that aren't blank
 abbrev pub bodies_in : List (List ℕ) → List (List ℕ)
@@ -27,12 +27,14 @@ pub record HasRead (stream : List ℕ) (reader : Reading) (left_now : Option (Li
   pub coming : stream_of reader left_now ≡ Some rest
   pub count : reader.lines ≡ length lines
   pub consumed : reader.consumed ≡ length (whole_lines lines)
-  pub none_too_long : (k : ℕ) → k < length lines → IsTooLong (lines_size k stream) (after_lines k stream) → ⊥
+  pub none_too_long : NoneTooLong (length lines) stream
 
--- These are all lines of the stream, the last of which needed no line feed.
+-- These are all lines of the stream, the last of which needed no line feed, and none was
+-- too long.
 pub record HasReadAll (stream : List ℕ) (left_now : Option (List ℕ)) (lines : List (List ℕ)) : Type 0 where
   pub lines_are : lines_of stream ≡ lines
   pub none_left : left_now ≡ Some []
+  pub none_too_long : NoneTooLong (length lines) stream
 
 -- these lines were read; the last one may have no line feed only at the end of the stream
 abbrev pub HasReadTo : Bool → List ℕ → Reading → Option (List ℕ) → List (List ℕ) → Type 0

@@ -1,5 +1,8 @@
 //! Runs over objects in memory. The expected texts were worked out by hand from the
-//! rules of docs/CALL.md.
+//! rules of docs/CALL.md. Here are the worked requests; `causes` has each status and
+//! refusal.
+
+mod causes;
 
 use crate::run::run;
 use ob_base::RecId;
@@ -21,6 +24,8 @@ const READ_MISSING: &str =
     "{\"method\":\"call\",\"params\":{\"service\":\"object\",\"method\":\"execute_kw\",\"args\":[\"stock\",2,\"admin\",\"demo.line\",\"read\",[[9,1,8],[\"qty\"]]]},\"id\":3}";
 
 const CREATED: &str = "{\"id\":1,\"jsonrpc\":\"2.0\",\"result\":1}\n";
+
+const CREATED_SECOND: &str = "{\"id\":1,\"jsonrpc\":\"2.0\",\"result\":2}\n";
 
 const TOLD: &str =
     "{\"id\":2,\"jsonrpc\":\"2.0\",\"result\":[{\"id\":1,\"name\":\"bolt\",\"subtotal\":75}]}\n";
@@ -49,6 +54,7 @@ struct Setting {
     cut: usize,
     room: usize,
     reads: &'static [u64],
+    writes: &'static [u64],
     keeps: &'static [u64],
 }
 
@@ -58,6 +64,7 @@ const PLAIN: Setting = Setting {
     cut: 64,
     room: ROOM,
     reads: &[],
+    writes: &[],
     keeps: &[],
 };
 
@@ -69,8 +76,29 @@ struct Left {
     keeper: MemKeeper,
 }
 
-/// Runs the program over objects in memory.
+/// Runs the program over objects in memory and an empty keeper.
 fn run_over(alloc: Global, setting: &Setting, input: String) -> Result<Left, Fail> {
+    let mut keeper = MemKeeper::new(
+        alloc,
+        Vec::new(alloc),
+        Vec::new(alloc),
+        setting.keeps.to_vec(alloc)?,
+    )?;
+    let (status, output) = run_kept(alloc, setting, &mut keeper, input)?;
+    Ok(Left {
+        status,
+        output,
+        keeper,
+    })
+}
+
+/// Runs the program over objects in memory and this keeper.
+fn run_kept(
+    alloc: Global,
+    setting: &Setting,
+    keeper: &mut MemKeeper,
+    input: String,
+) -> Result<(u8, MemSink), Fail> {
     let mut words = Vec::new(alloc);
     words.push(String::from_str(alloc, setting.word)?)?;
     let mut source = MemSource::new(
@@ -78,29 +106,19 @@ fn run_over(alloc: Global, setting: &Setting, input: String) -> Result<Left, Fai
         setting.cut,
         setting.reads.to_vec(alloc)?,
     )?;
-    let mut output = MemSink::new(alloc, setting.room, Vec::new(alloc))?;
-    let mut keeper = MemKeeper::new(
-        alloc,
-        Vec::new(alloc),
-        Vec::new(alloc),
-        setting.keeps.to_vec(alloc)?,
-    )?;
+    let mut output = MemSink::new(alloc, setting.room, setting.writes.to_vec(alloc)?)?;
     let mut clock = MemClock::new(1_700_000_000, 0)?;
     let status = run(
         alloc,
         words.as_slice(),
         &mut SureFiles::new(alloc)?,
-        &mut keeper,
+        keeper,
         &mut source,
         &mut output,
         &mut SureDoor::new(alloc)?,
         &mut clock,
     );
-    Ok(Left {
-        status,
-        output,
-        keeper,
-    })
+    Ok((status, output))
 }
 
 /// The body of the row of three bolts at 25.
@@ -133,73 +151,47 @@ fn replies_of_worked_requests(rt: HostRuntime) -> Result<(), Fail> {
 }
 
 #[test]
-fn statuses_and_last_lines(rt: HostRuntime) -> Result<(), Fail> {
+fn other_words_and_a_full_room(rt: HostRuntime) -> Result<(), Fail> {
     let alloc = rt.alloc();
-    let both: &'static [&'static str] = &[CREATE, "\n", READ];
-    let thrice: &'static [&'static str] = &[CREATE, "\n", CREATE, "\n", CREATE];
-    let rows: [(
-        Setting,
-        &'static [&'static str],
-        u8,
-        &'static [&'static str],
-    ); 6] = [
+    let rows: [(Setting, u8, &'static str); 2] = [
         (
             Setting {
                 word: "serve",
                 ..PLAIN
             },
-            both,
             2,
-            &[USAGE],
+            USAGE,
         ),
-        (
-            Setting {
-                reads: &[1],
-                ..PLAIN
-            },
-            both,
-            4,
-            &["read fault\n"],
-        ),
-        (
-            Setting {
-                reads: &[2],
-                cut: ROOM,
-                ..PLAIN
-            },
-            both,
-            4,
-            &[CREATED, "read fault\n"],
-        ),
-        (Setting { room: 10, ..PLAIN }, both, 5, &["{\"id\":1,\"j"]),
-        (
-            Setting {
-                keeps: &[1],
-                ..PLAIN
-            },
-            both,
-            6,
-            &["keeper fault\n"],
-        ),
-        (
-            Setting {
-                keeps: &[7],
-                ..PLAIN
-            },
-            thrice,
-            0,
-            &[
-                CREATED,
-                FAILED,
-                "{\"id\":1,\"jsonrpc\":\"2.0\",\"result\":2}\n",
-            ],
-        ),
+        (Setting { room: 10, ..PLAIN }, 5, "{\"id\":1,\"j"),
     ];
-    for (setting, input, status, output) in rows {
-        let left = run_over(alloc, &setting, input.concat(alloc)?)?;
+    for (setting, status, output) in rows {
+        let left = run_over(alloc, &setting, [CREATE, "\n", READ].concat(alloc)?)?;
         assert_eq!(rt; left.status, status);
-        assert_eq!(rt; left.output.written(), output.concat(alloc)?.as_bytes());
+        assert_eq!(rt; left.output.written(), output.as_bytes());
     }
+    Ok(())
+}
+
+#[test]
+fn a_failed_commit_spends_no_id(rt: HostRuntime) -> Result<(), Fail> {
+    let alloc = rt.alloc();
+    let thrice = [CREATE, "\n", CREATE, "\n", CREATE].concat(alloc)?;
+    let mut left = run_over(
+        alloc,
+        &Setting {
+            keeps: &[7],
+            ..PLAIN
+        },
+        thrice,
+    )?;
+    assert_eq!(rt; left.status, 0);
+    assert_eq!(rt;
+        left.output.written(),
+        [CREATED, FAILED, CREATED_SECOND].concat(alloc)?.as_bytes()
+    );
+    assert!(rt; left.keeper.fetch(LINE, RecId(1))?.is_some());
+    assert!(rt; left.keeper.fetch(LINE, RecId(2))?.is_some());
+    assert!(rt; left.keeper.fetch(LINE, RecId(3))?.is_none());
     Ok(())
 }
 
