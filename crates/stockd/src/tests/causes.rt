@@ -171,67 +171,52 @@ const HEAD: &str =
 const MADE: &str = "{\"id\":5,\"jsonrpc\":\"2.0\",\"result\":1}\n";
 
 #[test]
-fn bodies_of_another_form(rt: HostRuntime) -> Result<(), Fail> {
+fn bodies_that_are_no_envelope(rt: HostRuntime) -> Result<(), Fail> {
     let alloc = rt.alloc();
-    let rows: [(&'static [&'static str], &'static str); 20] = [
-        (&["{\"method\":"], MALFORMED),
-        (&["[]"], MALFORMED),
-        (&["\"call\""], MALFORMED),
-        (&["null"], MALFORMED),
-        (&[HEAD, "\"create\",[{\"qty\":1.5}]]},\"id\":5}"], MALFORMED),
-        (&[HEAD, "\"create\",[{\"qty\":1e3}]]},\"id\":5}"], MALFORMED),
-        (
-            &[
-                HEAD,
-                "\"create\",[{\"qty\":9223372036854775808}]]},\"id\":5}",
-            ],
-            MALFORMED,
-        ),
-        (
-            &[
-                HEAD,
-                "\"create\",[{\"qty\":18446744073709551616}]]},\"id\":5}",
-            ],
-            MALFORMED,
-        ),
-        (
-            &[HEAD, "\"create\",[{\"name\":\"\\ud800\"}]]},\"id\":5}"],
-            MALFORMED,
-        ),
-        (
-            &[HEAD, "\"create\",[{\"name\":false}]]},\"id\":5}"],
-            MALFORMED,
-        ),
-        (
-            &[HEAD, "\"create\",[{\"subtotal\":6}]]},\"id\":5}"],
-            MALFORMED,
-        ),
-        (&[HEAD, "\"create\",[{}]]},\"id\":1.0}"], MALFORMED),
-        (&[HEAD, "\"unlink\",[[1]]]},\"id\":5}"], MALFORMED),
-        (&[HEAD, "\"read\",[[0],[\"qty\"]]]},\"id\":5}"], MALFORMED),
-        (
-            &[HEAD, "\"read\",[[4294967296],[\"qty\"]]]},\"id\":5}"],
-            MALFORMED,
-        ),
-        (&[HEAD, "\"read\",[[1],[]]]},\"id\":5}"], MALFORMED),
-        (&[HEAD, "\"create\",[{}]]},\"id\":5}x"], MALFORMED),
-        (
-            &[
-                HEAD,
-                "\"create\",[{\"qty\":9223372036854775807}]]},\"id\":5}",
-            ],
-            MADE,
-        ),
-        (
-            &[HEAD, "\"create\",[{\"qty\":9,\"qty\":2}]]},\"id\":5}"],
-            MADE,
-        ),
-        (&[" \t", HEAD, "\"create\",[{}]]},\"id\":5}"], MADE),
+    for body in ["{\"method\":", "[]", "\"call\"", "null"] {
+        let left = run_over(alloc, &PLAIN, String::from_str(alloc, body)?)?;
+        assert_eq!(rt; left.output.written(), MALFORMED.as_bytes());
+    }
+    Ok(())
+}
+
+#[test]
+fn calls_of_another_form(rt: HostRuntime) -> Result<(), Fail> {
+    let alloc = rt.alloc();
+    let calls: [&'static str; 13] = [
+        "\"create\",[{\"qty\":1.5}]]},\"id\":5}",
+        "\"create\",[{\"qty\":1e3}]]},\"id\":5}",
+        "\"create\",[{\"qty\":9223372036854775808}]]},\"id\":5}",
+        "\"create\",[{\"qty\":18446744073709551616}]]},\"id\":5}",
+        "\"create\",[{\"name\":\"\\ud800\"}]]},\"id\":5}",
+        "\"create\",[{\"name\":false}]]},\"id\":5}",
+        "\"create\",[{\"subtotal\":6}]]},\"id\":5}",
+        "\"create\",[{}]]},\"id\":1.0}",
+        "\"create\",[{}]]},\"id\":5}x",
+        "\"unlink\",[[1]]]},\"id\":5}",
+        "\"read\",[[0],[\"qty\"]]]},\"id\":5}",
+        "\"read\",[[4294967296],[\"qty\"]]]},\"id\":5}",
+        "\"read\",[[1],[]]]},\"id\":5}",
     ];
-    for (input, output) in rows {
-        let left = run_over(alloc, &PLAIN, input.concat(alloc)?)?;
+    for call in calls {
+        let left = run_over(alloc, &PLAIN, [HEAD, call].concat(alloc)?)?;
         assert_eq!(rt; left.status, 0);
-        assert_eq!(rt; left.output.written(), output.as_bytes());
+        assert_eq!(rt; left.output.written(), MALFORMED.as_bytes());
+    }
+    Ok(())
+}
+
+#[test]
+fn calls_at_the_edge_of_their_form(rt: HostRuntime) -> Result<(), Fail> {
+    let alloc = rt.alloc();
+    let calls: [&'static str; 3] = [
+        "\"create\",[{\"qty\":9223372036854775807}]]},\"id\":5}",
+        "\"create\",[{\"qty\":9,\"qty\":2}]]},\"id\":5}",
+        "\"create\",[{}]]},\"id\":5} \t",
+    ];
+    for call in calls {
+        let left = run_over(alloc, &PLAIN, [" \t", HEAD, call].concat(alloc)?)?;
+        assert_eq!(rt; left.output.written(), MADE.as_bytes());
     }
     Ok(())
 }
