@@ -25,6 +25,12 @@ pub const MIN_MOMENT: i64 = -62_135_596_800;
 /// The last second of the year 9999, in seconds from 1970-01-01 00:00:00 UTC.
 pub const MAX_MOMENT: i64 = 253_402_300_799;
 
+// The moments are the seconds of the days, from the first of the first day on.
+const _: () = prove!(MIN_MOMENT == MIN_DAY as i64 * 86_400);
+
+// They end with the last second of the last day.
+const _: () = prove!(MAX_MOMENT == (MAX_DAY as i64 + 1) * 86_400 - 1);
+
 /// How deep a tree of rows may be; a root has depth 1.
 pub const MAX_TREE_DEPTH: usize = 64;
 

@@ -1,5 +1,5 @@
-//! Each public call once with memory to spare, and a table of the order of values.
-//! Expected values are worked out by hand, never taken from the output.
+//! Each public call once with memory to spare, tables of what is ordered, and the
+//! documented limits. Expected values are worked out by hand, never taken from the output.
 
 use super::*;
 use std::alloc::Global;
@@ -128,4 +128,82 @@ fn values_are_ordered_by_variant_then_content(rt: HostRuntime) -> Result<(), Fai
         }
     }
     Ok(())
+}
+
+#[test]
+fn cells_are_ordered_by_model_then_id_then_field(rt: HostRuntime) {
+    let rising = [(1, 1, 1), (1, 1, 2), (1, 2, 1), (2, 1, 1)].map(|(model, id, field)| Cell {
+        model: ModelNo(model),
+        id: RecId(id),
+        field: FieldNo(field),
+    });
+    for pair in rising.windows(2) {
+        if let [low, high] = pair {
+            assert!(rt; low < high, "{low:?} {high:?}");
+        }
+    }
+}
+
+#[test]
+fn kinds_are_named_in_this_order(rt: HostRuntime) {
+    let rising = [
+        BrokenKind::Required,
+        BrokenKind::MissingRef,
+        BrokenKind::Unique,
+        BrokenKind::Tree,
+        BrokenKind::Depth,
+        BrokenKind::Restrict,
+        BrokenKind::Check,
+        BrokenKind::Overflow,
+        BrokenKind::TooLong,
+        BrokenKind::ZeroDivisor,
+        BrokenKind::Locked,
+        BrokenKind::Fixed,
+        BrokenKind::Managed,
+        BrokenKind::Limit,
+        BrokenKind::Short,
+        BrokenKind::WrongState,
+        BrokenKind::BackorderChoice,
+        BrokenKind::RouteDepth,
+        BrokenKind::LotNeeded,
+        BrokenKind::Outside,
+    ];
+    for pair in rising.windows(2) {
+        if let [low, high] = pair {
+            assert!(rt; low < high, "{low} {high}");
+        }
+    }
+}
+
+#[test]
+fn limits_are_the_documented_ones(rt: HostRuntime) {
+    let counts = [
+        (limits::MAX_TARGETS, 65_536),
+        (limits::MAX_CHAR_BYTES, 8_192),
+        (limits::MAX_TEXT_BYTES, 65_536),
+        (limits::MAX_TREE_DEPTH, 64),
+        (limits::MAX_MODULES, 64),
+        (limits::MAX_MODELS, 512),
+        (limits::MAX_FIELDS, 256),
+        (limits::MAX_CHECKS, 256),
+        (limits::MAX_MODULE_BYTES, 1_048_576),
+        (limits::MAX_EXPRESSION_BYTES, 4_096),
+        (limits::MAX_EXPRESSION_DEPTH, 24),
+        (limits::MAX_PATH_STEPS, 6),
+        (limits::MAX_CHAIN_RULES, 8),
+        (limits::MAX_DOMAIN_TERMS, 4_096),
+        (limits::MAX_DOTTED_STEPS, 16),
+        (limits::MAX_BODY_BYTES, 8_388_608),
+        (limits::MAX_HEAD_BYTES, 16_384),
+        (limits::MAX_HEAD_FIELDS, 64),
+        (limits::MAX_JSON_DEPTH, 127),
+    ];
+    for (number, (limit, want)) in counts.into_iter().enumerate() {
+        assert_eq!(rt; limit, want, "count {number}");
+    }
+    assert_eq!(rt; limits::MAX_ID, 4_294_967_295);
+    assert_eq!(rt; limits::MAX_INPUT_BYTES, 1_099_511_627_776);
+    assert_eq!(rt; limits::MAX_STRATUM, 8);
+    assert_eq!(rt; limits::MAX_MOVE_QUANTITY, 1_000_000_000);
+    assert_eq!(rt; (limits::MIN_DAY, limits::MAX_DAY), (-719_162, 2_932_896));
 }

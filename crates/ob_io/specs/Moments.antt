@@ -1,10 +1,6 @@
 -- The moments that a clock gives.
-use Rattle.std.specs.Prelude.{ℕ, suc, ℤ, pos, negsuc, ◌≤ℤ◌}
-
--- a second of the years 0001 to 9999
-pub record IsMoment (moment : ℤ) : Type 0 where
-  pub low : negsuc 62135596799 ≤ℤ moment
-  pub high : moment ≤ℤ pos 253402300799
+use Rattle.std.specs.Prelude.{ℕ, suc, ℤ}
+pub use Rattle.ob_base.specs.Times.{IsMoment}
 
 -- the moments after the first
 abbrev pub later : (ℕ → ℤ) → ℕ → ℤ

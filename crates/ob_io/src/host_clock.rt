@@ -1,6 +1,8 @@
 //! The clock of the real thing: the host's, in whole seconds.
 
 ghost use Rattle.std.specs.Prelude.{◌≡◌, ◌≤◌, ◌⊎◌, pos, None, Ok, IfSome};
+ghost use Rattle.std.specs.Option.{SomeIff};
+ghost use Rattle.ob_io.specs.Host.{after_moment};
 ghost use Rattle.ob_io.specs.Moments.{IsMoment};
 ghost use Rattle.ob_io.specs.Plan.{one_more};
 
@@ -42,6 +44,19 @@ impl<R: rt::Clock> HostClock<R> {
             faults: 0,
         })
     }
+
+    /// Gives this moment, or where there is none counts that and gives the last one again.
+    fn give(&mut self, moment: Option<i64>) -> i64
+        requires { IfSome moment IsMoment }
+        ensures answer { result ≡ self.new.last }
+        ensures after { self.new ≡ after_moment moment self.old }
+    {
+        match moment {
+            Some(moment) => self.last = moment,
+            None => self.faults = self.faults.saturating_add(1),
+        }
+        self.last
+    }
 }
 
 /// The moment of the host, where it gives one of the years to 9999.
@@ -50,8 +65,15 @@ fn moment_of(rt: &impl rt::Clock) -> Option<i64>
 {
     let now = SystemTime::now(rt).ok()?;
     let since = now.duration_since(SystemTime::UNIX_EPOCH).ok()?;
-    let seconds = i64::try_from(since.as_secs()).ok()?;
-    (seconds <= MAX_MOMENT).then_some(seconds)
+    moment_at(since.as_secs())
+}
+
+/// The moment so many seconds after 1970-01-01 00:00:00 UTC, within the years to 9999.
+fn moment_at(seconds: u64) -> Option<i64>
+    ensures { SomeIff result (seconds ≤ 253402300799) (pos seconds) }
+{
+    let moment = i64::try_from(seconds).ok()?;
+    (moment <= MAX_MOMENT).then_some(moment)
 }
 
 impl<R: rt::Clock> Clock for HostClock<R> {
@@ -66,10 +88,7 @@ impl<R: rt::Clock> Clock for HostClock<R> {
             ⊎ ((result ≡ self.old.last) × (self.new.faults ≡ one_more self.old.faults)) }
         ensures count { self.old.faults ≤ self.new.faults }
     {
-        match moment_of(&self.rt) {
-            Some(moment) => self.last = moment,
-            None => self.faults = self.faults.saturating_add(1),
-        }
-        self.last
+        let moment = moment_of(&self.rt);
+        self.give(moment)
     }
 }

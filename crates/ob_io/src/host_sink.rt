@@ -1,6 +1,7 @@
 //! The sink of the real thing: standard output.
 
-ghost use Rattle.std.specs.Prelude.{◌≡◌, None, Ok, IfOk, IsErr, is_err};
+ghost use Rattle.std.specs.Prelude.{◌≡◌, ◌<◌, ◌≤◌, length, None, Ok, IfOk, IsErr, is_err};
+ghost use Rattle.std.specs.Io.KnownBytes.{WriteAppends};
 ghost use Rattle.ob_io.specs.Cause.{HasCause};
 ghost use Rattle.ob_io.specs.Bytes.{Writes};
 ghost use Rattle.ob_io.specs.Faults.{count_after};
@@ -47,12 +48,24 @@ impl<R: Print> Sink for StdSink<R> {
         ensures counted { self.new ≡ count_after (is_err result) self.old }
         ensures cause { HasCause self.old self.new (IsErr result) }
     {
-        match io::writer(&self.rt).write(piece) {
-            Ok(count) if count > 0 || piece.is_empty() => Ok(count),
-            _ => {
-                self.faults = self.faults.saturating_add(1);
-                Err(Failed)
-            }
+        write_counted(&mut io::writer(&self.rt), piece, &mut self.faults)
+    }
+}
+
+/// Writes to any writer, and counts the write where it fails or takes nothing of a piece
+/// that isn't empty.
+fn write_counted<W: Write>(writer: &mut W, piece: &[u8], faults: &mut u64) -> Result<usize, Failed>
+    // Says which bytes were written where the writer tells them.
+    ensures bytes { WriteAppends (W.contents writer.old) (W.contents writer.new) result piece.now }
+    ensures takes { IfOk result (λ n. (n ≤ length piece.now) × (0 < length piece.now → 0 < n)) }
+    ensures counted { faults.new ≡ count_after (is_err result) faults.old }
+    ensures cause { HasCause faults.old faults.new (IsErr result) }
+{
+    match writer.write(piece) {
+        Ok(count) if count > 0 || piece.is_empty() => Ok(count),
+        _ => {
+            *faults = faults.saturating_add(1);
+            Err(Failed)
         }
     }
 }

@@ -1,6 +1,6 @@
 //! A keeper in memory whose chosen calls fail.
 
-ghost use Rattle.std.specs.Prelude.{◌≡◌, ◌↔◌, All, IfOk, IfSome, OnOk, OnErr, IsErrOf};
+ghost use Rattle.std.specs.Prelude.{◌≡◌, ◌↔◌, All, IfOk, IfSome, IsNone, OnOk, OnErr, IsErr, IsErrOf};
 ghost use Rattle.ob_io.specs.Store.{IsChangeFit, all_changed, empty_store};
 ghost use Rattle.ob_io.specs.Kept.{starting_changes};
 
@@ -70,6 +70,7 @@ impl Keeper for MemKeeper {
         ensures told { IfOk result (λ next. next ≡ next_of self.old.store model) }
         ensures fits { IfOk result Fits63 }
         ensures same { self.new.store ≡ self.old.store }
+        ensures succeeds { IsErr result → FailsNext self.old.plan }
         ensures cause { HasCause self.old.plan.faults self.new.plan.faults (IsErrOf result KeepFault.Failed) }
         ensures failed { IsErrOf result KeepFault.Failed ↔ FailsNext self.old.plan }
         ensures counted { self.new.plan ≡ after_call (has_failed result) self.old.plan }
@@ -85,6 +86,8 @@ impl Keeper for MemKeeper {
         ensures told { IfOk result (λ row. row ≡ row_at self.old.store model id) }
         ensures fits { IfOk result (λ row. IfSome row (IsAnswerOf id)) }
         ensures same { self.new.store ≡ self.old.store }
+        ensures absent { IsNone (row_at self.old.store model id)
+            → IsErr result → FailsNext self.old.plan }
         ensures cause { HasCause self.old.plan.faults self.new.plan.faults (IsErrOf result KeepFault.Failed) }
         ensures failed { IsErrOf result KeepFault.Failed ↔ FailsNext self.old.plan }
         ensures counted { self.new.plan ≡ after_call (has_failed result) self.old.plan }

@@ -1,6 +1,6 @@
 //! A keeper in memory that never fails, but for want of memory.
 
-ghost use Rattle.std.specs.Prelude.{◌≡◌, All, IfOk, IfSome, OnOk, OnErr, IsErrOf};
+ghost use Rattle.std.specs.Prelude.{◌≡◌, All, IfOk, IfSome, IsNone, OnOk, OnErr, IsOk, IsErrOf};
 ghost use Rattle.ob_io.specs.Store.{IsChangeFit, all_changed, empty_store};
 ghost use Rattle.ob_io.specs.Kept.{starting_changes};
 
@@ -74,6 +74,7 @@ impl Keeper for SureKeeper {
         ensures told { IfOk result (λ next. next ≡ next_of self.old model) }
         ensures fits { IfOk result Fits63 }
         ensures same { self.new ≡ self.old }
+        ensures succeeds { IsOk result }
         ensures cause { HasCause 0 0 (IsErrOf result KeepFault.Failed) }
         ensures sure { ¬ IsErrOf result KeepFault.Failed }
     {
@@ -85,6 +86,8 @@ impl Keeper for SureKeeper {
         ensures told { IfOk result (λ row. row ≡ row_at self.old model id) }
         ensures fits { IfOk result (λ row. IfSome row (IsAnswerOf id)) }
         ensures same { self.new ≡ self.old }
+        // To tell that there is no such row takes no memory.
+        ensures absent { IsNone (row_at self.old model id) → IsOk result }
         ensures cause { HasCause 0 0 (IsErrOf result KeepFault.Failed) }
         ensures sure { ¬ IsErrOf result KeepFault.Failed }
     {

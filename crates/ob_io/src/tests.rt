@@ -1,9 +1,12 @@
 //! What no clause says: that each constructor and call succeeds where memory is ample,
 //! with values worked out by hand, and what the real forms do with a host.
 
+ghost use Rattle.std.specs.Prelude.{IsSome};
+
 use crate::{
-    Clock, Door, Failed, FileFault, Files, HostClock, MemClock, MemSink, MemSource, Sink, Source,
-    StdSink, StdSource, SureDoor, SureFiles, SureSink, SureSource,
+    Clock, Door, Failed, FileFault, Files, HostClock, Keeper, MemClock, MemKeeper, MemSink,
+    MemSource, Sink, Source, StdSink, StdSource, SureDoor, SureFiles, SureKeeper, SureSink,
+    SureSource,
 };
 use ob_base::limits::{MAX_MOMENT, MIN_MOMENT};
 use std::alloc::Allocator;
@@ -12,6 +15,58 @@ use std::io::{BufRead, Input, Lines};
 use std::test::Fail;
 use std::time::Duration;
 use std::{io, rt as host};
+
+/// Takes a source that tells its bytes.
+fn source_tells<S: Source>(source: &S)
+    requires { IsSome (S.left source.now) }
+{
+    let _ = source;
+}
+
+/// Takes a sink that tells what was written.
+fn sink_tells<S: Sink>(sink: &S)
+    requires { IsSome (S.written sink.now) }
+{
+    let _ = sink;
+}
+
+/// Takes a clock that tells the moments to come.
+fn clock_tells<C: Clock>(clock: &C)
+    requires { IsSome (C.coming clock.now) }
+{
+    let _ = clock;
+}
+
+/// Takes a keeper that tells what is kept.
+fn keeper_tells<K: Keeper>(keeper: &K)
+    requires { IsSome (K.kept keeper.now) }
+{
+    let _ = keeper;
+}
+
+/// Takes a door that tells all of its connections.
+fn door_tells<D: Door>(door: &D)
+    requires coming { IsSome (D.coming door.now) }
+    requires left { IsSome (D.left door.now) }
+    requires written { IsSome (D.written door.now) }
+{
+    let _ = door;
+}
+
+/// Its proof is the test: a form that told nothing would meet its trait, too.
+#[test]
+fn forms_in_memory_tell(rt: HostRuntime) -> Result<(), Fail> {
+    let alloc = rt.alloc();
+    source_tells(&SureSource::new(Vec::new(alloc), 1)?);
+    source_tells(&MemSource::new(Vec::new(alloc), 1, Vec::new(alloc))?);
+    sink_tells(&SureSink::new(alloc, 0)?);
+    sink_tells(&MemSink::new(alloc, 0, Vec::new(alloc))?);
+    clock_tells(&MemClock::new(0, 1)?);
+    keeper_tells(&SureKeeper::new(alloc, Vec::new(alloc), Vec::new(alloc))?);
+    keeper_tells(&MemKeeper::new(alloc, Vec::new(alloc), Vec::new(alloc), Vec::new(alloc))?);
+    door_tells(&SureDoor::new(alloc)?);
+    Ok(())
+}
 
 #[test]
 fn sure_source_cuts(rt: HostRuntime) -> Result<(), Fail> {

@@ -16,3 +16,4 @@ pub mod ReadAnswers
 pub mod ReadForms
 pub mod SoundRows
 pub mod OneBody
+pub mod OtherModels

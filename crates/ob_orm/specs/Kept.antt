@@ -1,6 +1,7 @@
 -- When the rows of a keeper are those of the machine's tables.
-use Rattle.std.specs.Prelude.{◌≡◌, ℕ, List, [], ◌∷◌, map, option_map}
+use Rattle.std.specs.Prelude.{◌≡◌, ◌≢◌, ℕ, Option, List, [], ◌∷◌, map, option_map}
 use Rattle.std.specs.List.{flat_map}
+use Rattle.ob_base.specs.declared.id.ModelNo.{ModelNo}
 use Rattle.ob_base.specs.declared.id.RecId.{RecId}
 use Rattle.ob_base.specs.declared.value.Value.{Value}
 use Rattle.ob_base.specs.declared.value.Value.TheVariants as value
@@ -40,3 +41,8 @@ kept_row model id row = record { id = id; body = body_form (kept_fields model.co
 pub record Kept (model : ModelSchema) (store : Store) (tables : Tables) : Type 0 where
   pub rows : (id : ℕ) → row_at store (record { 0 = model.number }) (record { 0 = id }) ≡ option_map (kept_row model (record { 0 = id })) (row_of tables model.number id)
   pub next : next_of store (record { 0 = model.number }) ≡ next_id tables model.number
+
+-- The rows and the next id of every other model stay as they were, where they are told.
+pub record OthersStay (model : ModelSchema) (before now : Option Store) : Type 0 where
+  pub rows : (other : ModelNo) (id : RecId) → other.0 ≢ model.number → option_map (λ store. row_at store other id) now ≡ option_map (λ store. row_at store other id) before
+  pub next : (other : ModelNo) → other.0 ≢ model.number → option_map (λ store. next_of store other) now ≡ option_map (λ store. next_of store other) before

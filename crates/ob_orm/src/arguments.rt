@@ -1,7 +1,7 @@
 //! The forms of arguments in JSON. A form is wanted whole: whatever breaks it, so far
 //! the whole request is what is refused.
 
-ghost use Rattle.std.specs.Prelude.{◌≡◌, ◌≤◌, ℕ, [], None, map, length, option_map, IfOk, IfSome};
+ghost use Rattle.std.specs.Prelude.{◌≡◌, ◌≢◌, ◌≤◌, ℕ, [], None, map, length, option_map, IfOk, IfSome};
 ghost use Rattle.std.specs.List.{list_all};
 ghost use Rattle.serde_json.specs.View.{view, members_view, items_view};
 ghost use Rattle.ob_base.specs.declared.limits.TheConstants.{MAX_CHAR_BYTES};
@@ -133,7 +133,9 @@ fn char_of(value: &Json) -> Option<&str>
 
 /// The integer of 64 bits at a key.
 fn integer_at(alloc: Global, members: &Map<String, Json>, key: &str) -> Result<i64, Refusal>
-    ensures { (field : ℕ) → Gives an_integer result (given (record { field = field; name = key.now; kind = an_int; formula = None }) (members_view members.now.entries)) }
+    ensures form { (field : ℕ) → Gives an_integer result (given (record { field = field; name = key.now; kind = an_int; formula = None }) (members_view members.now.entries)) }
+    // It takes no memory.
+    ensures memory { result ≢ Err Refusal.NoMemory }
 {
     match members.get(key) {
         None => Ok(0),

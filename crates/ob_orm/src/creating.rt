@@ -1,17 +1,17 @@
 //! `create`: one row under the model's next id.
 
-ghost use Rattle.std.specs.Prelude.{◌≡◌, ◌+◌, ◌≤◌, ℕ, [], ◌∷◌, Ok, Err, false, All, IfOk, IfErr, IfSome, OnOk, length};
+ghost use Rattle.std.specs.Prelude.{◌≡◌, ◌+◌, ◌≤◌, ℕ, [], ◌∷◌, Ok, Err, false, All, IfOk, IfErr, IfSome, OnOk, Option, option_map, length};
 ghost use Rattle.std.specs.Int.{w64};
 ghost use Rattle.serde_json.specs.View.{view};
 ghost use Rattle.serde_json.specs.Written.{has_float};
 ghost use Rattle.ob_base.specs.Tally.{ticked};
 ghost use Rattle.ob_base.specs.declared.value.Value.TheVariants.{Int as an_integer};
 ghost use Rattle.ob_io.specs.Cause.{Rose};
-ghost use Rattle.ob_io.specs.Store.{IsChangeFit};
+ghost use Rattle.ob_io.specs.Store.{Store, IsChangeFit, all_changed};
 ghost use Rattle.ob_orm.specs.Tables.{Tables, Row};
 ghost use Rattle.ob_orm.specs.Scratch.{val};
 ghost use Rattle.ob_orm.specs.Sound.{IsSound};
-ghost use Rattle.ob_orm.specs.Kept.{Kept};
+ghost use Rattle.ob_orm.specs.Kept.{Kept, OthersStay};
 ghost use Rattle.ob_orm.specs.KeptForm.{body_form};
 ghost use Rattle.ob_orm.specs.LineForm.{IsLine};
 ghost use Rattle.ob_orm.specs.Values.{row_of_values};
@@ -156,6 +156,10 @@ pub fn create<K: Keeper, L: Ledger>(
         (λ why. (next : ℕ) × CreateRefuses line_schema next (view call.entry.now.args.now) why)) }
     ensures fits { IfOk result (λ created. All IsChangeFit created.changes) }
     ensures plain { IfOk result (λ created. has_float (view created.json) ≡ false) }
+
+    // Its changes are of the one model.
+    ensures others { IfOk result (λ created. (before : Option Store)
+        → OthersStay line_schema before (option_map (all_changed created.changes) before)) }
 
     // It keeps nothing by itself, and evaluates the one computed column at most once.
     ensures same { K.kept keeper.new ≡ K.kept keeper.old }

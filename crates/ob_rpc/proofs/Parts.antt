@@ -17,7 +17,7 @@ keys_differ one other apart same = absurd (true≢false (sym ((bytes_eq-Decides 
 -- what fails, fails whatever comes after it
 pub Fails-then : {A B : Type 0} (e : EnvelopeFault) (part : Option A) (rest : A → Option B) → Fails e part → Fails e (option_and_then rest part)
 Fails-then Malformed part rest h = rw h refl
-Fails-then NoMemory part rest h = tt
+Fails-then NoMemory part rest h = absurd h
 
 -- ---- the members of the params
 

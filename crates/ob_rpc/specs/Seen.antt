@@ -10,12 +10,12 @@ use Rattle.ob_rpc.specs.declared.request.EnvelopeFault.TheVariants.{Malformed, N
 abbrev pub seen : Envelope → spec.Envelope
 seen e = record { id = view e.id; service = e.service; method = e.method; args = items_view e.args }
 
--- a fault of the body says that there is none of what was sought; a lack of memory says nothing
+-- a fault of the body says that there is none of what was sought; no part of a body takes memory
 abbrev pub Fails : {Y : Type 0} → EnvelopeFault → Option Y → Type 0
 Fails Malformed sought = sought ≡ None
-Fails NoMemory sought = Unit {0}
+Fails NoMemory sought = ⊥
 
--- what a function answers, seen by view, is what was sought, unless memory ran out
+-- what a function answers, seen by view, is what was sought
 abbrev pub Gives : {X Y : Type 0} → (X → Y) → Result X EnvelopeFault → Option Y → Type 0
 Gives view (Ok x) sought = sought ≡ Some (view x)
 Gives view (Err e) sought = Fails e sought

@@ -28,7 +28,8 @@ pub fn envelope(alloc: Global, body: &[u8]) -> Result<Envelope, EnvelopeFault>
 }
 
 fn value_of(alloc: Global, body: &[u8]) -> Result<Json, EnvelopeFault>
-    ensures { Gives view result (json_of body.now) }
+    ensures ok { IfOk result (λ value. json_of body.now ≡ Some (view value)) }
+    ensures malformed { IsErrOf result EnvelopeFault.Malformed → json_of body.now ≡ None }
 {
     match Json::from_slice(alloc, body) {
         Ok(value) => Ok(value),

@@ -11,3 +11,4 @@ pub mod LeastRow
 pub mod OneWord
 pub mod WholeCall
 pub mod WrittenParts
+pub mod Others

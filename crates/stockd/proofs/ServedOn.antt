@@ -79,6 +79,7 @@ stops_at old new body reply answered le coming part moments faults_before before
       run = run_on moments empty_tables faults_before bodies h.replies h.rest old.faults h.tables after.0 new.faults body reply now.tables h.run le after.1 now.step;
       kept = now.kept;
       kept_is = now.kept_is;
+      coming_is = after.2;
       written_is = part.2 ∙ ap (option_map (λ w. w ++ part.0)) h.written_is ∙ ap Some (append_assoc before (reply_lines h.replies) part.0);
       tells = record { whole = h.replies; last = reply; part = part.0; replies_are = refl; part_of = part.1; written_is = refl };
     }

@@ -40,7 +40,7 @@ pub no_write_fault : (why : Ending) → CutsNone why → why ≡ ending.WriteFau
 no_write_fault why h is = cut_at_fault (subst CutsNone is h)
 
 -- the session ends with all replies written
-ends_served : {moments : ℕ → ℤ} {faults_before : ℕ} {before : List ℕ} {bodies : List (List ℕ)} {now : Standing} (h : HasServed moments faults_before before bodies now) (stream left : List ℕ) {left_now : Option (List ℕ)} (why : Ending) → left_now ≡ Some left → TakesIn why stream left bodies → CutsNone why → ServesSession moments faults_before now.faults why stream before now.kept left_now now.written
+ends_served : {moments : ℕ → ℤ} {faults_before : ℕ} {before : List ℕ} {bodies : List (List ℕ)} {now : Standing} (h : HasServed moments faults_before before bodies now) (stream left : List ℕ) {left_now : Option (List ℕ)} (why : Ending) → left_now ≡ Some left → TakesIn why stream left bodies → CutsNone why → ServesSession moments faults_before now.faults why stream before now.kept now.coming left_now now.written
 ends_served {moments} {faults_before} {before} {bodies} {now} h stream left why left_is takes_in told = record {
   store = h.store;
   left = left;
@@ -49,10 +49,11 @@ ends_served {moments} {faults_before} {before} {bodies} {now} h stream left why 
   left_is = left_is;
   written_is = h.written_is;
   session = record { bodies = bodies; replies = h.replies; rest = h.rest; tables = h.tables; run = h.run; kept = h.kept; takes_in = takes_in; tells = told h.replies };
+  coming_is = h.coming_is;
 }
 
 -- the session ends where no further line is read
-pub ends_reading : {moments : ℕ → ℤ} {faults_before : ℕ} {stream before : List ℕ} {reader : Reading} {left : Option (List ℕ)} {now : Standing} (h : IsServing moments faults_before stream before reader left now) {left_now : Option (List ℕ)} (why : Ending) → StopsReading why stream left_now h.lines → CutsNone why → ServesSession moments faults_before now.faults why stream before now.kept left_now now.written
+pub ends_reading : {moments : ℕ → ℤ} {faults_before : ℕ} {stream before : List ℕ} {reader : Reading} {left : Option (List ℕ)} {now : Standing} (h : IsServing moments faults_before stream before reader left now) {left_now : Option (List ℕ)} (why : Ending) → StopsReading why stream left_now h.lines → CutsNone why → ServesSession moments faults_before now.faults why stream before now.kept now.coming left_now now.written
 ends_reading {stream = stream} h why stops told =
     ends_served h.served stream stops.left why stops.left_is stops.takes_in told
 
@@ -77,7 +78,7 @@ begins {moments} {stream} {before} {store} {reader} {left} now new l w k c same 
 }
 
 -- there was no memory for a reader
-pub ends_at_once : {moments : ℕ → ℤ} {stream before : List ℕ} {store : Store} {left : Option (List ℕ)} (now : Standing) → left ≡ Some stream → now.written ≡ Some before → now.kept ≡ Some store → now.coming ≡ Some moments → Kept line_schema store empty_tables → ServesSession moments now.faults now.faults ending.NoMemory stream before now.kept left now.written
+pub ends_at_once : {moments : ℕ → ℤ} {stream before : List ℕ} {store : Store} {left : Option (List ℕ)} (now : Standing) → left ≡ Some stream → now.written ≡ Some before → now.kept ≡ Some store → now.coming ≡ Some moments → Kept line_schema store empty_tables → ServesSession moments now.faults now.faults ending.NoMemory stream before now.kept now.coming left now.written
 ends_at_once {moments} {stream} {before} {store} now l w k c same =
     ends_served (served_none moments before store now k c w same) stream stream ending.NoMemory l (0, record { bodies_are = refl; none_too_long = λ k below. absurd (omega arith) }) (λ replies. refl)
 
@@ -96,7 +97,7 @@ goes_on h line now read serves =
     record { lines = h.lines ++ line ∷ []; read = read; served = serves_more h line now serves }
 
 -- the last line had no line feed
-pub ends_at_end : {moments : ℕ → ℤ} {faults_before : ℕ} {stream before : List ℕ} {reader : Reading} {left left_now : Option (List ℕ)} {old : Standing} (h : IsServing moments faults_before stream before reader left old) (line : List ℕ) (now : Standing) → HasReadAll stream left_now (h.lines ++ line ∷ []) → ServesOn (bodies_in (line ∷ [])) old now → ServesSession moments faults_before now.faults ending.Done stream before now.kept left_now now.written
+pub ends_at_end : {moments : ℕ → ℤ} {faults_before : ℕ} {stream before : List ℕ} {reader : Reading} {left left_now : Option (List ℕ)} {old : Standing} (h : IsServing moments faults_before stream before reader left old) (line : List ℕ) (now : Standing) → HasReadAll stream left_now (h.lines ++ line ∷ []) → ServesOn (bodies_in (line ∷ [])) old now → ServesSession moments faults_before now.faults ending.Done stream before now.kept now.coming left_now now.written
 ends_at_end {stream = stream} h line now read serves =
     ends_served (serves_more h line now serves) stream [] ending.Done read.none_left (sym (ap bodies_in read.lines_are), refl, subst (λ (ls : List (List ℕ)). NoneTooLong (length ls) stream) (sym read.lines_are) read.none_too_long) (λ replies. refl)
 
@@ -122,7 +123,7 @@ bodies_in-body lines line body =
     bodies_in-append lines (line ∷ []) ∙ ap (λ more. bodies_in lines ++ more) last
 
 -- the sink failed within the reply's line
-pub ends_writing : {moments : ℕ → ℤ} {faults_before : ℕ} {stream before : List ℕ} {reader : Reading} {left left_now : Option (List ℕ)} {old : Standing} (h : IsServing moments faults_before stream before reader left old) (whole : Bool) (new : Reading) (line : List ℕ) (now : Standing) → HasReadTo whole stream new left_now (h.lines ++ line ∷ []) → is_blank line ≡ false → StopsAt line old now → ServesSession moments faults_before now.faults ending.WriteFault stream before now.kept left_now now.written
+pub ends_writing : {moments : ℕ → ℤ} {faults_before : ℕ} {stream before : List ℕ} {reader : Reading} {left left_now : Option (List ℕ)} {old : Standing} (h : IsServing moments faults_before stream before reader left old) (whole : Bool) (new : Reading) (line : List ℕ) (now : Standing) → HasReadTo whole stream new left_now (h.lines ++ line ∷ []) → is_blank line ≡ false → StopsAt line old now → ServesSession moments faults_before now.faults ending.WriteFault stream before now.kept now.coming left_now now.written
 ends_writing {moments} {faults_before} {stream} {before} {left_now = left_now} h whole new line now read body stops =
     let stop = stops moments faults_before before (bodies_in h.lines) h.served in
     let left = read_left whole stream new left_now (h.lines ++ line ∷ []) read in
@@ -134,6 +135,7 @@ ends_writing {moments} {faults_before} {stream} {before} {left_now = left_now} h
       left_is = left.1;
       written_is = stop.written_is;
       session = record { bodies = bodies_in h.lines ++ line ∷ []; replies = stop.replies; rest = stop.rest; tables = stop.tables; run = stop.run; kept = stop.kept; takes_in = (length (h.lines ++ line ∷ []), subst (λ (bodies : List (List ℕ)). AreAmong (length (h.lines ++ line ∷ [])) stream bodies) (bodies_in-body h.lines line body) among); tells = stop.tells };
+      coming_is = stop.coming_is;
     }
 
 -- what holds of an answer by whether it is an error

@@ -37,8 +37,8 @@ run_from moments old a b h (body ∷ bodies) (reply ∷ replies) rest now new ru
     (run.0, run.1, run.2, run.3, omega (arith, run.4), step_from a b run.2 h old (moments 0) body reply run.1 run.5, run.6)
 
 -- the same of a session
-pub session_from : (moments : ℕ → ℤ) (a b now : ℕ) → a ≤ b → (why : Ending) (stream before : List ℕ) (kept_now : Option Store) (left_now written_now : Option (List ℕ)) → ServesSession moments b now why stream before kept_now left_now written_now → ServesSession moments a now why stream before kept_now left_now written_now
-session_from moments a b now h why stream before kept_now left_now written_now s =
+pub session_from : (moments : ℕ → ℤ) (a b now : ℕ) → a ≤ b → (why : Ending) (stream before : List ℕ) (kept_now : Option Store) (coming_now : Option (ℕ → ℤ)) (left_now written_now : Option (List ℕ)) → ServesSession moments b now why stream before kept_now coming_now left_now written_now → ServesSession moments a now why stream before kept_now coming_now left_now written_now
+session_from moments a b now h why stream before kept_now coming_now left_now written_now s =
     let t = s.session in
     record {
       store = s.store;
@@ -57,6 +57,7 @@ session_from moments a b now h why stream before kept_now left_now written_now s
         takes_in = t.takes_in;
         tells = t.tells;
       };
+      coming_is = s.coming_is;
     }
 
 -- a new store has the rows of tables without rows
@@ -68,19 +69,21 @@ last_from a b c h before now line (inl whole) = inl whole
 last_from a b c h before now line (inr (rose, part)) = inr (rose_from a b c h rose, part)
 
 -- what `call` did, and its last line then, is the whole run
-pub whole_call : (moments : ℕ → ℤ) (faults_before faults_now : ℕ) (a b c : ℕ) → a ≤ b → (why : Ending) (status : ℕ) → status ≡ status_of why → (stream before : List ℕ) (store : Store) (kept_now : Option Store) (left_now written_mid written_now : Option (List ℕ))
-    → WritesLast (Rose b c) written_mid written_now (last_line why) → EndsCall moments faults_before faults_now why stream before store kept_now left_now written_mid
-    → RunsCall moments faults_before faults_now (Rose a c) status stream before store kept_now left_now written_now
-whole_call moments faults_before faults_now a b c h why status is stream before store kept_now left_now written_mid written_now line (inl stopped) = record {
+pub whole_call : (moments : ℕ → ℤ) (faults_before faults_now : ℕ) (a b c : ℕ) → a ≤ b → (why : Ending) (status : ℕ) → status ≡ status_of why → (stream before : List ℕ) (store : Store) (kept_now : Option Store) (coming_now : Option (ℕ → ℤ)) (left_now written_mid written_now : Option (List ℕ))
+    → WritesLast (Rose b c) written_mid written_now (last_line why) → EndsCall moments faults_before faults_now why stream before store kept_now coming_now left_now written_mid
+    → RunsCall moments faults_before faults_now (Rose a c) status stream before store kept_now coming_now left_now written_now
+whole_call moments faults_before faults_now a b c h why status is stream before store kept_now coming_now left_now written_mid written_now line (inl stopped) = record {
   why = why;
   status_is = is;
   outcome = inl (record {
     stops = stopped.stops;
     kept_is = stopped.kept_is;
+    coming_is = stopped.coming_is;
+    left_is = stopped.left_is;
     written = last_from a b c h (Some before) written_now (last_line why) (subst (λ (w : Option (List ℕ)). WritesLast (Rose b c) w written_now (last_line why)) stopped.written_is line);
   });
 }
-whole_call moments faults_before faults_now a b c h why status is stream before store kept_now left_now written_mid written_now line (inr served) =
+whole_call moments faults_before faults_now a b c h why status is stream before store kept_now coming_now left_now written_mid written_now line (inr served) =
     let s = served.session in
     record {
       why = why;
@@ -88,7 +91,7 @@ whole_call moments faults_before faults_now a b c h why status is stream before 
       outcome = inr (record {
         new = served.new;
         told = before ++ s.written;
-        session = record { store = s.store; left = s.left; written = s.written; kept_is = s.kept_is; left_is = s.left_is; written_is = refl; session = s.session };
+        session = record { store = s.store; left = s.left; written = s.written; kept_is = s.kept_is; left_is = s.left_is; written_is = refl; session = s.session; coming_is = s.coming_is };
         written = last_from a b c h (Some (before ++ s.written)) written_now (last_line why) (subst (λ (w : Option (List ℕ)). WritesLast (Rose b c) w written_now (last_line why)) s.written_is line);
       });
     }

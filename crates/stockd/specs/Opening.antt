@@ -47,18 +47,20 @@ HasReason source_rose sink_rose keeper_rose ending.NoMemory = ⊤
 HasReason source_rose sink_rose keeper_rose (ending.Store id) = ⊤
 HasReason source_rose sink_rose keeper_rose (ending.TooLong number) = ⊤
 
--- an opening stopped: nothing was written, and what is kept stays
-pub record Stopped (store : Store) (keeper_rose : Type 0) (why : Ending) (before : List ℕ) (kept_now : Option Store) (written_now : Option (List ℕ)) : Type 0 where
+-- an opening stopped: nothing was read, written or taken from the clock, and what is kept stays
+pub record Stopped (moments : ℕ → ℤ) (store : Store) (keeper_rose : Type 0) (why : Ending) (stream before : List ℕ) (kept_now : Option Store) (coming_now : Option (ℕ → ℤ)) (left_now written_now : Option (List ℕ)) : Type 0 where
   pub stops : StopsOpening store keeper_rose why
   pub kept_is : kept_now ≡ Some store
+  pub coming_is : coming_now ≡ Some moments
+  pub left_is : left_now ≡ Some stream
   pub written_is : written_now ≡ Some before
 
 -- a store that is new was opened, and a session served
-pub record Served (moments : ℕ → ℤ) (faults_before faults_now : ℕ) (why : Ending) (stream before : List ℕ) (store : Store) (kept_now : Option Store) (left_now written_now : Option (List ℕ)) : Type 0 where
+pub record Served (moments : ℕ → ℤ) (faults_before faults_now : ℕ) (why : Ending) (stream before : List ℕ) (store : Store) (kept_now : Option Store) (coming_now : Option (ℕ → ℤ)) (left_now written_now : Option (List ℕ)) : Type 0 where
   pub new : IsNew store
-  pub session : ServesSession moments faults_before faults_now why stream before kept_now left_now written_now
+  pub session : ServesSession moments faults_before faults_now why stream before kept_now coming_now left_now written_now
 
 -- what `call` did up to its last line: its opening stopped, or it served a session
-abbrev pub EndsCall : (ℕ → ℤ) → ℕ → ℕ → Ending → List ℕ → List ℕ → Store → Option Store → Option (List ℕ) → Option (List ℕ) → Type 0
-EndsCall moments faults_before faults_now why stream before store kept_now left_now written_now =
-    Stopped store (Rose faults_before faults_now) why before kept_now written_now ⊎ Served moments faults_before faults_now why stream before store kept_now left_now written_now
+abbrev pub EndsCall : (ℕ → ℤ) → ℕ → ℕ → Ending → List ℕ → List ℕ → Store → Option Store → Option (ℕ → ℤ) → Option (List ℕ) → Option (List ℕ) → Type 0
+EndsCall moments faults_before faults_now why stream before store kept_now coming_now left_now written_now =
+    Stopped moments store (Rose faults_before faults_now) why stream before kept_now coming_now left_now written_now ⊎ Served moments faults_before faults_now why stream before store kept_now coming_now left_now written_now

@@ -138,9 +138,9 @@ IsSessionEnding ending.Usage = ⊥
 IsSessionEnding ending.KeeperFault = ⊥
 IsSessionEnding (ending.Store id) = ⊥
 
--- The outcome of a session over a store that tells what it keeps, a sink that tells what
--- was written, and a source that tells what it has left.
-pub record ServesSession (moments : ℕ → ℤ) (faults_before faults_now : ℕ) (why : Ending) (stream before : List ℕ) (kept_now : Option Store) (left_now written_now : Option (List ℕ)) : Type 0 where
+-- The outcome of a session over a store that tells what it keeps, a clock that tells its
+-- moments, a sink that tells what was written, and a source that tells what it has left.
+pub record ServesSession (moments : ℕ → ℤ) (faults_before faults_now : ℕ) (why : Ending) (stream before : List ℕ) (kept_now : Option Store) (coming_now : Option (ℕ → ℤ)) (left_now written_now : Option (List ℕ)) : Type 0 where
   pub store : Store
   pub left : List ℕ
   pub written : List ℕ
@@ -148,6 +148,7 @@ pub record ServesSession (moments : ℕ → ℤ) (faults_before faults_now : ℕ
   pub left_is : left_now ≡ Some left
   pub written_is : written_now ≡ Some (before ++ written)
   pub session : Session moments faults_before faults_now store why stream left written
+  pub coming_is : coming_now ≡ Some session.rest
 
 -- why a store isn't opened: it isn't new, and the least id of a row is named, or else its next id
 abbrev pub IsOldBy : Store → ℕ → Type 0
@@ -165,26 +166,29 @@ StopsOpening store rose ending.ReadFault = ⊥
 StopsOpening store rose ending.WriteFault = ⊥
 StopsOpening store rose (ending.TooLong number) = ⊥
 
--- A run of `call` that didn't open its store: it wrote the last line alone, and kept nothing.
-pub record NotOpened (store : Store) (keeper_rose sink_rose : Type 0) (why : Ending) (before : List ℕ) (kept_now : Option Store) (written_now : Option (List ℕ)) : Type 0 where
+-- A run of `call` that didn't open its store: it wrote the last line alone, kept nothing,
+-- and took nothing from the source or the clock.
+pub record NotOpened (moments : ℕ → ℤ) (store : Store) (keeper_rose sink_rose : Type 0) (why : Ending) (stream before : List ℕ) (kept_now : Option Store) (coming_now : Option (ℕ → ℤ)) (left_now written_now : Option (List ℕ)) : Type 0 where
   pub stops : StopsOpening store keeper_rose why
   pub kept_is : kept_now ≡ Some store
+  pub coming_is : coming_now ≡ Some moments
+  pub left_is : left_now ≡ Some stream
   pub written : WritesLast sink_rose (Some before) written_now (last_line why)
 
 -- A run of `call` that opened a new store: a session, and then the last line.
-pub record Opened (moments : ℕ → ℤ) (faults_before faults_now : ℕ) (sink_rose : Type 0) (why : Ending) (stream before : List ℕ) (store : Store) (kept_now : Option Store) (left_now written_now : Option (List ℕ)) : Type 0 where
+pub record Opened (moments : ℕ → ℤ) (faults_before faults_now : ℕ) (sink_rose : Type 0) (why : Ending) (stream before : List ℕ) (store : Store) (kept_now : Option Store) (coming_now : Option (ℕ → ℤ)) (left_now written_now : Option (List ℕ)) : Type 0 where
   pub new : IsNew store
   pub told : List ℕ
-  pub session : ServesSession moments faults_before faults_now why stream before kept_now left_now (Some told)
+  pub session : ServesSession moments faults_before faults_now why stream before kept_now coming_now left_now (Some told)
   pub written : WritesLast sink_rose (Some told) written_now (last_line why)
 
 -- A run of `call`, by its status: over a new store that could be opened a session, else
 -- only the last line, which says why.
-pub record RunsCall (moments : ℕ → ℤ) (faults_before faults_now : ℕ) (sink_rose : Type 0) (status : ℕ) (stream before : List ℕ) (store : Store) (kept_now : Option Store) (left_now written_now : Option (List ℕ)) : Type 0 where
+pub record RunsCall (moments : ℕ → ℤ) (faults_before faults_now : ℕ) (sink_rose : Type 0) (status : ℕ) (stream before : List ℕ) (store : Store) (kept_now : Option Store) (coming_now : Option (ℕ → ℤ)) (left_now written_now : Option (List ℕ)) : Type 0 where
   pub why : Ending
   pub status_is : status ≡ status_of why
-  pub outcome : NotOpened store (Rose faults_before faults_now) sink_rose why before kept_now written_now
-      ⊎ Opened moments faults_before faults_now sink_rose why stream before store kept_now left_now written_now
+  pub outcome : NotOpened moments store (Rose faults_before faults_now) sink_rose why stream before kept_now coming_now left_now written_now
+      ⊎ Opened moments faults_before faults_now sink_rose why stream before store kept_now coming_now left_now written_now
 
 -- When each status may come, whatever the objects tell: 2 exactly for other words than
 -- `call`; 4, 5 and 6 only where the count of the source, the sink and the keeper rose.

@@ -78,6 +78,7 @@ pub record StopsWriting (moments : ℕ → ℤ) (faults_before : ℕ) (before : 
   pub run : Run moments empty_tables faults_before bodies replies rest now.faults tables
   pub kept : Kept line_schema store tables
   pub kept_is : now.kept ≡ Some store
+  pub coming_is : now.coming ≡ Some rest
   pub written_is : now.written ≡ Some (before ++ written)
   pub tells : Tells WriteFault replies written
 

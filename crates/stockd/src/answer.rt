@@ -9,7 +9,7 @@ ghost use Rattle.ob_io.specs.Store.{Store, IsChangeFit, all_changed};
 ghost use Rattle.ob_rpc.specs.Reply.{error, reply_form, reply_of, OutcomeHasNoFloat};
 ghost use Rattle.ob_orm.specs.Tables.{Tables};
 ghost use Rattle.ob_orm.specs.Sound.{IsSound};
-ghost use Rattle.ob_orm.specs.Kept.{Kept};
+ghost use Rattle.ob_orm.specs.Kept.{Kept, OthersStay};
 ghost use Rattle.ob_orm.specs.Line.{line_schema};
 ghost use Rattle.ob_orm.specs.RefusalText.{refusal_name, refusal_message};
 ghost use Rattle.stockd.specs.Asked.{seen_request};
@@ -61,6 +61,8 @@ pub(crate) fn answer<K: Keeper, C: Clock, L: Ledger>(
     // A request takes one moment. Where memory is wanting to read the body, none is taken.
     ensures moments { (C.coming clock.new ≡ option_map (moments_after body.now) (C.coming clock.old))
         ⊎ ((text_of result ≡ no_memory_text) × (C.coming clock.new ≡ C.coming clock.old)) }
+    // Rows of other models stay.
+    ensures others { OthersStay line_schema (K.kept keeper.old) (K.kept keeper.new) }
     ensures count { K.faults keeper.old ≤ K.faults keeper.new }
 {
     match request_of(alloc, body) {
@@ -87,6 +89,7 @@ fn serve<K: Keeper, L: Ledger>(
     requires { has_float (view request.now.id) ≡ false }
     ensures served { ServesOver (K.kept keeper.old) (K.kept keeper.new) now (Rose (K.faults keeper.old) (K.faults keeper.new))
         (seen_request request.now) (text_of result) }
+    ensures others { OthersStay line_schema (K.kept keeper.old) (K.kept keeper.new) }
     ensures count { K.faults keeper.old ≤ K.faults keeper.new }
 {
     match &request.call {
@@ -135,6 +138,7 @@ fn serve_create<K: Keeper, L: Ledger>(
     requires { has_float (view id.now) ≡ false }
     ensures served { ServesOver (K.kept keeper.old) (K.kept keeper.new) call.entry.now.now (Rose (K.faults keeper.old) (K.faults keeper.new))
         (record { id = view id.now; call = create (view call.entry.now.args.now) }) (text_of result) }
+    ensures others { OthersStay line_schema (K.kept keeper.old) (K.kept keeper.new) }
     ensures count { K.faults keeper.old ≤ K.faults keeper.new }
 {
     match create(alloc, keeper, model, call, steps) {
@@ -154,6 +158,7 @@ fn serve_read<K: Keeper, L: Ledger>(
     requires { has_float (view id.now) ≡ false }
     ensures served { ServesOver (K.kept keeper.old) (K.kept keeper.new) call.entry.now.now (Rose (K.faults keeper.old) (K.faults keeper.new))
         (record { id = view id.now; call = read (view call.entry.now.args.now) }) (text_of result) }
+    ensures others { OthersStay line_schema (K.kept keeper.old) (K.kept keeper.new) }
     ensures count { K.faults keeper.old ≤ K.faults keeper.new }
 {
     match read(alloc, keeper, call, steps) {

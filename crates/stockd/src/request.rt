@@ -1,7 +1,7 @@
 //! What a body asks for: the envelope's elements, and the call that they make. The
 //! one caller and the one model that are served so far stand here.
 
-ghost use Rattle.std.specs.Prelude.{◌≡◌, ◌&&◌, false, map, option_map, IfOk, bytes_eq, codes};
+ghost use Rattle.std.specs.Prelude.{◌≡◌, ◌≢◌, ◌&&◌, false, map, option_map, IfOk, bytes_eq, codes};
 ghost use Rattle.serde_json.specs.View.{view, items_view};
 ghost use Rattle.serde_json.specs.Written.{has_float};
 ghost use Rattle.ob_rpc.specs.Seen.{seen};
@@ -52,6 +52,8 @@ pub(crate) fn request_of(alloc: Global, body: &[u8]) -> Result<Request, RequestF
 fn envelope_request(envelope: Envelope) -> Result<Request, RequestFault>
     ensures form { Gives seen_request result (envelope_request (seen envelope)) }
     ensures id { IfOk result (λ request. request.id ≡ envelope.id) }
+    // It takes no memory.
+    ensures memory { result ≢ Err RequestFault.NoMemory }
 {
     let Envelope {
         id,

@@ -3,6 +3,8 @@
 ghost use Rattle.std.specs.Prelude.{◌≡◌, ◌≤◌, ◌↔◌, ℕ, ℤ, List, Some, IsTrue, IsErrOf, IfSome, IfOk, IfErr, MatchResult};
 ghost use Rattle.ob_io.specs.Cause.{Rose, HasCause};
 ghost use Rattle.ob_io.specs.Store.{Store};
+ghost use Rattle.ob_orm.specs.Kept.{OthersStay};
+ghost use Rattle.ob_orm.specs.Line.{line_schema};
 ghost use Rattle.stockd.specs.Words.{IsCall};
 ghost use Rattle.stockd.specs.Out.{status_of, last_line, WritesLast, IsNew, StopsOpening, RunsCall, HasCauses};
 ghost use Rattle.stockd.specs.Opening.{IsLeastOf, fault_ending, MayStop, HasReason, EndsCall};
@@ -31,7 +33,13 @@ pub fn run<F: Files, K: Keeper, S: Source, W: Sink, D: Door, C: Clock>(
         (W.written output.old) (W.written output.new) (last_line Ending.Usage)
         × (K.kept keeper.new ≡ K.kept keeper.old) }
     ensures untouched { (IsCall words.now → ⊥) →
-        (S.left input.new ≡ S.left input.old) × (C.coming clock.new ≡ C.coming clock.old) }
+        (keeper.new ≡ keeper.old) × (input.new ≡ input.old) × (clock.new ≡ clock.old) }
+
+    // Rows of other models than the one stay, whatever the words.
+    ensures others { OthersStay line_schema (K.kept keeper.old) (K.kept keeper.new) }
+
+    // No run so far uses the files or the door.
+    ensures unused { (_files.new ≡ _files.old) × (_door.new ≡ _door.old) }
 
     // `call`: the machine's replies to the bodies of the input, and its tables as kept
     // rows. This is where the headline stands.
@@ -40,7 +48,7 @@ pub fn run<F: Files, K: Keeper, S: Source, W: Sink, D: Door, C: Clock>(
         → K.kept keeper.old ≡ Some store → C.coming clock.old ≡ Some moments
         → RunsCall moments (K.faults keeper.old) (K.faults keeper.new)
         (Rose (W.faults output.old) (W.faults output.new)) result stream before store
-        (K.kept keeper.new) (S.left input.new) (W.written output.new) }
+        (K.kept keeper.new) (C.coming clock.new) (S.left input.new) (W.written output.new) }
 
     // Each status has its cause, whatever the objects tell.
     ensures causes { HasCauses (IsCall words.now) (Rose (S.faults input.old) (S.faults input.new))
@@ -88,11 +96,12 @@ fn call<K: Keeper, S: Source, W: Sink, C: Clock>(
         → S.left input.old ≡ Some stream → W.written output.old ≡ Some before
         → K.kept keeper.old ≡ Some store → C.coming clock.old ≡ Some moments
         → EndsCall moments (K.faults keeper.old) (K.faults keeper.new) result stream before store
-        (K.kept keeper.new) (S.left input.new) (W.written output.new) }
+        (K.kept keeper.new) (C.coming clock.new) (S.left input.new) (W.written output.new) }
     ensures reason { HasReason (Rose (S.faults input.old) (S.faults input.new))
         (Rose (W.faults output.old) (W.faults output.new))
         (Rose (K.faults keeper.old) (K.faults keeper.new)) result }
     ensures output_count { W.faults output.old ≤ W.faults output.new }
+    ensures others { OthersStay line_schema (K.kept keeper.old) (K.kept keeper.new) }
 {
     let Ok(model) = LineModel::build(alloc) else {
         return Ending::NoMemory;

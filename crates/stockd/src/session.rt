@@ -9,7 +9,7 @@ ghost use Rattle.std.specs.Prelude.{◌≡◌, ◌≤◌, ◌<◌, ◌++◌, ◌
 ghost use Rattle.ob_io.specs.Cause.{HasCause, Rose};
 ghost use Rattle.ob_io.specs.Store.{Store};
 ghost use Rattle.ob_orm.specs.Tables.{empty_tables};
-ghost use Rattle.ob_orm.specs.Kept.{Kept};
+ghost use Rattle.ob_orm.specs.Kept.{Kept, OthersStay};
 ghost use Rattle.ob_orm.specs.Line.{line_schema};
 ghost use Rattle.stockd.specs.declared.lines.TheConstants.{LONGEST_INPUT};
 ghost use Rattle.stockd.specs.Lines.{is_blank};
@@ -37,13 +37,14 @@ pub(crate) fn serve_lines<K: Keeper, S: Source, W: Sink, C: Clock>(
     // Over a new store, and objects that tell what they hold, it is a run of the machine.
     ensures session { (stream before : List ℕ) (store : Store) (moments : ℕ → ℤ) → S.left input.old ≡ Some stream → W.written output.old ≡ Some before
         → K.kept keeper.old ≡ Some store → C.coming clock.old ≡ Some moments → Kept line_schema store empty_tables
-        → ServesSession moments (K.faults keeper.old) (K.faults keeper.new) result stream before (K.kept keeper.new) (S.left input.new) (W.written output.new) }
+        → ServesSession moments (K.faults keeper.old) (K.faults keeper.new) result stream before (K.kept keeper.new) (C.coming clock.new) (S.left input.new) (W.written output.new) }
     ensures kind { IsSessionEnding result }
     ensures read_fault { result ≡ Ending.ReadFault → Rose (S.faults input.old) (S.faults input.new) }
     ensures write_fault { result ≡ Ending.WriteFault → Rose (W.faults output.old) (W.faults output.new) }
     ensures input_count { S.faults input.old ≤ S.faults input.new }
     ensures output_count { W.faults output.old ≤ W.faults output.new }
     ensures keeper_count { K.faults keeper.old ≤ K.faults keeper.new }
+    ensures others { OthersStay line_schema (K.kept keeper.old) (K.kept keeper.new) }
 {
     let Ok(mut reader) = LineReader::new(alloc) else {
         return Ending::NoMemory;
@@ -72,7 +73,7 @@ fn serve_next<K: Keeper, S: Source, W: Sink, C: Clock>(
         → MatchOption result
         (IsServing moments faults_before stream before reader.new (S.left input.new)
         (record { faults = K.faults keeper.new; kept = K.kept keeper.new; coming = C.coming clock.new; written = W.written output.new }))
-        (λ why. ServesSession moments faults_before (K.faults keeper.new) why stream before (K.kept keeper.new) (S.left input.new) (W.written output.new)) }
+        (λ why. ServesSession moments faults_before (K.faults keeper.new) why stream before (K.kept keeper.new) (C.coming clock.new) (S.left input.new) (W.written output.new)) }
     ensures kind { IfSome result IsSessionEnding }
     ensures moved { IfNone result (reader.old.consumed < reader.new.consumed) }
     ensures in_input { reader.new.consumed ≤ LONGEST_INPUT }
@@ -81,6 +82,7 @@ fn serve_next<K: Keeper, S: Source, W: Sink, C: Clock>(
     ensures input_count { S.faults input.old ≤ S.faults input.new }
     ensures output_count { W.faults output.old ≤ W.faults output.new }
     ensures keeper_count { K.faults keeper.old ≤ K.faults keeper.new }
+    ensures others { OthersStay line_schema (K.kept keeper.old) (K.kept keeper.new) }
 {
     let whole = match next_line(reader, input) {
         Ok(whole) => whole,
@@ -134,6 +136,7 @@ fn serve_line<K: Keeper, W: Sink, C: Clock>(
     ensures body { OnErr result (is_blank line.now ≡ false) }
     ensures cause { HasCause (W.faults output.old) (W.faults output.new) (IsErr result) }
     ensures count { K.faults keeper.old ≤ K.faults keeper.new }
+    ensures others { OthersStay line_schema (K.kept keeper.old) (K.kept keeper.new) }
 {
     if is_blank(line) {
         return Ok(());
@@ -158,6 +161,7 @@ fn serve_body<K: Keeper, W: Sink, C: Clock>(
         (record { faults = K.faults keeper.new; kept = K.kept keeper.new; coming = C.coming clock.new; written = W.written output.new })) }
     ensures cause { HasCause (W.faults output.old) (W.faults output.new) (IsErr result) }
     ensures count { K.faults keeper.old ≤ K.faults keeper.new }
+    ensures others { OthersStay line_schema (K.kept keeper.old) (K.kept keeper.new) }
 {
     let mut steps = Steps::new(Silent);
     let reply = answer(alloc, keeper, clock, model, &mut steps, body);

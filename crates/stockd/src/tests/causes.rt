@@ -207,6 +207,29 @@ fn calls_of_another_form(rt: HostRuntime) -> Result<(), Fail> {
 }
 
 #[test]
+fn calls_of_another_form_leave_the_keeper_alone(rt: HostRuntime) -> Result<(), Fail> {
+    let alloc = rt.alloc();
+    let calls: [&'static str; 3] = [
+        "\"create\",[{\"qty\":1.5}]]},\"id\":5}",
+        "\"read\",[[0],[\"qty\"]]]},\"id\":5}",
+        "\"unlink\",[[1]]]},\"id\":5}",
+    ];
+    // The opening makes three calls of the keeper, so the create makes the fourth.
+    let setting = Setting {
+        keeps: &[4],
+        ..PLAIN
+    };
+    for call in calls {
+        let left = run_over(alloc, &setting, [HEAD, call, "\n", CREATE].concat(alloc)?)?;
+        assert_eq!(rt;
+            left.output.written(),
+            [MALFORMED, FAILED].concat(alloc)?.as_bytes()
+        );
+    }
+    Ok(())
+}
+
+#[test]
 fn calls_at_the_edge_of_their_form(rt: HostRuntime) -> Result<(), Fail> {
     let alloc = rt.alloc();
     let calls: [&'static str; 3] = [

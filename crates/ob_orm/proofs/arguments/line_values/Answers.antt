@@ -18,14 +18,14 @@ returns-in_err-name-clause-form c =
 pub returns-in_err-price-clause-form : goal.returns-in_err-price-clause-form
 returns-in_err-price-clause-form c =
     let p = err_from_is_err_and c.from_residual-in_err-price.result c.from_residual-in_err-price.ensures.1 in
-    rw (p.1, p.2) (Gives-refused Int row_of_values c.in_err-price.field-0.0 _ _ (price_missing (view c.args.args.now) _ c.in-Some.ensures) (c.in_err-price.ensures 3))
+    rw (p.1, p.2) (Gives-refused Int row_of_values c.in_err-price.field-0.0 _ _ (price_missing (view c.args.args.now) _ c.in-Some.ensures) (c.in_err-price.ensures.form 3))
 
 pub returns-in_err-qty-clause-form : goal.returns-in_err-qty-clause-form
 returns-in_err-qty-clause-form c =
     let p = err_from_is_err_and c.from_residual-in_err-qty.result c.from_residual-in_err-qty.ensures.1 in
-    rw (p.1, p.2) (Gives-refused Int row_of_values c.in_err-qty.field-0.0 _ _ (qty_missing (view c.args.args.now) _ c.in-Some.ensures) (c.in_err-qty.ensures 4))
+    rw (p.1, p.2) (Gives-refused Int row_of_values c.in_err-qty.field-0.0 _ _ (qty_missing (view c.args.args.now) _ c.in-Some.ensures) (c.in_err-qty.ensures.form 4))
 
 pub returns-clause-form : goal.returns-clause-form
 returns-clause-form c =
     let members = members_view c.in-Some.members.now.entries in
-    all_given (view c.args.args.now) members _ _ _ c.in-Some.ensures (sym c.has_plain_keys.ensures ∙ c.if-not-has_plain_keys.false) c.in_ok-name.ensures.form (passed _ _ (search rules) (c.in_ok-price.ensures 3)) (passed _ _ (search rules) (c.in_ok-qty.ensures 4))
+    all_given (view c.args.args.now) members _ _ _ c.in-Some.ensures (sym c.has_plain_keys.ensures ∙ c.if-not-has_plain_keys.false) c.in_ok-name.ensures.form (passed _ _ (search rules) (c.in_ok-price.ensures.form 3)) (passed _ _ (search rules) (c.in_ok-qty.ensures.form 4))

@@ -3,6 +3,7 @@ use Rattle.std.proofs.lemmas.Int.{to_z-of_z}
 use mir.Syntax.{w64}
 use mir.Val.{SFits}
 use Rattle.stockd.proofs.AnswerLaws.{body_serves, malformed_serves, no_memory_serves}
+use Rattle.stockd.proofs.Others.{others_same}
 use Rattle.stockd.proofs.answer.answer.Goals as goal
 
 pub returns-in-Ok-clause-served : goal.returns-in-Ok-clause-served
@@ -17,3 +18,9 @@ returns-in-Err-Malformed-clause-served g c = λ store tables moments kept_is com
 pub returns-in-Err-NoMemory-clause-served : goal.returns-in-Err-NoMemory-clause-served
 returns-in-Err-NoMemory-clause-served g c = λ store tables moments kept_is coming_is kept sound.
     body_serves tables (moments 0) _ _ _ _ _ _ _ refl refl (no_memory_serves store tables _ _ _ _ kept_is kept sound)
+
+pub returns-in-Err-Malformed-clause-others : goal.returns-in-Err-Malformed-clause-others
+returns-in-Err-Malformed-clause-others g c = others_same _ _ refl
+
+pub returns-in-Err-NoMemory-clause-others : goal.returns-in-Err-NoMemory-clause-others
+returns-in-Err-NoMemory-clause-others g c = others_same _ _ refl

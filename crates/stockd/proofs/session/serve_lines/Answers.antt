@@ -1,5 +1,6 @@
-use Rattle.std.proofs.Common.{arith}
+use Rattle.std.proofs.Common.{arith, refl}
 use Rattle.stockd.proofs.SessionOn.{begins, ends_at_once}
+use Rattle.stockd.proofs.Others.{others_same}
 use Rattle.stockd.proofs.session.serve_lines.Goals as goal
 
 pub returns-in_default-clause-session : goal.returns-in_default-clause-session
@@ -12,4 +13,8 @@ lines-init g c = record {
   input_count = omega arith;
   output_count = omega arith;
   keeper_count = omega arith;
+  others = others_same _ _ refl;
 }
+
+pub returns-in_default-clause-others : goal.returns-in_default-clause-others
+returns-in_default-clause-others g c = others_same _ _ refl

@@ -1,7 +1,7 @@
 use Rattle.std.proofs.Common.{◌≡◌, ℕ, ℤ, ◌+◌, ◌-◌, ◌≤◌, List, Some}
 use Rattle.ob_io.specs.Store.{Store}
 use Rattle.ob_orm.specs.Tables.{empty_tables}
-use Rattle.ob_orm.specs.Kept.{Kept}
+use Rattle.ob_orm.specs.Kept.{Kept, OthersStay}
 use Rattle.ob_orm.specs.Line.{line_schema}
 use Rattle.stockd.specs.declared.lines.TheConstants.{LONGEST_INPUT}
 use Rattle.stockd.specs.SessionSteps.{IsServing}
@@ -16,6 +16,7 @@ invariant-lines g l = record {
   input_count : g.S.Source.faults l.fn.input ≤ g.S.Source.faults l.input;
   output_count : g.W.Sink.faults l.fn.output ≤ g.W.Sink.faults l.output;
   keeper_count : g.K.Keeper.faults l.fn.keeper ≤ g.K.Keeper.faults l.keeper;
+  others : OthersStay line_schema (g.K.Keeper.kept l.fn.keeper) (g.K.Keeper.kept l.keeper);
 }
 
 abbrev pub decreases-lines : goal.decreases-lines

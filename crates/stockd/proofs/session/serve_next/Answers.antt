@@ -1,5 +1,6 @@
-use Rattle.std.proofs.Common.{sym}
+use Rattle.std.proofs.Common.{refl, sym}
 use Rattle.stockd.proofs.SessionOn.{ends_reading, session_ending, no_write_fault, goes_on, ends_at_end, ends_writing, ok_holds, err_holds}
+use Rattle.stockd.proofs.Others.{others_same}
 use Rattle.stockd.proofs.session.serve_next.Goals as goal
 
 pub returns-in-Err-clause-session : goal.returns-in-Err-clause-session
@@ -32,3 +33,6 @@ returns-else-whole-clause-session g c stream before moments faults_before h =
     let read = rw c.if-whole.false at (c.in-Ok.ensures.line stream h.lines h.read) in
     let serves = rw c.line.ensures at (ok_holds c.serve_line.result (sym c.if-is_err.ensures.value) c.serve_line.ensures.ok) in
     ends_at_end h c.next_line.new.reader.line _ read serves
+
+pub returns-in-Err-clause-others : goal.returns-in-Err-clause-others
+returns-in-Err-clause-others g c = others_same _ _ refl

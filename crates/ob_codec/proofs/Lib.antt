@@ -1,0 +1,10 @@
+pub mod KeptParts
+pub mod Keys
+pub mod OneBody
+pub mod Prefixes
+pub mod Reading
+pub mod ReadingSteps
+pub mod ReadsBack
+pub mod RisingIds
+pub mod RowLaws
+pub mod ValueLaws

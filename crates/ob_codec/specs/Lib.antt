@@ -1,0 +1,10 @@
+pub mod Commands
+pub mod Held
+pub mod Input
+pub mod JsonForm
+pub mod KeptForm
+pub mod KeptReading
+pub mod RowForm
+pub mod RowReading
+pub mod Steps
+pub mod ValueReading

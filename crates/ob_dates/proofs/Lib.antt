@@ -1,0 +1,5 @@
+mod Dates
+mod Forms
+mod Padding
+mod Places
+mod Readings

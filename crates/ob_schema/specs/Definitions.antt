@@ -1,0 +1,39 @@
+-- What definitions declare, by name. So far each entry is a model of its own.
+use Rattle.std.specs.Prelude.{◌||◌, ℕ, List, [], ◌∷◌, codes, find, Bool, false, is_some, Option, Some, None}
+use Rattle.std.specs.List.{list_any}
+use Rattle.std.specs.Option.{option_map_or}
+use Rattle.std.specs.Str.{bytes_eq}
+use Rattle.ob_schema.specs.declared.definition.FieldDef.{FieldDef}
+use Rattle.ob_schema.specs.declared.definition.ModelDef.{ModelDef}
+
+-- the fields that each model has beside the declared ones
+abbrev pub automatic_names : List (List ℕ)
+automatic_names = codes "create_date" ∷ codes "id" ∷ codes "write_date" ∷ []
+
+abbrev pub is_automatic : List ℕ → Bool
+is_automatic name = list_any (bytes_eq name) automatic_names
+
+-- whether an optional text is this one
+abbrev pub is_text : Option (List ℕ) → List ℕ → Bool
+is_text given text = option_map_or (λ own. bytes_eq own text) given false
+
+-- the first definition of a model of this name
+abbrev pub model_def : List ModelDef → List ℕ → Option ModelDef
+model_def defs name = find (λ def. is_text def.name name) defs
+
+-- the first declared field of this name
+abbrev pub field_def : ModelDef → List ℕ → Option FieldDef
+field_def def name = find (λ field. bytes_eq field.name name) def.fields
+
+-- whether the model has a field of this name, declared or automatic
+abbrev pub has_field : ModelDef → List ℕ → Bool
+has_field def name = is_automatic name || is_some (field_def def name)
+
+-- an expression or a path gives its value
+abbrev pub is_computed : FieldDef → Bool
+is_computed field = is_some field.compute || is_some field.related
+
+-- whether a key that is a flag is set
+abbrev pub is_set : Option Bool → Bool
+is_set None = false
+is_set (Some flag) = flag

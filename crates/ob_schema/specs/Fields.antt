@@ -1,0 +1,52 @@
+-- Fields of a model: which are kept, and what they may hold.
+use Rattle.std.specs.Prelude.{◌&&◌, List, Bool, true, false, not, is_none, filter}
+use Rattle.ob_base.specs.declared.value.Value.{Value}
+use Rattle.ob_schema.specs.declared.field_type.FieldType.TheVariants as type
+use Rattle.ob_schema.specs.declared.field_type.FieldType.{FieldType}
+use Rattle.ob_schema.specs.declared.info.FieldInfo.{FieldInfo}
+use Rattle.ob_schema.specs.declared.info.ModelInfo.{ModelInfo}
+use Rattle.ob_schema.specs.declared.info.Origin.{Origin}
+use Rattle.ob_schema.specs.declared.info.Origin.TheVariants as origin
+use Rattle.ob_schema.specs.Values.{IsValueOf}
+
+abbrev pub is_one2many : FieldType → Bool
+is_one2many type.Boolean = false
+is_one2many type.Integer = false
+is_one2many type.Char = false
+is_one2many type.Text = false
+is_one2many type.Date = false
+is_one2many type.Datetime = false
+is_one2many type.Selection = false
+is_one2many type.Many2one = false
+is_one2many type.One2many = true
+is_one2many type.Many2many = false
+
+-- its values stand in the row itself: no one2many, and no mirror of another field
+abbrev pub is_own : FieldInfo → Bool
+is_own field = not (is_one2many field.field_type) && is_none field.mirror
+
+abbrev pub is_kept_from : Origin → FieldInfo → Bool
+is_kept_from origin.Id field = false
+is_kept_from origin.Plain field = is_own field
+is_kept_from (origin.Computed formula) field = field.store
+
+abbrev pub is_plain_from : Origin → Bool
+is_plain_from origin.Id = false
+is_plain_from origin.Plain = true
+is_plain_from (origin.Computed formula) = false
+
+-- a row's kept form has the field
+abbrev pub is_kept : FieldInfo → Bool
+is_kept field = is_kept_from field.origin field
+
+-- calls give its value, and the row keeps it
+abbrev pub is_plain_kept : FieldInfo → Bool
+is_plain_kept field = is_plain_from field.origin && is_own field
+
+-- the fields that a row's kept form has, in byte order of their names
+abbrev pub kept_fields : ModelInfo → List FieldInfo
+kept_fields model = filter is_kept model.fields
+
+-- a value that the field may hold
+abbrev pub Holds : FieldInfo → Value → Type 0
+Holds field v = IsValueOf field.field_type field.selection v

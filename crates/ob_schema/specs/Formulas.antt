@@ -1,0 +1,80 @@
+-- The expressions of computed fields, over the fields of their own model.
+use Rattle.std.specs.Prelude.{◌&&◌, ◌||◌, ◌++◌, ◌≤◌, ℕ, suc, List, [], ◌∷◌, map, position, count_by, if◌then◌else◌, Bool, true, false, not, Option, Some, None, option_map, option_and_then}
+use Rattle.std.specs.Option.{option_map_or}
+use Rattle.std.specs.Cmp.Lexicographic.{slice_cmp}
+use Rattle.std.specs.Ordering.{nat_cmp, is_lt}
+use Rattle.std.specs.Str.{bytes_eq}
+use Rattle.std.specs.Prelude.{codes, unwrap_or, filter}
+use Rattle.ob_base.specs.declared.id.FieldNo.{FieldNo}
+use Rattle.ob_base.specs.declared.id.ModelNo.{ModelNo}
+use Rattle.ob_base.specs.declared.limits.TheConstants.{MAX_EXPRESSION_DEPTH}
+use Rattle.ob_expr.specs.declared.checker.Found.{Found}
+use Rattle.ob_expr.specs.declared.checker.Kind.{Kind}
+use Rattle.ob_expr.specs.declared.checker.Kind.TheVariants as kind
+use Rattle.ob_expr.specs.Checking.{TypedTree, field, times}
+use Rattle.ob_expr.specs.Grammar.{Tree, Spells, depth}
+use Rattle.ob_expr.specs.Lexemes.{lexemes}
+use Rattle.ob_schema.specs.declared.definition.FieldDef.{FieldDef}
+use Rattle.ob_schema.specs.declared.definition.ModelDef.{ModelDef}
+use Rattle.ob_schema.specs.declared.field_type.FieldType.{FieldType}
+use Rattle.ob_schema.specs.declared.field_type.FieldType.TheVariants as type
+use Rattle.ob_schema.specs.Definitions.{automatic_names, is_text, field_def, is_computed, is_set}
+
+-- the names of a model's fields, automatic ones among them
+abbrev pub names_of : ModelDef → List (List ℕ)
+names_of def = automatic_names ++ map (λ f. f.name) def.fields
+
+-- the number of a name: one more than there are names below it, by bytes
+unfoldable pub number_of : ModelDef → List ℕ → FieldNo
+number_of def name = record { 0 = suc (count_by (λ other. is_lt (slice_cmp nat_cmp other name)) (names_of def)) }
+
+-- the number of a model, from 1 in the order of the definitions
+abbrev pub model_number : List ModelDef → List ℕ → Option ModelNo
+model_number defs name = option_map (λ i. record { 0 = suc i }) (position (λ def. is_text def.name name) defs)
+
+-- the kind of a field's values, where its relation, if it has one, is a model
+abbrev pub kind_of_type : FieldType → Option ModelNo → Option Kind
+kind_of_type type.Boolean relation = Some kind.Bool
+kind_of_type type.Integer relation = Some kind.Int
+kind_of_type type.Char relation = Some kind.Word
+kind_of_type type.Text relation = Some kind.Word
+kind_of_type type.Date relation = Some kind.Day
+kind_of_type type.Datetime relation = Some kind.Moment
+kind_of_type type.Selection relation = Some kind.Word
+kind_of_type type.Many2one relation = option_map kind.Ref relation
+kind_of_type type.One2many relation = option_map kind.Refs relation
+kind_of_type type.Many2many relation = option_map kind.Refs relation
+
+-- the kind of a declared field
+abbrev pub kind_of_field : List ModelDef → FieldDef → Option Kind
+kind_of_field defs f = kind_of_type f.field_type (option_and_then (model_number defs) f.relation)
+
+-- whether expressions may read a field: it isn't secret, and a computed one is stored
+abbrev pub is_usable : FieldDef → Bool
+is_usable f = not (is_set f.secret) && (not (is_computed f) || is_set f.store)
+
+-- what a name of an expression stands for: a declared field, or the moment of a row's making or last change
+abbrev pub found_in : List ModelDef → ModelDef → List ℕ → Option Found
+found_in defs def name = if bytes_eq name (codes "create_date") || bytes_eq name (codes "write_date") then Some (record { via = None; field = number_of def name; kind = kind.Moment; usable = true }) else option_and_then (λ f. option_map (λ k. record { via = None; field = number_of def name; kind = k; usable = is_usable f }) (kind_of_field defs f)) (field_def def name)
+
+-- the tree that a text spells, no deeper than expressions may be
+pub record IsExpression (text : List ℕ) (tree : Tree) : Type 0 where
+  pub spells : Spells tree (lexemes text)
+  pub shallow : depth tree ≤ MAX_EXPRESSION_DEPTH
+
+-- the fields that a checked expression reads
+abbrev pub fields_read : TypedTree → List FieldNo
+fields_read (field number k) = number ∷ []
+fields_read (times left right) = fields_read left ++ fields_read right
+
+-- the numbers of the fields that a computed field says it depends on
+abbrev pub depends_on : ModelDef → FieldDef → List FieldNo
+depends_on def f = map (number_of def) (unwrap_or f.depends [])
+
+-- whether a name is that of a computed field
+abbrev pub names_computed : ModelDef → List ℕ → Bool
+names_computed def name = option_map_or is_computed (field_def def name) false
+
+-- the numbers of a model's computed fields
+abbrev pub computed_numbers : ModelDef → List FieldNo
+computed_numbers def = map (λ f. number_of def f.name) (filter is_computed def.fields)

@@ -1,0 +1,16 @@
+pub mod Types
+pub mod Values
+pub mod Fields
+pub mod Models
+pub mod NameIndex
+pub mod Names
+pub mod Orders
+pub mod Definitions
+pub mod Keys
+pub mod Formulas
+pub mod Faults
+pub mod Built
+pub mod OrderEntries
+pub mod Capped
+pub mod Findings
+pub mod Making

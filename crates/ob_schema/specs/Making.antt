@@ -1,0 +1,40 @@
+-- How the registry's parts are made of definitions, a function at a time.
+use Rattle.std.specs.Prelude.{◌≡◌, ◌+◌, ◌++◌, ◌≤◌, ℕ, List, [], length, map, All, Any, Contains, Bool, true, false, None}
+use Rattle.std.specs.List.{AllZip}
+use Rattle.ob_schema.specs.declared.definition.ModelDef.{ModelDef}
+use Rattle.ob_schema.specs.declared.field_type.FieldType.{FieldType}
+use Rattle.ob_schema.specs.declared.field_type.OnDelete.TheVariants as ondelete
+use Rattle.ob_schema.specs.declared.info.FieldInfo.{FieldInfo}
+use Rattle.ob_schema.specs.declared.info.OrderTerm.{OrderTerm}
+use Rattle.ob_schema.specs.declared.info.Origin.{Origin}
+use Rattle.ob_schema.specs.Built.{IsFieldOf, automatic_infos, terms_of}
+use Rattle.ob_schema.specs.Formulas.{number_of}
+use Rattle.ob_schema.specs.Models.{AreInOrder}
+use Rattle.ob_schema.specs.Orders.{Term}
+
+-- a field with no key but its type
+abbrev pub bare_info : List ℕ → FieldType → Origin → Bool → FieldInfo
+bare_info name field_type origin managed = record { name = name; field_type = field_type; origin = origin; string = name; required = false; default = None; store = true; recursive = false; relation = None; inverse = None; mirror = None; ondelete = ondelete.SetNull; selection = []; groups = []; managed = managed; fixed = false; secret = false }
+
+-- a term with the number of its field
+abbrev pub numbered_term : ModelDef → Term → OrderTerm
+numbered_term def t = record { field = number_of def t.name; descending = t.descending }
+
+-- the terms of a model's order
+abbrev pub order_of : ModelDef → List OrderTerm
+order_of def = map (numbered_term def) (terms_of def.order)
+
+-- the declared fields in their order, and the automatic ones
+pub record AreUnsorted (defs : List ModelDef) (def : ModelDef) (infos : List FieldInfo) : Type 0 where
+  pub declared : List FieldInfo
+  pub each : AllZip (IsFieldOf defs def) def.fields declared
+  pub is : infos ≡ declared ++ automatic_infos
+
+-- the fields of a model, by name
+pub record AreFields (defs : List ModelDef) (def : ModelDef) (infos : List FieldInfo) : Type 0 where
+  pub declared : All (λ f. Any (IsFieldOf defs def f) infos) def.fields
+  pub automatic : All (Contains infos) automatic_infos
+  pub count : length infos ≡ length def.fields + 3
+  pub few : length infos ≤ 256
+  pub short : All (λ info. length info.name ≤ 64) infos
+  pub ordered : AreInOrder (map (λ info. info.name) infos)

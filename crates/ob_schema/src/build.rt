@@ -1,0 +1,31 @@
+//! The registry from definitions, or the first thing that stands against them. A key that
+//! is served from a later version on is refused as past a limit until then.
+
+ghost use Rattle.std.specs.Prelude.{◌≢◌, IfOk, IfErr, OnOk};
+ghost use Rattle.ob_schema.specs.Built.{IsBuilt};
+ghost use Rattle.ob_schema.specs.Faults.{IsFaultless, IsFirst};
+
+use crate::building::registry;
+use crate::definition::ModelDef;
+use crate::fault::SchemaFault;
+use crate::faults::first_fault;
+use crate::schema::Schema;
+use std::alloc::Global;
+
+impl Schema {
+    /// The registry of these definitions, each a model, numbered from 1 in their order; a
+    /// model's fields, the automatic ones among them, are numbered from 1 in byte order of
+    /// their names. Where definitions are faulty the first fault is told: by entry, then
+    /// field by bytes, then variant as listed.
+    pub fn build(alloc: Global, defs: &[ModelDef]) -> Result<Schema, SchemaFault>
+        ensures built { IfOk result (λ schema. IsBuilt defs.now schema) }
+        ensures faultless { OnOk result (IsFaultless defs.now) }
+        ensures fault { IfErr result
+            (λ why. why ≢ SchemaFault.NoMemory → IsFirst defs.now why) }
+    {
+        if let Some(fault) = first_fault(alloc, defs)? {
+            return Err(fault);
+        }
+        Ok(registry(alloc, defs)?)
+    }
+}

@@ -1,0 +1,206 @@
+//! Look-ups in definitions by name, and the numbers that the registry gives their names.
+//! A number past two bytes is told as the greatest; no registry has one.
+
+ghost use Rattle.std.specs.Prelude.{◌≡◌, ◌≤◌, suc, IfOk, count_by, filter, map, option_copied, option_map, position};
+ghost use Rattle.std.specs.Cmp.Lexicographic.{slice_cmp};
+ghost use Rattle.std.specs.Ordering.{nat_cmp, is_lt};
+ghost use Rattle.ob_schema.specs.Capped.{capped, capped_field, capped_kind, capped_model};
+ghost use Rattle.ob_schema.specs.Definitions.{automatic_names, field_def, has_field, is_automatic, is_computed, is_text, model_def};
+ghost use Rattle.ob_schema.specs.Formulas.{is_usable, kind_of_field, kind_of_type, model_number, number_of};
+
+use crate::definition::{FieldDef, ModelDef};
+use crate::field_type::FieldType;
+use crate::keys::{is_computed, is_set};
+use ob_base::{FieldNo, ModelNo, NoMemory, Word};
+use ob_expr::{Found, Kind, Scope};
+use std::alloc::Global;
+
+/// The greatest number of two bytes.
+const MAX_NUMBER: usize = 65_535;
+
+/// Whether each model has a field of this name beside the declared ones.
+pub(crate) fn is_automatic(name: &str) -> bool
+    ensures { result ≡ is_automatic name.now }
+{
+    matches!(name, "create_date" | "id" | "write_date")
+}
+
+/// Whether a text is given, and is this one.
+pub(crate) fn is_text(given: &Option<Word>, text: &str) -> bool
+    ensures { result ≡ is_text given.now text.now }
+{
+    match given {
+        Some(own) => own.as_str() == text,
+        None => false,
+    }
+}
+
+/// The first definition of a model of this name.
+pub(crate) fn model_def<'a>(defs: &'a [ModelDef], name: &str) -> Option<&'a ModelDef>
+    ensures { option_copied result ≡ model_def defs.now name.now }
+{
+    defs.iter().find(|def| is_text(&def.name, name))
+}
+
+/// The first declared field of this name.
+pub(crate) fn field_def<'a>(def: &'a ModelDef, name: &str) -> Option<&'a FieldDef>
+    ensures { option_copied result ≡ field_def def.now name.now }
+{
+    def.fields
+        .as_slice()
+        .iter()
+        .find(|field| field.name.as_str() == name)
+}
+
+/// Whether the model has a field of this name, declared or automatic.
+pub(crate) fn has_field(def: &ModelDef, name: &str) -> bool
+    ensures { result ≡ has_field def.now name.now }
+{
+    is_automatic(name) || field_def(def, name).is_some()
+}
+
+/// The number of what stands at a place, in two bytes.
+fn number_at(place: usize) -> u16
+    ensures { result ≡ capped (suc place) }
+{
+    if place < MAX_NUMBER {
+        place as u16 + 1
+    } else {
+        u16::MAX
+    }
+}
+
+/// The number of the model of this name.
+pub(crate) fn model_number(defs: &[ModelDef], name: &str) -> Option<ModelNo>
+    ensures { result ≡ option_map capped_model (model_number defs.now name.now) }
+{
+    let place = model_place(defs, name)?;
+    Some(ModelNo(number_at(place)))
+}
+
+/// The place of the first model of this name.
+fn model_place(defs: &[ModelDef], name: &str) -> Option<usize>
+    ensures { result ≡ position (λ def. is_text def.name name.now) defs.now }
+{
+    defs.iter().position(|def| is_text(&def.name, name))
+}
+
+/// The number of a name among the fields of a model.
+pub(crate) fn number_of(def: &ModelDef, name: &str) -> FieldNo
+    ensures { result ≡ capped_field (number_of def.now name.now) }
+{
+    let declared = declared_below(def.fields.as_slice(), name).min(MAX_NUMBER);
+    FieldNo(number_at(automatic_below(name) + declared))
+}
+
+/// How many names of automatic fields are below a name.
+fn automatic_below(name: &str) -> usize
+    ensures count { result
+        ≡ count_by (λ other. is_lt (slice_cmp nat_cmp other name.now)) automatic_names }
+    ensures few { result ≤ 3 }
+{
+    usize::from(is_below("create_date", name))
+        + usize::from(is_below("id", name))
+        + usize::from(is_below("write_date", name))
+}
+
+/// How many names of declared fields are below a name.
+fn declared_below(fields: &[FieldDef], name: &str) -> usize
+    ensures { result ≡ count_by (λ other. is_lt (slice_cmp nat_cmp other name.now))
+        (map (λ field. field.name) fields.now) }
+{
+    fields
+        .iter()
+        .filter(|field| is_below(field.name.as_str(), name))
+        .count()
+}
+
+/// Whether a name is below another, by bytes.
+fn is_below(a: &str, b: &str) -> bool
+    ensures { result ≡ is_lt (slice_cmp nat_cmp a.now b.now) }
+{
+    a.cmp(b).is_lt()
+}
+
+/// The kind of a field's values, where its relation, if it has one, is a model.
+pub(crate) fn kind_of_type(field_type: FieldType, relation: Option<ModelNo>) -> Option<Kind>
+    ensures { result ≡ kind_of_type field_type relation }
+{
+    match field_type {
+        FieldType::Boolean => Some(Kind::Bool),
+        FieldType::Integer => Some(Kind::Int),
+        FieldType::Char | FieldType::Text | FieldType::Selection => Some(Kind::Word),
+        FieldType::Date => Some(Kind::Day),
+        FieldType::Datetime => Some(Kind::Moment),
+        FieldType::Many2one => relation.map(Kind::Ref),
+        FieldType::One2many | FieldType::Many2many => relation.map(Kind::Refs),
+    }
+}
+
+/// The kind of a declared field.
+pub(crate) fn kind_of_field(defs: &[ModelDef], field: &FieldDef) -> Option<Kind>
+    ensures { result ≡ option_map capped_kind (kind_of_field defs.now field.now) }
+{
+    let relation = match &field.relation {
+        Some(name) => model_number(defs, name.as_str()),
+        None => None,
+    };
+    kind_of_type(field.field_type, relation)
+}
+
+/// Whether expressions may read a field.
+fn is_usable(field: &FieldDef) -> bool
+    ensures { result ≡ is_usable field.now }
+{
+    !is_set(field.secret) && (!is_computed(field) || is_set(field.store))
+}
+
+/// The fields that the expressions of a model may name.
+#[derive(Drop)]
+pub(crate) struct DefScope<'a> {
+    pub(crate) defs: &'a [ModelDef],
+    pub(crate) def: &'a ModelDef,
+}
+
+impl Scope for DefScope<'_> {
+    ghost use Rattle.ob_schema.specs.Capped.{seen_in};
+
+    ghost finds = { λ scope _ name. seen_in scope.defs.now scope.def.now name };
+
+    fn field(&self, _model: ModelNo, name: &str) -> Option<Found> {
+        let number = number_of(self.def, name);
+        if matches!(name, "create_date" | "write_date") {
+            return Some(found(number, Kind::Moment, true));
+        }
+        let field = field_def(self.def, name)?;
+        let kind = kind_of_field(self.defs, field)?;
+        Some(found(number, kind, is_usable(field)))
+    }
+}
+
+/// A field of the model itself.
+fn found(field: FieldNo, kind: Kind, usable: bool) -> Found
+    ensures { result ≡ record { via = None; field = field; kind = kind; usable = usable } }
+{
+    Found {
+        via: None,
+        field,
+        kind,
+        usable,
+    }
+}
+
+/// The numbers of a model's computed fields.
+pub(crate) fn computed_numbers(alloc: Global, def: &ModelDef) -> Result<Vec<FieldNo>, NoMemory>
+    ensures { IfOk result (λ numbers. numbers.items
+        ≡ map (λ field. capped_field (number_of def.now field.name))
+        (filter is_computed def.now.fields)) }
+{
+    let mut numbers = Vec::new(alloc);
+    for field in def.fields.as_slice() {
+        if is_computed(field) {
+            numbers.push(number_of(def, field.name.as_str()))?;
+        }
+    }
+    Ok(numbers)
+}

@@ -1,0 +1,125 @@
+//! The registry of models, and its look-ups. Contracts see the list of its models; the
+//! index by name may be changed here at will.
+
+ghost use Rattle.std.specs.Prelude.{◌≡◌, ◌≤◌, All, IfOk, IfSome, option_map, Some, length, map};
+ghost use Rattle.ob_schema.specs.Models.{AreInOrder, HasField, HasModel, IsRegistry, field_at, field_named, model_at, model_named};
+ghost use Rattle.ob_schema.specs.NameIndex.{IsIndexOf};
+
+use crate::info::{FieldInfo, ModelInfo};
+use ob_base::{FieldNo, ModelNo, NoMemory, Sequence};
+use std::alloc::Global;
+use std::collections::BTreeMap;
+use std::marker::Model;
+
+/// Models by number, each with its fields by number.
+#[derive(Debug, Drop)]
+pub struct Schema {
+    models: Sequence<ModelInfo>,
+    /// The number of the first model of each name.
+    index: BTreeMap<String, ModelNo>,
+}
+
+impl Model for Schema {
+    ghost use Rattle.std.specs.Prelude.{List};
+    ghost use Rattle.ob_schema.specs.Models.{IsRegistry};
+    ghost use Rattle.ob_schema.specs.NameIndex.{IsIndexOf};
+    ghost use Rattle.ob_schema.specs.declared.info.ModelInfo.{ModelInfo};
+    ghost use Rattle.ob_expr.specs.contracts.checker.Typed as typed;
+    ghost use Rattle.std.specs.Coded.{codes};
+
+    ghost coded = { Prim.hlevel (codes, typed.the_row.coded) };
+
+    ghost Value = { List ModelInfo };
+
+    ghost view = { λ s. s.models };
+
+    ghost invariant = { λ s. IsRegistry s.models × IsIndexOf s.index s.models };
+}
+
+impl Schema {
+    /// The registry of these models, numbered from 1 in their order. Of two models with
+    /// one name the first has it.
+    pub(crate) fn from_models(
+        alloc: Global,
+        models: Sequence<ModelInfo>,
+    ) -> Result<Schema, NoMemory>
+        requires { IsRegistry models }
+        ensures { IfOk result (λ schema. schema ≡ models) }
+    {
+        let index = index_of(alloc, models.as_slice())?;
+        Ok(Schema { models, index })
+    }
+
+    /// The model of this name.
+    pub fn model(&self, name: &str) -> Option<ModelNo>
+        ensures { result ≡ model_named self.now name.now }
+    {
+        self.index.get(name).copied()
+    }
+
+    /// The field of this name of a model.
+    pub fn field(&self, model: ModelNo, name: &str) -> Option<FieldNo>
+        requires { HasModel self.now model }
+        ensures { IfSome (model_at self.now model)
+            (λ info. result ≡ field_named info.fields name.now) }
+    {
+        let info = &self.models.as_slice()[model.0 as usize - 1];
+        field_number(info.fields.as_slice(), name)
+    }
+
+    /// A model.
+    pub fn model_info(&self, model: ModelNo) -> &ModelInfo
+        requires { HasModel self.now model }
+        ensures { model_at self.now model ≡ Some result.now }
+    {
+        &self.models.as_slice()[model.0 as usize - 1]
+    }
+
+    /// The fields of a model.
+    pub fn fields(&self, model: ModelNo) -> &[FieldInfo]
+        requires { HasModel self.now model }
+        ensures same { option_map (λ info. info.fields) (model_at self.now model)
+            ≡ Some result.now }
+        ensures few { length result.now ≤ 256 }
+        ensures short { All (λ field. length field.name ≤ 64) result.now }
+    {
+        self.models.as_slice()[model.0 as usize - 1]
+            .fields
+            .as_slice()
+    }
+
+    /// A field of a model.
+    pub fn info(&self, model: ModelNo, field: FieldNo) -> &FieldInfo
+        requires { HasField self.now model field }
+        ensures { field_at self.now model field ≡ Some result.now }
+    {
+        &self.model_info(model).fields.as_slice()[field.0 as usize - 1]
+    }
+}
+
+/// The number of the first model of each name.
+fn index_of(alloc: Global, models: &[ModelInfo]) -> Result<BTreeMap<String, ModelNo>, NoMemory>
+    requires { length models.now ≤ 512 }
+    ensures { IfOk result (λ index. IsIndexOf index models.now) }
+{
+    let mut index = BTreeMap::new(alloc);
+    for (i, model) in models.iter().enumerate() {
+        let name = model.name.as_str();
+        if !index.contains_key(name) {
+            index.insert(String::from_str(alloc, name)?, ModelNo(i as u16 + 1))?;
+        }
+    }
+    Ok(index)
+}
+
+/// The number of the field of a name, among fields in byte order of their names.
+fn field_number(fields: &[FieldInfo], name: &str) -> Option<FieldNo>
+    requires few { length fields.now ≤ 256 }
+    requires ordered { AreInOrder (map (λ field. field.name) fields.now) }
+    ensures { result ≡ field_named fields.now name.now }
+{
+    let at = fields
+        .binary_search_by(|field| field.name.as_str().cmp(name))
+        .ok()?;
+    Some(FieldNo(at as u16 + 1))
+}
