@@ -1,5 +1,7 @@
 //! The words that every other crate speaks: ids, values and their order, steps,
-//! refusals, and the limits. It stands on nothing but the standard library.
+//! refusals, and the limits. It stands on nothing but the standard library. Its
+//! contract: `value_cmp` is the one total order of values, by which `value_eq` is
+//! equality, and `tick` adds one to a count that only contracts see.
 //!
 //! Rooms: `id` (numbers and cells), `sequence`, `word` and `ref_list` (values that
 //! contracts see as lists), `value` (the values and their one order), `steps`

@@ -1,82 +1,186 @@
 -- What a create answers over kept rows, from what its steps say.
-use Rattle.std.proofs.Common.{◌≡◌, ℕ, ℤ, ◌≤◌, List, Option, Some, None, Result, Ok, Err, inr, refl, sym, ap, subst, ◌∙◌, arith}
-use Rattle.std.specs.Prelude.{IfOk, IfSome, MatchResult}
-use Rattle.std.specs.Int.{w64, cast_signed, cast_unsigned}
-use Rattle.std.specs.Int.RustNames.{FitsSigned}
-use Rattle.std.proofs.lemmas.Int.{to_z-of_z}
-use Rattle.serde_json.specs.Data.{Data, number, unsigned}
+use Rattle.std.proofs.Common.{◌≡◌, ℕ, ℤ, ◌<◌, ◌≤◌, List, Option, Some, None, Result, Ok, Err, option_map, inl, inr, refl, sym, ap, subst, ◌∙◌, arith, map, w64}
+use Rattle.std.specs.Int.{cast_signed, cast_unsigned}
+use Rattle.std.specs.Prelude.{FitsSigned, IfOk, IfSome, IsSome, MatchResult}
+use Rattle.std.proofs.lemmas.Bool.{false≢true}
+use Rattle.std.proofs.lemmas.Int.{ints, to_z-of_z}
+use Rattle.serde_json.specs.Data.{number, unsigned}
 use Rattle.serde_json.specs.View.{view}
+use Rattle.ob_base.specs.Times.{IsMoment}
+use Rattle.ob_base.specs.declared.id.ModelNo.{ModelNo}
+use Rattle.ob_base.specs.declared.place.PathStep.{PathStep}
+use Rattle.ob_base.specs.declared.refusal.BrokenKind.TheVariants as broken
 use Rattle.ob_base.specs.declared.refusal.Refusal.{Refusal}
 use Rattle.ob_base.specs.declared.refusal.Refusal.TheVariants as refusal
-use Rattle.ob_base.specs.declared.value.Value.TheVariants.{Int}
+use Rattle.ob_base.specs.declared.value.Value.{Value}
+use Rattle.ob_io.specs.Store.{Store, all_changed, next_of}
 use Rattle.ob_io.specs.declared.store.Change.{Change}
-use Rattle.ob_io.specs.Store.{Store, next_of, all_changed}
-use Rattle.ob_orm.specs.declared.arguments.LineValues.{LineValues}
-use Rattle.ob_orm.specs.declared.creating.Created.{Created}
-use Rattle.ob_orm.specs.declared.kept.Line.{Line}
-use Rattle.ob_orm.specs.LineForm.{IsLine}
-use Rattle.ob_orm.specs.Tables.{Row, Tables, next_id, made}
-use Rattle.ob_orm.specs.Scratch.{val}
-use Rattle.ob_orm.specs.Kept.{Kept}
+use Rattle.ob_schema.specs.Fields.{Column}
+use Rattle.ob_schema.specs.Models.{HasModel, model_at}
+use Rattle.ob_schema.specs.declared.info.ModelInfo.{ModelInfo}
+use Rattle.ob_orm.specs.Answer.{CreateAnswers, CreateCause, Refuses, called_by}
+use Rattle.ob_orm.specs.Arguments as arguments
+use Rattle.ob_orm.specs.Arguments.{◌>>=◌, arguments_of}
+use Rattle.ob_orm.specs.Create.{CreateRefuses, IsIdColumn, cell_of, create_expects, created_row, row_from}
+use Rattle.ob_orm.specs.CreateSteps.{AreKept, ArePlain, BreaksRow, changes_of, gathered}
+use Rattle.ob_orm.specs.Kept.{Kept, KeepsModel}
+use Rattle.ob_orm.specs.Served.{IsServed}
 use Rattle.ob_orm.specs.Sound.{IsSound}
-use Rattle.ob_orm.specs.Create.{CreateRefuses, Creates, new_row}
-use Rattle.ob_orm.specs.Line.{line_schema, subtotal_column}
-use Rattle.ob_orm.specs.Answer.{CreateAnswers, Refuses}
-use Rattle.ob_orm.specs.LineSteps.{SubtotalRefuses, line_puts}
-use Rattle.ob_orm.specs.Values.{row_of_line, row_of_values}
-use Rattle.ob_orm.proofs.MadeKept.{made_kept, made_sound, line_sound, none_broken}
+use Rattle.ob_orm.specs.Tables.{Tables, made, next_id}
+use Rattle.ob_orm.specs.Parameters.{given_of}
+use Rattle.ob_orm.specs.declared.arguments.Given.{Given}
+use Rattle.ob_orm.specs.declared.call.Call.{Call}
+use Rattle.ob_orm.specs.declared.creating.Created.{Created}
+use Rattle.ob_orm.proofs.CreateArguments.{IsGivenBy}
+use Rattle.ob_orm.proofs.CreateFields.{told}
+use Rattle.ob_orm.proofs.CreateStore.{kept_sound, made_kept, made_sound, no_links, none_broken}
 
 -- what is known of an answer, where it was handed on
 pub handed_on : {X E : Type 0} (F : Type 0) (r : Result X E) (x : X) (P : X → Type 0) → MatchResult r (λ y. ◌≡◌ {A = Result X F} (Ok x) (Ok y)) (λ _. ⊥) → IfOk r P → P x
 handed_on F (Ok y) x P same known = subst P (let e : y ≡ x = cc in e) known
 handed_on F (Err e) x P same known = absurd same
 
--- a subtotal without a value breaks the row
-pub subtotal_refused : (next : ℕ) (args : Data) (row : Row) (why : Refusal) (rose : Type 0) (P : Refusal → Type 0) → new_row line_schema args ≡ Some row → ((w : Refusal) → CreateRefuses line_schema next args w → P w)
-    → Refuses ⊥ (SubtotalRefuses next row) why → Refuses rose P why
-subtotal_refused next args row (refusal.Request place) rose P new then (fault, faults, is) = absurd (cc)
-subtotal_refused next args row (refusal.Right m op) rose P new then (fault, faults, is) = absurd (cc)
-subtotal_refused next args row (refusal.FieldRight m field) rose P new then (fault, faults, is) = absurd (cc)
-subtotal_refused next args row (refusal.Missing m id) rose P new then (fault, faults, is) = absurd (cc)
-subtotal_refused next args row (refusal.Rule m op id name) rose P new then (fault, faults, is) = absurd (cc)
-subtotal_refused next args row (refusal.Constraint b) rose P new then (fault, faults, is) =
-    then (refusal.Constraint b) (row, new, inr (subtotal_column, fault, record { column_of = (3, omega arith, refl); faults = faults }, (let e : b ≡ _ = cc in e)))
-subtotal_refused next args row refusal.Keeper rose P new then broken = absurd broken
-subtotal_refused next args row refusal.NoMemory rose P new then broken = tt
+-- ---- the row that is made
 
-pub refused_answer : (kept : Option Store) (id : ℕ) (args : Data) (row : Row) (why : Refusal) (rose : Type 0) → IfSome kept (λ store. id ≡ next_of store (record { 0 = 1 })) → new_row line_schema args ≡ Some row
-    → Refuses ⊥ (SubtotalRefuses id row) why → IfSome kept (λ store. (tables : Tables) → Kept line_schema store tables → IsSound line_schema tables → CreateAnswers store tables args rose (Err why))
-refused_answer None id args row why rose told new broken = tt
-refused_answer (Some store) id args row why rose told new broken = λ tables kept sound.
-    subtotal_refused (next_id tables 1) args row why rose (λ cause. Creates line_schema tables args (Err cause) tables) new (λ w h. (h, refl)) (subst (λ (n : ℕ). Refuses ⊥ (SubtotalRefuses n row) why) (told ∙ kept.next) broken)
+-- the arguments give the row of these values
+abbrev pub RowIs : List ModelInfo → Call → List Value → Type 0
+RowIs models call values = IfSome (model_at models call.model) (λ info. created_row info call.now (view call.args.now) (view call.kw.now) ≡ Ok (gathered info values))
 
--- the row of a line is made under the next id
-pub made_answer : (kept : Option Store) (id : ℕ) (args : Data) (line : Line) (created : Created) (rose : Type 0) → IfSome kept (λ store. id ≡ next_of store (record { 0 = 1 })) → new_row line_schema args ≡ Some (row_of_line line)
-    → id ≤ 4294967295 → IsLine line → val subtotal_column (row_of_line line) ≡ Ok (Int line.subtotal) → view created.json ≡ number (unsigned id) → created.changes ≡ line_puts id line
-    → IfSome kept (λ store. (tables : Tables) → Kept line_schema store tables → IsSound line_schema tables → CreateAnswers store tables args rose (Ok created))
-made_answer None id args line created rose told new low fits worth json changes = tt
-made_answer (Some store) id args line created rose told new low fits worth json changes = λ tables kept sound.
-    let row = row_of_line line in
-    let next = next_id tables 1 in
-    let same : id ≡ next = told ∙ kept.next in
-    let below : next ≤ 4294967295 = omega arith in
-    let here = line_sound line fits worth in (
-      made 1 row tables,
-      (row, new, λ b broken. none_broken row next b here below broken, json ∙ ap (λ (n : ℕ). number (unsigned n)) same, refl),
-      made_sound tables row sound here below,
-      subst (λ (changes : List Change). Kept line_schema (all_changed changes store) (made 1 row tables)) (sym (changes ∙ ap (λ (n : ℕ). line_puts n line) same)) (made_kept store tables line kept worth),
+-- as they are read
+pub row_is : (models : List ModelInfo) (call : Call) (gs : List (Option arguments.Given)) (values : List Value) → IfSome (model_at models call.model) (λ info. arguments_of info create_expects (view call.args.now) (view call.kw.now) ≡ Ok gs)
+    → IfSome (model_at models call.model) (λ info. row_from info call.now gs ≡ Ok (gathered info values)) → RowIs models call values
+row_is models call gs values given row = by (model_at models call.model) given row where
+  by : (o : Option ModelInfo) → IfSome o (λ info. arguments_of info create_expects (view call.args.now) (view call.kw.now) ≡ Ok gs) → IfSome o (λ info. row_from info call.now gs ≡ Ok (gathered info values)) → IfSome o (λ info. created_row info call.now (view call.args.now) (view call.kw.now) ≡ Ok (gathered info values))
+  by None given row = tt
+  by (Some info) given row = ap (λ (r : Result (List (Option arguments.Given)) (List PathStep)). r >>= row_from info call.now) given ∙ row
+
+-- ---- refusals
+
+-- the create is refused so where this is the model's next id
+abbrev pub RefusedAt : List ModelInfo → Call → Type 0 → Refusal → ℕ → Type 0
+RefusedAt models call rose why next = IfSome (model_at models call.model) (λ info. Refuses rose (CreateCause (called_by call info) next) why)
+
+-- an id past its limit
+pub past_refused : (models : List ModelInfo) (call : Call) (rose : Type 0) (why : Refusal) (next : ℕ) (values : List Value) → RowIs models call values → 4294967295 < next
+    → IfSome (model_at models call.model) (λ info. (column : Column) × IsIdColumn info column × (why ≡ refusal.Constraint (record { kind = broken.Limit; cell = cell_of call.model next column.0 }))) → RefusedAt models call rose why next
+past_refused models call rose why next values row past named = by (model_at models call.model) row named where
+  by : (o : Option ModelInfo) → IfSome o (λ info. created_row info call.now (view call.args.now) (view call.kw.now) ≡ Ok (gathered info values)) → IfSome o (λ info. (column : Column) × IsIdColumn info column × (why ≡ refusal.Constraint (record { kind = broken.Limit; cell = cell_of call.model next column.0 })))
+      → IfSome o (λ info. Refuses rose (CreateCause (called_by call info) next) why)
+  by None row named = tt
+  by (Some info) row (column, id, is) = subst (λ (w : Refusal). Refuses rose (CreateCause (called_by call info) next) w) (sym is) (gathered info values, row, inl (past, column, id, refl))
+
+-- a field without a value
+row_refused : (info : ModelInfo) (call : Call) (rose : Type 0) (why : Refusal) (next : ℕ) (values : List Value) → created_row info call.now (view call.args.now) (view call.kw.now) ≡ Ok (gathered info values) → BreaksRow call.model info next (gathered info values) why
+    → Refuses rose (CreateCause (called_by call info) next) why
+row_refused info call rose (refusal.Request place) next values row broken = absurd broken
+row_refused info call rose (refusal.Right m op) next values row broken = absurd broken
+row_refused info call rose (refusal.FieldRight m field) next values row broken = absurd broken
+row_refused info call rose (refusal.Missing m id) next values row broken = absurd broken
+row_refused info call rose (refusal.Rule m op id name) next values row broken = absurd broken
+row_refused info call rose (refusal.Constraint b) next values row broken = (gathered info values, row, inr broken)
+row_refused info call rose refusal.Keeper next values row broken = absurd broken
+row_refused info call rose refusal.NoMemory next values row broken = tt
+
+-- so the create is refused
+pub values_refused : (models : List ModelInfo) (call : Call) (rose : Type 0) (why : Refusal) (next : ℕ) (values : List Value) → RowIs models call values → IfSome (model_at models call.model) (λ info. BreaksRow call.model info next (gathered info values) why) → RefusedAt models call rose why next
+values_refused models call rose why next values row broken = by (model_at models call.model) row broken where
+  by : (o : Option ModelInfo) → IfSome o (λ info. created_row info call.now (view call.args.now) (view call.kw.now) ≡ Ok (gathered info values)) → IfSome o (λ info. BreaksRow call.model info next (gathered info values) why) → IfSome o (λ info. Refuses rose (CreateCause (called_by call info) next) why)
+  by None row broken = tt
+  by (Some info) row broken = row_refused info call rose why next values row broken
+
+-- a refusal with one cause has each weaker one
+Refuses-weaker : (rose : Type 0) (P Q : Refusal → Type 0) (why : Refusal) → ((w : Refusal) → P w → Q w) → Refuses rose P why → Refuses rose Q why
+Refuses-weaker rose P Q (refusal.Request place) then h = then (refusal.Request place) h
+Refuses-weaker rose P Q (refusal.Right m op) then h = then (refusal.Right m op) h
+Refuses-weaker rose P Q (refusal.FieldRight m field) then h = then (refusal.FieldRight m field) h
+Refuses-weaker rose P Q (refusal.Missing m id) then h = then (refusal.Missing m id) h
+Refuses-weaker rose P Q (refusal.Rule m op id name) then h = then (refusal.Rule m op id name) h
+Refuses-weaker rose P Q (refusal.Constraint b) then h = then (refusal.Constraint b) h
+Refuses-weaker rose P Q refusal.Keeper then h = h
+Refuses-weaker rose P Q refusal.NoMemory then h = tt
+
+-- a refusal has its cause over any keeper
+pub refused_cause : (models : List ModelInfo) (call : Call) (rose : Type 0) (why : Refusal) (next : ℕ) → HasModel models call.model → RefusedAt models call rose why next
+    → Refuses rose (λ w. IfSome (model_at models call.model) (λ info. (n : ℕ) × CreateCause (called_by call info) n w)) why
+refused_cause models call rose why next there refused = by (model_at models call.model) there refused where
+  by : (o : Option ModelInfo) → IsSome o → IfSome o (λ info. Refuses rose (CreateCause (called_by call info) next) why) → Refuses rose (λ w. IfSome o (λ info. (n : ℕ) × CreateCause (called_by call info) n w)) why
+  by None there refused = absurd (false≢true there)
+  by (Some info) there refused = Refuses-weaker rose (CreateCause (called_by call info) next) (λ w. (n : ℕ) × CreateCause (called_by call info) n w) why (λ w h. (next, h)) refused
+
+-- the machine's answer over a keeper that tells its rows
+abbrev pub AnsweredSo : Option Store → List ModelInfo → Call → Type 0 → Result Created Refusal → Type 0
+AnsweredSo kept models call rose r = IfSome kept (λ store. (tables : Tables) → Kept models store tables → IsSound models tables → IfSome (model_at models call.model) (λ info. CreateAnswers models store tables (called_by call info) rose r))
+
+-- the next id of the tables
+next_told : (models : List ModelInfo) (model : ModelNo) (info : ModelInfo) (store : Store) (tables : Tables) (next : ℕ) → model_at models model ≡ Some info → next ≡ next_of store model → Kept models store tables → next ≡ next_id tables model
+next_told models model info store tables next at told' kept = told' ∙ (told (model_at models model) info (λ m. KeepsModel model m store tables) at (kept model)).next
+
+-- a refusal is the machine's
+pub refused_answer : (kept : Option Store) (models : List ModelInfo) (call : Call) (rose : Type 0) (why : Refusal) (next : ℕ) → IfSome kept (λ store. next ≡ next_of store call.model) → RefusedAt models call rose why next → AnsweredSo kept models call rose (Err why)
+refused_answer None models call rose why next is refused = tt
+refused_answer (Some store) models call rose why next is refused = λ tables kept sound. by tables kept (model_at models call.model) refl refused where
+  by : (tables : Tables) → Kept models store tables → (o : Option ModelInfo) → model_at models call.model ≡ o → IfSome o (λ info. Refuses rose (CreateCause (called_by call info) next) why) → IfSome o (λ info. CreateAnswers models store tables (called_by call info) rose (Err why))
+  by tables kept None at refused = tt
+  by tables kept (Some info) at refused =
+      let P : Refusal → Type 0 = CreateCause (called_by call info) (next_id tables call.model) in
+      let Q : Refusal → Type 0 = λ cause. CreateRefuses call.model info call.now (next_id tables call.model) (view call.args.now) (view call.kw.now) cause × (tables ≡ tables) in
+      Refuses-weaker rose P Q why (λ w h. (h, refl)) (subst (λ (n : ℕ). Refuses rose (CreateCause (called_by call info) n) why) (next_told models call.model info store tables next at is kept) refused)
+
+-- ---- a row that is made
+
+-- a create that is carried out is the machine's
+made_here : (models : List ModelInfo) (call : Call) (info : ModelInfo) (store : Store) (tables : Tables) (rose : Type 0) (next : ℕ) (values kept : List Value) (created : Created) → model_at models call.model ≡ Some info → IsServed info → ArePlain info values
+    → created_row info call.now (view call.args.now) (view call.kw.now) ≡ Ok (gathered info values) → next ≡ next_id tables call.model → next ≤ 4294967295 → AreKept info next (gathered info values) kept
+    → view created.json ≡ number (unsigned next) → created.changes ≡ changes_of models call.model next kept → Kept models store tables → IsSound models tables → CreateAnswers models store tables (called_by call info) rose (Ok created)
+made_here models call info store tables rose next values kept created at served known given same low are json changes stands sound =
+    let row = gathered info values in
+    let id = next_id tables call.model in
+    let are' : AreKept info id row kept = subst (λ (n : ℕ). AreKept info n row kept) same are in
+    let here = kept_sound info id values kept known are' in
+    let below : id ≤ 4294967295 = omega arith in (
+      made call.model row tables,
+      record {
+        row = row;
+        given = given;
+        whole = λ b breaks. none_broken call.model info row id b here below breaks;
+        answer = json ∙ ap (λ (n : ℕ). number (unsigned n)) same;
+        tables = refl;
+      },
+      made_sound models call.model info tables row at sound here below,
+      subst (λ (cs : List Change). Kept models (all_changed cs store) (made call.model row tables)) (sym (changes ∙ ap (λ (n : ℕ). changes_of models call.model n kept) same))
+          (made_kept models call.model info store tables row kept at stands (no_links info values served known) are'.same),
     )
 
--- the line of the values with a subtotal
-abbrev pub line_with : LineValues → ℤ → Line
-line_with values subtotal = record { name = values.name; price = values.price; qty = values.qty; subtotal = subtotal }
+-- over any keeper that tells its rows
+pub made_answer : (stored : Option Store) (models : List ModelInfo) (call : Call) (rose : Type 0) (next : ℕ) (values kept : List Value) (created : Created) → IfSome stored (λ store. next ≡ next_of store call.model) → IfSome (model_at models call.model) IsServed → IfSome (model_at models call.model) (λ info. ArePlain info values)
+    → RowIs models call values → next ≤ 4294967295 → IfSome (model_at models call.model) (λ info. AreKept info next (gathered info values) kept)
+    → view created.json ≡ number (unsigned next) → created.changes ≡ changes_of models call.model next kept → AnsweredSo stored models call rose (Ok created)
+made_answer None models call rose next values kept created is served known row low are json changes = tt
+made_answer (Some store) models call rose next values kept created is served known row low are json changes = λ tables stands sound. by tables stands sound (model_at models call.model) refl served known row are where
+  by : (tables : Tables) → Kept models store tables → IsSound models tables → (o : Option ModelInfo) → model_at models call.model ≡ o → IfSome o IsServed → IfSome o (λ info. ArePlain info values)
+      → IfSome o (λ info. created_row info call.now (view call.args.now) (view call.kw.now) ≡ Ok (gathered info values)) → IfSome o (λ info. AreKept info next (gathered info values) kept) → IfSome o (λ info. CreateAnswers models store tables (called_by call info) rose (Ok created))
+  by tables stands sound None at served known row are = tt
+  by tables stands sound (Some info) at served known row are =
+      made_here models call info store tables rose next values kept created at served known row (next_told models call.model info store tables next at is stands) low are json changes stands sound
 
--- a subtotal as it is passed
-pub passed_on : (values : LineValues) (subtotal : ℤ) (line : Line) → FitsSigned w64 subtotal → line ≡ line_with values (cast_signed w64 (cast_unsigned w64 subtotal)) → line ≡ line_with values subtotal
-passed_on values subtotal line fits e = e ∙ ap (λ (n : ℤ). line_with values n) (to_z-of_z w64 subtotal fits)
+-- ---- as the steps say it
 
-pub made_from : (kept : Option Store) (id : ℕ) (args : Data) (values : LineValues) (subtotal : ℤ) (line : Line) (created : Created) (rose : Type 0) → IfSome kept (λ store. id ≡ next_of store (record { 0 = 1 })) → new_row line_schema args ≡ Some (row_of_values values)
-    → id ≤ 4294967295 → line ≡ line_with values subtotal → IsLine line → val subtotal_column (row_of_values values) ≡ Ok (Int subtotal) → view created.json ≡ number (unsigned id) → created.changes ≡ line_puts id line
-    → IfSome kept (λ store. (tables : Tables) → Kept line_schema store tables → IsSound line_schema tables → CreateAnswers store tables args rose (Ok created))
-made_from kept id args values subtotal line created rose told new low is fits worth json changes =
-    made_answer kept id args line created rose told (new ∙ ap (λ (l : Line). Some (row_of_line l)) (sym is)) low fits (subst (λ (l : Line). val subtotal_column (row_of_line l) ≡ Ok (Int l.subtotal)) (sym is) worth) json changes
+-- the arguments that were given, as they are passed on
+pub passed_on : (models : List ModelInfo) (call : Call) (items slice : List (Option Given)) → slice ≡ items → IfSome (model_at models call.model) (λ info. arguments_of info create_expects (view call.args.now) (view call.kw.now) ≡ Ok (map (option_map given_of) items))
+    → IfSome (model_at models call.model) (IsGivenBy slice)
+passed_on models call items slice same given = by (model_at models call.model) given where
+  by : (o : Option ModelInfo) → IfSome o (λ info. arguments_of info create_expects (view call.args.now) (view call.kw.now) ≡ Ok (map (option_map given_of) items)) → IfSome o (IsGivenBy slice)
+  by None given = tt
+  by (Some info) given = (view call.args.now, view call.kw.now, given ∙ ap (λ (gs : List (Option Given)). Ok (map (option_map given_of) gs)) (sym same))
+
+-- the moment of the call as it is passed on
+pub moment_passed : (now : ℤ) → IsMoment now → cast_signed w64 (cast_unsigned w64 now) ≡ now
+moment_passed now moment = let fits : FitsSigned w64 now = (let low = moment.low in let high = moment.high in grind (arith, ints)) in to_z-of_z w64 now fits
+
+-- the row of the values that they give
+pub row_passed : (models : List ModelInfo) (call : Call) (items slice : List (Option Given)) (values : List Value) (passed : ℤ) → passed ≡ call.now → slice ≡ items → IfSome (model_at models call.model) (λ info. arguments_of info create_expects (view call.args.now) (view call.kw.now) ≡ Ok (map (option_map given_of) items))
+    → IfSome (model_at models call.model) (λ info. row_from info passed (map (option_map given_of) slice) ≡ Ok (gathered info values)) → RowIs models call values
+row_passed models call items slice values passed is same given row =
+    row_is models call (map (option_map given_of) items) values given
+    (subst (λ (gs : List (Option Given)). IfSome (model_at models call.model) (λ info. row_from info call.now (map (option_map given_of) gs) ≡ Ok (gathered info values))) same
+    (subst (λ (n : ℤ). IfSome (model_at models call.model) (λ info. row_from info n (map (option_map given_of) slice) ≡ Ok (gathered info values))) is row))

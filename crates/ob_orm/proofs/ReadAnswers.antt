@@ -1,181 +1,253 @@
--- The answer of a read, by its arguments and the lines that were fetched.
-use Rattle.std.proofs.Common.{◌≡◌, ℕ, ℤ, pos, negsuc, ◌≤◌, ◌||◌, Bool, true, false, List, [], ◌∷◌, Option, Some, None, option_map, Result, Ok, Err, Ordering, Less, Equal, Greater, refl, sym, ap, subst, ◌∙◌}
-use Rattle.std.specs.Prelude.{map, All, Contains, codes}
-use Rattle.std.specs.Result.{result_unwrap_or}
-use Rattle.std.specs.Ordering.{nat_cmp, match_ordering}
-use Rattle.std.specs.Cmp.Lexicographic.{slice_cmp}
+-- The answer of a read, by its arguments and the rows that were fetched.
+use Rattle.std.proofs.Common.{◌≡◌, ℕ, suc, ◌+◌, ◌<◌, ◌≤◌, ◌&&◌, Bool, true, false, cond, List, [], ◌∷◌, map, length, get_or, nat_le, Option, Some, None, option_map, option_and_then, Result, Ok, Err, refl, sym, ap, subst, ◌∙◌, arith}
+use Rattle.std.specs.Prelude.{All, Contains, IsSome, IfErr, IfSome}
+use Rattle.std.specs.List.{filter_map, cons_option}
+use Rattle.std.proofs.lemmas.Bool.Decides.{nat_tests}
+use Rattle.std.proofs.lemmas.List.Elements.{All-cons, All-nil, All-head, All-tail, All-filter}
+use Rattle.std.proofs.lemmas.List.FromFn.{get_or-enumerate_from, length-enumerate_from}
+use Rattle.std.proofs.lemmas.Option.{slice_get-get_or}
+use Rattle.ob_base.specs.declared.id.FieldNo.{FieldNo}
 use Rattle.ob_base.specs.declared.refusal.Refusal.{Refusal}
 use Rattle.ob_base.specs.declared.refusal.Refusal.TheVariants as refusal
-use Rattle.ob_base.specs.declared.value.Value.{Value}
-use Rattle.ob_base.specs.declared.value.Value.TheVariants.{Nil, Int}
 use Rattle.ob_io.specs.Store.{Store}
-use Rattle.serde_json.specs.Data.{unsigned, Data, number, array, object, Members, no_members, member, put}
-use Rattle.serde_json.specs.Find.{of_integer}
-use Rattle.serde_json.specs.View.{items_of}
-use Rattle.serde_json.specs.Written.{has_float, items_have_float, members_have_float}
-use Rattle.ob_orm.specs.declared.kept.Line.{Line}
-use Rattle.ob_orm.specs.declared.line.LineColumn.{LineColumn}
-use Rattle.ob_orm.specs.declared.line.LineColumn.TheVariants.{Name, Price, Qty, Subtotal}
-use Rattle.ob_orm.specs.Schema.{Column}
-use Rattle.ob_orm.specs.Tables.{Row, Tables, row_of}
-use Rattle.ob_orm.specs.Scratch.{val, val_or_unset}
-use Rattle.ob_orm.specs.Json.{value_data, all_some}
-use Rattle.ob_orm.specs.Line.{line_schema, subtotal_column}
-use Rattle.ob_orm.specs.Read.{once, put_columns, row_object, told_row, IsLeastMissing, Reads, ReadRefuses}
-use Rattle.ob_orm.specs.Values.{row_of_line, column_of}
-use Rattle.ob_orm.specs.LineForm.{char_value}
-use Rattle.ob_orm.specs.LineJson.{kept_value, put_kept, line_object, line_objects}
-use Rattle.ob_orm.specs.LineSteps.{IsLineOf, IsLeastGap, MissesLeast, IsMissingAmong}
-use Rattle.ob_orm.specs.Answer.{Refuses, ReadCause, ReadAnswers}
-use Rattle.ob_orm.proofs.Once.{All-from_once, Contains-from_once}
-use Rattle.ob_orm.proofs.FetchSteps.{AreLinesOf, Told, told_map, Refuses-weaker}
-use Rattle.ob_orm.proofs.ReadForms.{AskedOf}
+use Rattle.ob_schema.specs.Fields.{Column, columns}
+use Rattle.ob_schema.specs.Models.{model_at, numbered}
+use Rattle.ob_schema.specs.declared.info.ModelInfo.{ModelInfo}
+use Rattle.serde_json.specs.Data.{Data, null, boolean, number, string, array, object}
+use Rattle.serde_json.specs.Find.{as_number, as_u64}
+use Rattle.serde_json.specs.View.{view}
+use Rattle.ob_orm.specs.Answer.{Called, ReadAnswers, ReadCause, Refuses, called_by}
+use Rattle.ob_orm.specs.Arguments as arguments
+use Rattle.ob_orm.specs.Arguments.{◌>>=◌, arguments_of, id_from, listed}
+use Rattle.ob_orm.specs.Parameters.{given_of}
+use Rattle.ob_orm.specs.Read.{Asked, IsLeastMissing, ReadRefuses, TellsRows, asked_by, asked_columns, asked_of, columns_in, columns_named, ids_in, once, read_expects}
+use Rattle.ob_orm.specs.ReadParts.{columns_at}
+use Rattle.ob_orm.specs.ReadRows.{AnswersRows, IsMissingAmong, MissesLeast}
+use Rattle.ob_orm.specs.Tables.{Tables}
+use Rattle.ob_orm.specs.declared.arguments.Given.{Given}
+use Rattle.ob_orm.specs.declared.call.Call.{Call}
+use Rattle.ob_orm.proofs.ArgumentsLaws.{ReadGiven, read_given}
+use Rattle.ob_orm.proofs.ReadFetched.{Told}
+use Rattle.ob_orm.proofs.ReadNumbers.{numbers_in}
+use Rattle.ob_orm.proofs.ReadOnce.{All-once}
+use Rattle.ob_orm.proofs.ReadSteps.{Refuses-weaker, known_map, told_map}
 
--- ---- a line's object is its row's
+-- ---- the ids that are asked for
 
-same_value : (line : Line) (column : LineColumn) → val subtotal_column (row_of_line line) ≡ Ok (Int line.subtotal) → kept_value line column ≡ val_or_unset (column_of column) (row_of_line line)
-same_value line Name e = refl
-same_value line Price e = refl
-same_value line Qty e = refl
-same_value line Subtotal e = sym (ap (λ (r : Result Value _). result_unwrap_or r Nil) e)
+-- a number that passes the test is within the limit
+id_fits : (n : ℕ) (b : Bool) (o : Option ℕ) → b ≡ (nat_le 1 n && nat_le n 4294967295) → cond b (Some n) None ≡ o → IfSome o (λ id. id ≤ 4294967295)
+id_fits n b None test e = tt
+id_fits n true (Some id) test e = let same : n ≡ id = cc in let low : n ≤ 4294967295 = grind (arith, nat_tests) in subst (λ (m : ℕ). m ≤ 4294967295) same low
+id_fits n false (Some id) test e = absurd cc
 
-same_columns : (columns : List LineColumn) (line : Line) (members : Members) → val subtotal_column (row_of_line line) ≡ Ok (Int line.subtotal)
-    → put_kept columns line members ≡ put_columns (map column_of columns) (row_of_line line) members
-same_columns [] line told e = refl
-same_columns (column ∷ columns) line told e =
-    ap (λ (v : Value). put_kept columns line (put (column_of column).name (value_data v) told)) (same_value line column e)
-    ∙ same_columns columns line (put (column_of column).name (value_data (val_or_unset (column_of column) (row_of_line line))) told) e
+-- a number that is an id is within the limit
+bounded : (o : Option ℕ) → IfSome (option_and_then (λ n. cond (nat_le 1 n && nat_le n 4294967295) (Some n) None) o) (λ id. id ≤ 4294967295)
+bounded None = tt
+bounded (Some n) = id_fits n (nat_le 1 n && nat_le n 4294967295) (cond (nat_le 1 n && nat_le n 4294967295) (Some n) None) refl refl
 
-same_object : (found : Option Row) (columns : List LineColumn) (id : ℕ) (line : Line) → IsLineOf (Some line) found → option_map (row_object (map column_of columns) id) found ≡ Some (line_object columns id line)
-same_object found columns id line is =
-    ap (option_map (row_object (map column_of columns) id)) is.0 ∙ ap (λ (ms : Members). Some (object ms)) (sym (same_columns columns line _ is.1))
+-- the ids of a list are within the limit
+ids_fit : (ds : List Data) → All (λ id. id ≤ 4294967295) (filter_map id_from ds)
+ids_fit [] = All-nil (λ (id : ℕ). id ≤ 4294967295)
+ids_fit (d ∷ ds) = one (id_from d) (bounded (option_and_then as_u64 (as_number d))) (ids_fit ds)
+  where
+    one : (o : Option ℕ) → IfSome o (λ id. id ≤ 4294967295) → All (λ id. id ≤ 4294967295) (filter_map id_from ds) → All (λ id. id ≤ 4294967295) (cons_option o (filter_map id_from ds))
+    one None here more = more
+    one (Some id) here more = All-cons (λ (id : ℕ). id ≤ 4294967295) id (filter_map id_from ds) here more
 
-first_object : (o : Option Data) (os : List (Option Data)) (d : Data) (ds : List Data) → o ≡ Some d → all_some os ≡ Some ds → all_some (o ∷ os) ≡ Some (d ∷ ds)
-first_object o os d ds e f = ap (λ (p : Option Data). all_some (p ∷ os)) e ∙ ap (option_map (λ xs. d ∷ xs)) f
+-- the ids of an argument are within the limit
+all_fit : (d : Data) → All (λ id. id ≤ 4294967295) (ids_in d)
+all_fit null = All-nil (λ (id : ℕ). id ≤ 4294967295)
+all_fit (boolean b) = All-nil (λ (id : ℕ). id ≤ 4294967295)
+all_fit (number n) = ids_fit (number n ∷ [])
+all_fit (string text) = All-nil (λ (id : ℕ). id ≤ 4294967295)
+all_fit (array items) = ids_fit (listed items)
+all_fit (object _) = All-nil (λ (id : ℕ). id ≤ 4294967295)
 
-pub same_objects : (tables : Tables) (columns : List LineColumn) (ids : List ℕ) (lines : List Line) → AreLinesOf tables ids lines
-    → all_some (map (told_row line_schema tables (map column_of columns)) ids) ≡ Some (line_objects columns ids lines)
-same_objects tables columns [] [] are = refl
-same_objects tables columns [] (line ∷ lines) are = absurd are
-same_objects tables columns (id ∷ ids) [] are = absurd are
-same_objects tables columns (id ∷ ids) (line ∷ lines) are =
-    first_object (told_row line_schema tables (map column_of columns) id) (map (told_row line_schema tables (map column_of columns)) ids) (line_object columns id line) (line_objects columns ids lines)
-    (same_object (row_of tables 1 id) columns id line are.0) (same_objects tables columns ids lines are.1)
+-- the ids that are asked for are within the limit
+pub asked_fit : (d : Data) (ids : List ℕ) → ids ≡ once (ids_in d) → All (λ id. id ≤ 4294967295) ids
+asked_fit d ids e = subst (All (λ id. id ≤ 4294967295)) (sym e) (All-once (λ id. id ≤ 4294967295) (ids_in d) (all_fit d))
 
--- ---- no float is told
+-- ---- the fields that are asked for
 
-plain_integer : (n : ℤ) → has_float (number (of_integer n)) ≡ false
-plain_integer (pos n) = refl
-plain_integer (negsuc n) = refl
+-- the column is that of its number
+abbrev IsOwn : ModelInfo → Column → Type 0
+IsOwn info column = numbered info.fields column.0 ≡ Some column.1
 
-plain_char : (text : Option (List ℕ)) → has_float (value_data (char_value text)) ≡ false
-plain_char None = refl
-plain_char (Some text) = refl
+-- each column of a model is that of its number
+own_columns : (info : ModelInfo) → All (IsOwn info) (columns info)
+own_columns info k d lt =
+    let within : k < length info.fields = let e = length-enumerate_from 1 info.fields in omega arith in
+    let place : 1 + k ≡ suc k = omega arith in
+    subst (IsOwn info) (sym (get_or-enumerate_from 1 info.fields k d within))
+    (ap (numbered info.fields) place ∙ slice_get-get_or info.fields k d.1 within)
 
-plain_value : (line : Line) (column : LineColumn) → has_float (value_data (kept_value line column)) ≡ false
-plain_value line Name = plain_char line.name
-plain_value line Price = plain_integer line.price
-plain_value line Qty = plain_integer line.qty
-plain_value line Subtotal = plain_integer line.subtotal
+-- and those that a list names
+own_named : (info : ModelInfo) (names : List Data) → All (IsOwn info) (columns_named info names)
+own_named info [] = own_columns info
+own_named info (d ∷ ds) = All-filter _ (IsOwn info) (columns info) (own_columns info)
 
-put_at : (o : Ordering) (a b c : Members) → members_have_float a ≡ false → members_have_float b ≡ false → members_have_float c ≡ false → members_have_float (match_ordering o a b c) ≡ false
-put_at Less a b c p q r = p
-put_at Equal a b c p q r = q
-put_at Greater a b c p q r = r
+-- and those of an argument
+own_in : (info : ModelInfo) (d : Data) → All (IsOwn info) (columns_in info d)
+own_in info null = All-nil (IsOwn info)
+own_in info (boolean b) = All-nil (IsOwn info)
+own_in info (number n) = All-nil (IsOwn info)
+own_in info (string text) = All-nil (IsOwn info)
+own_in info (array items) = own_named info (listed items)
+own_in info (object _) = All-nil (IsOwn info)
 
-both_plain : (b c : Bool) → b ≡ false → c ≡ false → (b || c) ≡ false
-both_plain b c p q = rw p q
+-- and those that are asked for
+own_asked : (info : ModelInfo) (g : Option arguments.Given) → All (IsOwn info) (asked_columns info g)
+own_asked info None = own_columns info
+own_asked info (Some g) = own_in info g.json
 
-left_plain : (b c : Bool) → (b || c) ≡ false → b ≡ false
-left_plain true c p = p
-left_plain false c p = refl
+-- the columns of these numbers are those that have them
+same_columns : (info : ModelInfo) (numbers : List FieldNo) (cs : List Column) → numbers_in numbers ≡ map (λ c. c.0) cs → All (IsOwn info) cs → columns_at info numbers ≡ cs
+same_columns info [] [] e own = refl
+same_columns info [] (c ∷ cs) e own = absurd cc
+same_columns info (n ∷ numbers) [] e own = absurd cc
+same_columns info (n ∷ numbers) (c ∷ cs) e own =
+    let first : n.0 ≡ c.0 = cc in
+    let rest : numbers_in numbers ≡ map (λ (x : Column). x.0) cs = cc in
+    let here : numbered info.fields n.0 ≡ Some c.1 = ap (numbered info.fields) first ∙ All-head (IsOwn info) c cs own in
+    rw here (ap (λ (m : ℕ). (m, c.1) ∷ columns_at info numbers) first ∙ ap (λ (xs : List Column). c ∷ xs) (same_columns info numbers cs rest (All-tail (IsOwn info) c cs own)))
 
-right_plain : (b c : Bool) → (b || c) ≡ false → c ≡ false
-right_plain true c p = absurd cc
-right_plain false c p = p
+-- a field of this number is there
+abbrev IsThere : Option ModelInfo → FieldNo → Type 0
+IsThere found n = IsSome (option_and_then (λ info. numbered info.fields n.0) found)
 
-put_plain : (k : List ℕ) (d : Data) (ms : Members) → has_float d ≡ false → members_have_float ms ≡ false → members_have_float (put k d ms) ≡ false
-put_plain k d no_members p q = both_plain (has_float d) false p refl
-put_plain k d (member l e ms) p q =
-    put_at (slice_cmp nat_cmp k l) (member k d (member l e ms)) (member l d ms) (member l e (put k d ms))
-    (both_plain (has_float d) (members_have_float (member l e ms)) p q)
-    (both_plain (has_float d) (members_have_float ms) p (right_plain (has_float e) (members_have_float ms) q))
-    (both_plain (has_float e) (members_have_float (put k d ms)) (left_plain (has_float e) (members_have_float ms) q) (put_plain k d ms p (right_plain (has_float e) (members_have_float ms) q)))
+-- each of the numbers is that of a field
+there_each : (info : ModelInfo) (numbers : List FieldNo) (cs : List Column) → numbers_in numbers ≡ map (λ c. c.0) cs → All (IsOwn info) cs → All (IsThere (Some info)) numbers
+there_each info [] cs e own = All-nil (IsThere (Some info))
+there_each info (n ∷ numbers) [] e own = absurd cc
+there_each info (n ∷ numbers) (c ∷ cs) e own =
+    let first : n.0 ≡ c.0 = cc in
+    let rest : numbers_in numbers ≡ map (λ (x : Column). x.0) cs = cc in
+    let here : numbered info.fields n.0 ≡ Some c.1 = ap (numbered info.fields) first ∙ All-head (IsOwn info) c cs own in
+    All-cons (IsThere (Some info)) n numbers (rw here refl) (there_each info numbers cs rest (All-tail (IsOwn info) c cs own))
 
-columns_plain : (columns : List LineColumn) (line : Line) (ms : Members) → members_have_float ms ≡ false → members_have_float (put_kept columns line ms) ≡ false
-columns_plain [] line ms p = p
-columns_plain (column ∷ columns) line ms p =
-    columns_plain columns line (put (column_of column).name (value_data (kept_value line column)) ms) (put_plain (column_of column).name (value_data (kept_value line column)) ms (plain_value line column) p)
+-- the numbers are those of the fields that are asked for
+abbrev pub AreAsked : Option ModelInfo → Option Given → List FieldNo → Type 0
+AreAsked found given numbers = IfSome found (λ info. numbers_in numbers ≡ map (λ c. c.0) (asked_columns info (option_map given_of given)))
 
-objects_plain : (columns : List LineColumn) (ids : List ℕ) (lines : List Line) → items_have_float (items_of (line_objects columns ids lines)) ≡ false
-objects_plain columns [] lines = refl
-objects_plain columns (id ∷ ids) [] = refl
-objects_plain columns (id ∷ ids) (line ∷ lines) =
-    both_plain (has_float (line_object columns id line)) (items_have_float (items_of (line_objects columns ids lines)))
-    (columns_plain columns line (member (codes "id") (number (unsigned id)) no_members) refl) (objects_plain columns ids lines)
+-- the numbers that are asked for are those of fields
+pub asked_there : (found : Option ModelInfo) (given : Option Given) (numbers : List FieldNo) → IsSome found → AreAsked found given numbers → All (IsThere found) numbers
+asked_there None given numbers known are = absurd cc
+asked_there (Some info) given numbers known are = there_each info numbers (asked_columns info (option_map given_of given)) are (own_asked info (option_map given_of given))
 
-pub told_plain : (columns : List LineColumn) (ids : List ℕ) (lines : List Line) (d : Data) → d ≡ array (items_of (line_objects columns ids lines)) → has_float d ≡ false
-told_plain columns ids lines d e = ap has_float e ∙ objects_plain columns ids lines
+-- ---- the arguments
+
+-- these are the arguments
+abbrev pub AreGiven : Option ModelInfo → Data → Data → List (Option Given) → Type 0
+AreGiven found args kw given = IfSome found (λ info. arguments_of info read_expects args kw ≡ Ok (map (option_map given_of) given))
+
+-- three arguments, the first of which is given
+pub record Three (given : List (Option Given)) : Type 0 where
+  pub first : Given
+  pub second : Option Given
+  pub third : Option Given
+  pub are : given ≡ Some first ∷ second ∷ third ∷ []
+
+-- the arguments are three where what they stand for is
+three_of : (given : List (Option Given)) (ids : arguments.Given) (fields load : Option arguments.Given) → map (option_map given_of) given ≡ Some ids ∷ fields ∷ load ∷ [] → Three given
+three_of [] ids fields load e = absurd cc
+three_of (None ∷ given) ids fields load e = absurd cc
+three_of (Some first ∷ []) ids fields load e = absurd cc
+three_of (Some first ∷ second ∷ []) ids fields load e = absurd cc
+three_of (Some first ∷ second ∷ third ∷ []) ids fields load e = record { first = first; second = second; third = third; are = refl }
+three_of (Some first ∷ second ∷ third ∷ more ∷ given) ids fields load e = absurd cc
+
+-- the arguments of a read that are right
+pub three_given : (found : Option ModelInfo) (args kw : Data) (given : List (Option Given)) → IsSome found → AreGiven found args kw given → Three given
+three_given None args kw given known are = absurd cc
+three_given (Some info) args kw given known are = let is : ReadGiven info (map (option_map given_of) given) = read_given info args kw (map (option_map given_of) given) are in three_of given is.ids is.fields is.load is.three
+
+-- what is asked for: these ids, and the fields of these numbers
+pub record Asks (info : ModelInfo) (args kw : Data) (ids : List ℕ) (numbers : List FieldNo) : Type 0 where
+  pub asked : Asked
+  pub is : asked_of info args kw ≡ Ok asked
+  pub ids_are : asked.ids ≡ ids
+  pub fields_are : asked.fields ≡ columns_at info numbers
+
+-- what the arguments ask for
+asks : (info : ModelInfo) (args kw : Data) (given : List (Option Given)) (three : Three given) (ids : List ℕ) (numbers : List FieldNo) → arguments_of info read_expects args kw ≡ Ok (map (option_map given_of) given)
+    → ids ≡ once (ids_in (view three.first.json.now)) → AreAsked (Some info) three.second numbers → Asks info args kw ids numbers
+asks info args kw given three ids numbers are ids_are numbers_are = record {
+  asked = asked_by info (map (option_map given_of) (Some three.first ∷ three.second ∷ three.third ∷ []));
+  is = ap (λ (r : Result (List (Option arguments.Given)) _). r >>= λ gs. Ok (asked_by info gs)) are
+      ∙ ap (λ (gs : List (Option Given)). Ok (asked_by info (map (option_map given_of) gs))) three.are;
+  ids_are = sym ids_are;
+  fields_are = sym (same_columns info numbers (asked_columns info (option_map given_of three.second)) numbers_are (own_asked info (option_map given_of three.second)));
+}
+
+-- the ids and numbers by the arguments at their places
+pub asks_in : (found : Option ModelInfo) (args kw : Data) (given : List (Option Given)) (first : Given) (second : Option Given) (ids : List ℕ) (numbers : List FieldNo) → IsSome found → AreGiven found args kw given
+    → Some first ≡ get_or given 0 (Some first) → second ≡ get_or given 1 second → ids ≡ once (ids_in (view first.json.now)) → AreAsked found second numbers → IfSome found (λ info. Asks info args kw ids numbers)
+asks_in None args kw given first second ids numbers known are one two ids_are numbers_are = tt
+asks_in (Some info) args kw given first second ids numbers known are one two ids_are numbers_are =
+    let three = three_given (Some info) args kw given refl are in
+    let same_first : first ≡ three.first = let e : Some first ≡ Some three.first = one ∙ ap (λ (gs : List (Option Given)). get_or gs 0 (Some first)) three.are in cc in
+    let same_second : second ≡ three.second = two ∙ ap (λ (gs : List (Option Given)). get_or gs 1 second) three.are in
+    asks info args kw given three ids numbers are (ids_are ∙ ap (λ (g : Given). once (ids_in (view g.json.now))) same_first) (subst (λ (g : Option Given). AreAsked (Some info) g numbers) same_second numbers_are)
 
 -- ---- the answer
 
-pub reads_lines : (tables : Tables) (args : Data) (columns : List LineColumn) (ids : List ℕ) (lines : List Line) (json : Data)
-    → AskedOf line_schema args ids (map column_of columns) → AreLinesOf tables ids lines → json ≡ array (items_of (line_objects columns ids lines)) → Reads line_schema tables args (Ok json)
-reads_lines tables args columns ids lines json a are told = (
+-- the call of a model over these arguments
+misses : (c : Called) (tables : Tables) (ids : List ℕ) (numbers : List FieldNo) → Asks c.info c.args c.kw ids numbers → (why : Refusal) → MissesLeast c.model tables ids why → ReadRefuses c.model c.info tables c.args c.kw why
+misses c tables ids numbers a (refusal.Missing m id) h = (a.asked, a.is, h.0, subst (λ (xs : List ℕ). IsLeastMissing c.model tables xs id.0) (sym a.ids_are) h.1)
+misses c tables ids numbers a (refusal.Request place) h = absurd h
+misses c tables ids numbers a (refusal.Right m op) h = absurd h
+misses c tables ids numbers a (refusal.FieldRight m field) h = absurd h
+misses c tables ids numbers a (refusal.Rule m op id name) h = absurd h
+misses c tables ids numbers a (refusal.Constraint b) h = absurd h
+misses c tables ids numbers a refusal.Keeper h = absurd h
+misses c tables ids numbers a refusal.NoMemory h = absurd h
+
+-- the rows' answer is the read's
+answered : (c : Called) (tables : Tables) (rose : Type 0) (ids : List ℕ) (numbers : List FieldNo) (r : Result Data Refusal) → Asks c.info c.args c.kw ids numbers → AnswersRows c.model tables (columns_at c.info numbers) ids rose r → ReadAnswers tables c rose r
+answered c tables rose ids numbers (Ok json) a h = (
   a.asked,
-  line_objects columns ids lines,
-  a.given,
-  ap (λ (xs : List ℕ). all_some (map (told_row line_schema tables a.asked.columns) xs)) (sym a.distinct)
-      ∙ ap (λ (cs : List Column). all_some (map (told_row line_schema tables cs) ids)) (sym a.named)
-      ∙ same_objects tables columns ids lines are,
-  told,
+  h.0,
+  a.is,
+  subst (λ (cs : List Column). TellsRows c.model tables cs a.asked.ids h.0) (sym a.fields_are) (subst (λ (xs : List ℕ). TellsRows c.model tables (columns_at c.info numbers) xs h.0) (sym a.ids_are) h.1),
+  h.2,
 )
+answered c tables rose ids numbers (Err why) a h =
+    Refuses-weaker rose rose (MissesLeast c.model tables ids) (λ cause. ReadRefuses c.model c.info tables c.args c.kw cause) why (λ r. r) (misses c tables ids numbers a) h
 
-least_missing : (tables : Tables) (ids asked : List ℕ) (id : ℕ) → ids ≡ once asked → IsLeastGap tables ids id → IsLeastMissing line_schema tables asked id
-least_missing tables ids asked id e gap = record {
-  asked = Contains-from_once asked id (subst (λ (xs : List ℕ). Contains xs id) e gap.asked);
-  missing = gap.missing;
-  least = All-from_once (λ other. row_of tables 1 other ≡ None → id ≤ other) asked (subst (All (λ other. row_of tables 1 other ≡ None → id ≤ other)) e gap.least);
-}
+-- an id that is missing was asked for
+cause_of : (c : Called) (ids : List ℕ) (numbers : List FieldNo) → Asks c.info c.args c.kw ids numbers → (why : Refusal) → IsMissingAmong c.model ids why → ReadCause c why
+cause_of c ids numbers a (refusal.Missing m id) h = (a.asked, a.is, h.0, subst (λ (xs : List ℕ). Contains xs id.0) (sym a.ids_are) h.1)
+cause_of c ids numbers a (refusal.Request place) h = absurd h
+cause_of c ids numbers a (refusal.Right m op) h = absurd h
+cause_of c ids numbers a (refusal.FieldRight m field) h = absurd h
+cause_of c ids numbers a (refusal.Rule m op id name) h = absurd h
+cause_of c ids numbers a (refusal.Constraint b) h = absurd h
+cause_of c ids numbers a refusal.Keeper h = absurd h
+cause_of c ids numbers a refusal.NoMemory h = absurd h
 
-misses : (tables : Tables) (args : Data) (ids : List ℕ) (columns : List Column) → AskedOf line_schema args ids columns → (why : Refusal) → MissesLeast tables ids why → ReadRefuses line_schema tables args why
-misses tables args ids columns a (refusal.Missing m id) h = (a.asked, a.given, h.0, least_missing tables ids a.asked.ids id.0 a.distinct h.1)
-misses tables args ids columns a (refusal.Request place) h = absurd h
-misses tables args ids columns a (refusal.Right m op) h = absurd h
-misses tables args ids columns a (refusal.FieldRight m field) h = absurd h
-misses tables args ids columns a (refusal.Rule m op id name) h = absurd h
-misses tables args ids columns a (refusal.Constraint b) h = absurd h
-misses tables args ids columns a refusal.Keeper h = absurd h
-misses tables args ids columns a refusal.NoMemory h = absurd h
+-- what the call asks for, of a model that may be there
+abbrev pub AsksIn : Option ModelInfo → Call → List ℕ → List FieldNo → Type 0
+AsksIn found call ids numbers = IfSome found (λ info. Asks info (view call.args.now) (view call.kw.now) ids numbers)
 
-pub reads_gap : (rose : Type 0) (tables : Tables) (args : Data) (ids : List ℕ) (columns : List Column) (why : Refusal) → AskedOf line_schema args ids columns
-    → Refuses rose (MissesLeast tables ids) why → Refuses rose (λ cause. Reads line_schema tables args (Err cause)) why
-reads_gap rose tables args ids columns why a h =
-    Refuses-weaker rose rose (MissesLeast tables ids) (λ cause. Reads line_schema tables args (Err cause)) why (λ r. r) (misses tables args ids columns a) h
+-- the same, of a model that may be there
+answered_in : (found : Option ModelInfo) (call : Call) (rose : Type 0) (ids : List ℕ) (numbers : List FieldNo) (r : Result Data Refusal) (tables : Tables) → AsksIn found call ids numbers
+    → IfSome found (λ info. AnswersRows call.model tables (columns_at info numbers) ids rose r) → IfSome found (λ info. ReadAnswers tables (called_by call info) rose r)
+answered_in None call rose ids numbers r tables a h = tt
+answered_in (Some info) call rose ids numbers r tables a h = answered (called_by call info) tables rose ids numbers r a h
 
-cause_of : (args : Data) (ids : List ℕ) (columns : List Column) → AskedOf line_schema args ids columns → (why : Refusal) → IsMissingAmong ids why → ReadCause args why
-cause_of args ids columns a (refusal.Missing m id) h = (a.asked, a.given, h.0, Contains-from_once a.asked.ids id.0 (subst (λ (xs : List ℕ). Contains xs id.0) a.distinct h.1))
-cause_of args ids columns a (refusal.Request place) h = absurd h
-cause_of args ids columns a (refusal.Right m op) h = absurd h
-cause_of args ids columns a (refusal.FieldRight m field) h = absurd h
-cause_of args ids columns a (refusal.Rule m op id name) h = absurd h
-cause_of args ids columns a (refusal.Constraint b) h = absurd h
-cause_of args ids columns a refusal.Keeper h = absurd h
-cause_of args ids columns a refusal.NoMemory h = absurd h
+-- over a keeper that tells its rows it is the machine's answer
+pub told_answer : (models : List ModelInfo) (kept : Option Store) (call : Call) (rose : Type 0) (ids : List ℕ) (numbers : List FieldNo) (r : Result Data Refusal) → AsksIn (model_at models call.model) call ids numbers
+    → Told models kept (λ tables. IfSome (model_at models call.model) (λ info. AnswersRows call.model tables (columns_at info numbers) ids rose r))
+    → Told models kept (λ tables. IfSome (model_at models call.model) (λ info. ReadAnswers tables (called_by call info) rose r))
+told_answer models kept call rose ids numbers r a told =
+    told_map models kept (λ tables. IfSome (model_at models call.model) (λ info. AnswersRows call.model tables (columns_at info numbers) ids rose r))
+    (λ tables. IfSome (model_at models call.model) (λ info. ReadAnswers tables (called_by call info) rose r))
+    (λ tables. answered_in (model_at models call.model) call rose ids numbers r tables a) told
 
-pub causes_gap : (rose : Type 0) (args : Data) (ids : List ℕ) (columns : List Column) (why : Refusal) → AskedOf line_schema args ids columns
-    → Refuses rose (IsMissingAmong ids) why → Refuses rose (ReadCause args) why
-causes_gap rose args ids columns why a h = Refuses-weaker rose rose (IsMissingAmong ids) (ReadCause args) why (λ r. r) (cause_of args ids columns a) h
-
--- ---- over the keeper's tables
-
-pub told_answer : (kept : Option Store) (rose : Type 0) (args : Data) (columns : List LineColumn) (ids : List ℕ) (lines : List Line) (json : Data)
-    → AskedOf line_schema args ids (map column_of columns) → Told kept (λ tables. AreLinesOf tables ids lines) → json ≡ array (items_of (line_objects columns ids lines))
-    → Told kept (λ tables. ReadAnswers tables args rose (Ok json))
-told_answer kept rose args columns ids lines json a are told =
-    told_map kept (λ tables. AreLinesOf tables ids lines) (λ tables. ReadAnswers tables args rose (Ok json)) (λ tables h. reads_lines tables args columns ids lines json a h told) are
-
-pub told_refusal : (kept : Option Store) (rose : Type 0) (args : Data) (ids : List ℕ) (columns : List Column) (why : Refusal)
-    → AskedOf line_schema args ids columns → Told kept (λ tables. Refuses rose (MissesLeast tables ids) why) → Told kept (λ tables. ReadAnswers tables args rose (Err why))
-told_refusal kept rose args ids columns why a refused =
-    told_map kept (λ tables. Refuses rose (MissesLeast tables ids) why) (λ tables. ReadAnswers tables args rose (Err why)) (λ tables h. reads_gap rose tables args ids columns why a h) refused
+-- over any keeper a refusal has its cause
+pub told_causes : {T : Type 0} (found : Option ModelInfo) (call : Call) (rose : Type 0) (ids : List ℕ) (numbers : List FieldNo) (r : Result T Refusal) → AsksIn found call ids numbers
+    → IfErr r (Refuses rose (IsMissingAmong call.model ids)) → IfErr r (Refuses rose (λ why. IfSome found (λ info. ReadCause (called_by call info) why)))
+told_causes found call rose ids numbers (Ok json) a missing = tt
+told_causes found call rose ids numbers (Err why) a missing =
+    Refuses-weaker rose rose (IsMissingAmong call.model ids) (λ cause. IfSome found (λ info. ReadCause (called_by call info) cause)) why (λ r. r)
+    (λ cause h. known_map found (λ info. Asks info (view call.args.now) (view call.kw.now) ids numbers) (λ info. ReadCause (called_by call info) cause) (λ info b. cause_of (called_by call info) ids numbers b cause h) a) missing

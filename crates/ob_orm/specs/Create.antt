@@ -1,48 +1,82 @@
 -- The machine's `create`: one row of given values, under the model's next id.
-use Rattle.std.specs.Prelude.{◌≡◌, ℕ, ◌<◌, List, [], ◌∷◌, map, bytes_eq, if◌then◌else◌, Option, Some, None, option_map, option_and_then, Result, Ok, Err, Contains, ◌⊎◌, Bool}
-use Rattle.std.specs.Option.{option_map_or}
-use Rattle.std.specs.List.{list_any, list_all}
+use Rattle.std.specs.Prelude.{◌≡◌, ℕ, ◌<◌, ℤ, List, [], ◌∷◌, ◌++◌, codes, bytes_eq, if◌then◌else◌, Bool, true, ◌||◌, Option, Some, None, Result, Ok, Err, Contains, ◌⊎◌, unwrap_or}
 use Rattle.ob_base.specs.declared.id.Cell.{Cell}
+use Rattle.ob_base.specs.declared.id.ModelNo.{ModelNo}
+use Rattle.ob_base.specs.declared.place.PathStep.{PathStep}
+use Rattle.ob_base.specs.declared.place.PathStep.TheVariants.{Key}
 use Rattle.ob_base.specs.declared.refusal.Broken.{Broken}
 use Rattle.ob_base.specs.declared.refusal.BrokenKind.{BrokenKind}
 use Rattle.ob_base.specs.declared.refusal.BrokenKind.TheVariants as broken
 use Rattle.ob_base.specs.declared.refusal.Refusal.{Refusal}
 use Rattle.ob_base.specs.declared.refusal.Refusal.TheVariants as refusal
 use Rattle.ob_base.specs.declared.value.Value.{Value}
+use Rattle.ob_base.specs.declared.value.Value.TheVariants as value
+use Rattle.ob_codec.specs.JsonForm.{value_from, empty_value}
+use Rattle.ob_codec.specs.declared.fault.CodecFault.{CodecFault}
+use Rattle.ob_codec.specs.declared.fault.CodecFault.TheVariants as codec
 use Rattle.ob_expr.specs.Meaning.{ValueFault, overflow, too_long, zero_divisor}
-use Rattle.serde_json.specs.Data.{unsigned, Data, number, Members, no_members, member}
-use Rattle.serde_json.specs.Find.{get_member, as_array, as_object}
-use Rattle.ob_orm.specs.Schema.{Column, ModelSchema, plain_columns}
+use Rattle.ob_schema.specs.Fields.{Column, columns, plain_columns}
+use Rattle.ob_schema.specs.declared.info.FieldInfo.{FieldInfo}
+use Rattle.ob_schema.specs.declared.info.ModelInfo.{ModelInfo}
+use Rattle.serde_json.specs.Data.{unsigned, Data, null, boolean, number, string, array, object, Members, no_members}
+use Rattle.serde_json.specs.Find.{get_member}
+use Rattle.ob_orm.specs.declared.forms.Form.TheVariants as form
+use Rattle.ob_orm.specs.Arguments.{◌>>=◌, Expected, Given, arguments_of}
 use Rattle.ob_orm.specs.Tables.{Row, Tables, next_id, made}
 use Rattle.ob_orm.specs.Scratch.{val}
-use Rattle.ob_orm.specs.Json.{read_value, unset, all_some, listed}
 
--- the keys of an object
-abbrev pub keys_of : Members → List (List ℕ)
-keys_of no_members = []
-keys_of (member key d members) = key ∷ keys_of members
+-- what a create is called with: an object of values
+abbrev pub create_expects : List Expected
+create_expects = record { name = codes "vals"; required = true; form = form.Values } ∷ []
 
--- the value that an object gives a column, none where it is of another form
-abbrev pub given : Column → Members → Option Value
-given column members = option_map_or (read_value column.kind) (get_member column.name members) (Some (unset column.kind))
+-- the place below a value where it is not of its form
+abbrev pub place_of : CodecFault → List PathStep
+place_of (codec.Shape place) = place
+place_of (codec.Range place) = place
+place_of (codec.Unknown place) = place
+place_of codec.NoMemory = []
 
--- whether one of the columns has the name
-abbrev pub is_named : List Column → List ℕ → Bool
-is_named columns name = list_any (λ column. bytes_eq column.name name) columns
+-- a value that was read at a place, or the place that is wrong
+abbrev pub placed : List PathStep → Result Value CodecFault → Result Value (List PathStep)
+placed place (Ok v) = Ok v
+placed place (Err fault) = Err (place ++ place_of fault)
 
--- the row of an object: each key names a plain column, and each value has its form
-abbrev pub object_row : List Column → Members → Option Row
-object_row columns members = if list_all (is_named columns) (keys_of members) then all_some (map (λ column. option_map (λ v. (column.field, v)) (given column members)) columns) else None
+-- the moments at which a row was made and last changed
+abbrev pub is_stamp : List ℕ → Bool
+is_stamp name = bytes_eq name (codes "create_date") || bytes_eq name (codes "write_date")
 
--- the one item of a list of one
-abbrev pub only_item : List Data → Option Data
-only_item [] = None
-only_item (d ∷ []) = Some d
-only_item (d ∷ e ∷ ds) = None
+-- the value that a field is given at a place, its key; else its default; else what stands for nothing
+abbrev pub given_value : List PathStep → FieldInfo → Option Data → Result Value (List PathStep)
+given_value place field None = Ok (unwrap_or field.default (empty_value field.field_type))
+given_value place field (Some d) = placed place (value_from field.field_type field.selection d)
 
--- the row that a create makes: its arguments are a list of one object
-abbrev pub new_row : ModelSchema → Data → Option Row
-new_row model args = option_and_then (λ items. option_and_then (λ d. option_and_then (object_row (plain_columns model)) (as_object d)) (only_item (listed items))) (as_array args)
+-- the plain value of a new row's field: the moment in a stamp, else what the object at a place gives
+abbrev pub new_value : ℤ → List PathStep → Members → FieldInfo → Result Value (List PathStep)
+new_value now place members field = if is_stamp field.name then Ok (value.Moment now) else given_value (place ++ Key field.name ∷ []) field (get_member field.name members)
+
+-- the plain values of a new row in these fields, or the first place that is wrong, in byte order of the fields' names
+abbrev pub new_row : ℤ → List PathStep → Members → List Column → Result Row (List PathStep)
+new_row now place _ [] = Ok []
+new_row now place members (column ∷ more) = new_value now place members column.1 >>= λ own. new_row now place members more >>= λ row. Ok ((column.0, own) ∷ row)
+
+-- the members of an object; nothing else has any
+abbrev pub members_of : Data → Members
+members_of null = no_members
+members_of (boolean b) = no_members
+members_of (number n) = no_members
+members_of (string text) = no_members
+members_of (array items) = no_members
+members_of (object members) = members
+
+-- the row of the one argument
+abbrev pub row_from : ModelInfo → ℤ → List (Option Given) → Result Row (List PathStep)
+row_from info now [] = Ok []
+row_from info now (None ∷ gs) = Ok []
+row_from info now (Some g ∷ gs) = new_row now g.place (members_of g.json) (plain_columns info)
+
+-- the row that a create makes at a moment, or the first place that is wrong: of the arguments, then of the values
+abbrev pub created_row : ModelInfo → ℤ → (args kw : Data) → Result Row (List PathStep)
+created_row info now args kw = arguments_of info create_expects args kw >>= row_from info now
 
 -- how a cell is broken whose formula has this fault
 abbrev pub kind_of : ValueFault → BrokenKind
@@ -50,35 +84,47 @@ kind_of overflow = broken.Overflow
 kind_of too_long = broken.TooLong
 kind_of zero_divisor = broken.ZeroDivisor
 
--- the cell of a field of a row of the model
-abbrev pub cell_of : ModelSchema → ℕ → ℕ → Cell
-cell_of model id field = record { model = record { 0 = model.number }; id = record { 0 = id }; field = record { 0 = field } }
+-- a field of the row
+abbrev pub cell_of : ModelNo → ℕ → ℕ → Cell
+cell_of model id field = record { model = model; id = record { 0 = id }; field = record { 0 = field } }
 
--- a column of the row has this fault
-pub record HasFault (model : ModelSchema) (row : Row) (column : Column) (fault : ValueFault) : Type 0 where
-  pub column_of : Contains model.columns column
-  pub faults : val column row ≡ Err fault
+-- a field of the row has this fault
+pub record HasFault (info : ModelInfo) (id : ℕ) (row : Row) (column : Column) (fault : ValueFault) : Type 0 where
+  pub column_of : Contains (columns info) column
+  pub faults : val column id row ≡ Err fault
 
--- What the row would break under this id: the id is past its limit, or a column has no value.
-abbrev pub Breaks : ModelSchema → ℕ → Row → Broken → Type 0
-Breaks model id row b =
-    ((4294967295 < id) × (b ≡ record { kind = broken.Limit; cell = cell_of model id model.id_field }))
-    ⊎ ((column : Column) × (fault : ValueFault) × HasFault model row column fault × (b ≡ record { kind = kind_of fault; cell = cell_of model id column.field }))
+-- the field `id` of the model
+pub record IsIdColumn (info : ModelInfo) (column : Column) : Type 0 where
+  pub column_of : Contains (columns info) column
+  pub named : column.1.name ≡ codes "id"
 
--- why a create is refused where the model's next id is this
-abbrev pub CreateRefuses : ModelSchema → ℕ → Data → Refusal → Type 0
-CreateRefuses model next args (refusal.Request place) = (new_row model args ≡ None) × (place ≡ [])
-CreateRefuses model next args (refusal.Constraint b) = (row : Row) × (new_row model args ≡ Some row) × Breaks model next row b
-CreateRefuses model next args (refusal.Right m op) = ⊥
-CreateRefuses model next args (refusal.FieldRight m field) = ⊥
-CreateRefuses model next args (refusal.Missing m id) = ⊥
-CreateRefuses model next args (refusal.Rule m op id name) = ⊥
-CreateRefuses model next args refusal.Keeper = ⊥
-CreateRefuses model next args refusal.NoMemory = ⊥
+-- What the row would break under this id: the id is past its limit, or a field has no value.
+abbrev pub Breaks : ModelNo → ModelInfo → ℕ → Row → Broken → Type 0
+Breaks model info id row b =
+    ((4294967295 < id) × (column : Column) × IsIdColumn info column × (b ≡ record { kind = broken.Limit; cell = cell_of model id column.0 }))
+    ⊎ ((column : Column) × (fault : ValueFault) × HasFault info id row column fault × (b ≡ record { kind = kind_of fault; cell = cell_of model id column.0 }))
+
+-- why a create at this moment is refused where the model's next id is this
+abbrev pub CreateRefuses : ModelNo → ModelInfo → ℤ → ℕ → (args kw : Data) → Refusal → Type 0
+CreateRefuses model info now next args kw (refusal.Request place) = created_row info now args kw ≡ Err place
+CreateRefuses model info now next args kw (refusal.Constraint b) = (row : Row) × (created_row info now args kw ≡ Ok row) × Breaks model info next row b
+CreateRefuses model info now next args kw (refusal.Right m op) = ⊥
+CreateRefuses model info now next args kw (refusal.FieldRight m field) = ⊥
+CreateRefuses model info now next args kw (refusal.Missing m id) = ⊥
+CreateRefuses model info now next args kw (refusal.Rule m op id name) = ⊥
+CreateRefuses model info now next args kw refusal.Keeper = ⊥
+CreateRefuses model info now next args kw refusal.NoMemory = ⊥
+
+-- a create that is carried out: nothing is broken, and the row stands under the next id, which is the answer
+pub record IsCreated (model : ModelNo) (info : ModelInfo) (now : ℤ) (old : Tables) (args kw json : Data) (new : Tables) : Type 0 where
+  pub row : Row
+  pub given : created_row info now args kw ≡ Ok row
+  pub whole : (b : Broken) → Breaks model info (next_id old model) row b → ⊥
+  pub answer : json ≡ number (unsigned (next_id old model))
+  pub tables : new ≡ made model row old
 
 -- The machine may answer a create so, and go on to these tables: with the new id where
--- nothing is broken, else with what is, changing nothing.
-abbrev pub Creates : ModelSchema → Tables → Data → Result Data Refusal → Tables → Type 0
-Creates model old args (Ok json) new = (row : Row) × (new_row model args ≡ Some row) × ((b : Broken) → Breaks model (next_id old model.number) row b → ⊥)
-    × (json ≡ number (unsigned (next_id old model.number))) × (new ≡ made model.number row old)
-Creates model old args (Err why) new = CreateRefuses model (next_id old model.number) args why × (new ≡ old)
+-- nothing is wrong, else with what is, changing nothing.
+abbrev pub Creates : ModelNo → ModelInfo → ℤ → Tables → (args kw : Data) → Result Data Refusal → Tables → Type 0
+Creates model info now old args kw (Ok json) new = IsCreated model info now old args kw json new
+Creates model info now old args kw (Err why) new = CreateRefuses model info now (next_id old model) args kw why × (new ≡ old)

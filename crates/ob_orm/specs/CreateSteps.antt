@@ -1,10 +1,132 @@
--- What the steps of a create read of its arguments.
-use Rattle.std.specs.Prelude.{Option, option_and_then}
-use Rattle.serde_json.specs.Data.{Data, Members}
-use Rattle.serde_json.specs.Find.{as_array, as_object}
-use Rattle.ob_orm.specs.Create.{only_item}
-use Rattle.ob_orm.specs.Json.{listed}
+-- What the steps of a create say of their results.
+use Rattle.std.specs.Prelude.{◌≡◌, ℕ, ◌-◌, ◌+◌, ◌≤◌, ◌++◌, List, [], ◌∷◌, length, map, All, IfSome, true, false, if◌then◌else◌, get_or, Option, Some, None, Result, Ok, Err, ⊤}
+use Rattle.std.specs.Str.{IsUtf8}
+use Rattle.ob_base.specs.declared.place.PathStep.{PathStep}
+use Rattle.ob_codec.specs.declared.fault.CodecFault.{CodecFault}
+use Rattle.ob_codec.specs.declared.fault.CodecFault.TheVariants as codec
+use Rattle.ob_orm.specs.Parameters.{Gives, IsMalformedAt}
+use Rattle.ob_base.specs.declared.id.Cell.{Cell}
+use Rattle.ob_base.specs.declared.id.ModelNo.{ModelNo}
+use Rattle.ob_base.specs.declared.refusal.Refusal.{Refusal}
+use Rattle.ob_base.specs.declared.refusal.Refusal.TheVariants as refusal
+use Rattle.ob_base.specs.declared.value.Value.{Value}
+use Rattle.ob_base.specs.declared.value.Value.TheVariants as value
+use Rattle.ob_codec.specs.RowForm.{HoldAll, row_form}
+use Rattle.ob_expr.specs.Checking.{TypedTree, EachField}
+use Rattle.ob_expr.specs.Meaning.{HasKind, ValueFault}
+use Rattle.ob_schema.specs.Fields.{Column, Holds, columns, is_kept, is_plain_kept, kept_fields, plain_columns}
+use Rattle.ob_io.specs.declared.store.Change.{Change}
+use Rattle.ob_io.specs.declared.store.Change.TheVariants.{Put, Next}
+use Rattle.ob_schema.specs.Models.{kept_at}
+use Rattle.ob_schema.specs.Types.{is_list}
+use Rattle.ob_schema.specs.declared.field_type.FieldType.TheVariants as type
+use Rattle.ob_schema.specs.declared.info.FieldInfo.{FieldInfo}
+use Rattle.ob_schema.specs.declared.info.ModelInfo.{ModelInfo}
+use Rattle.ob_orm.specs.Create.{HasFault, cell_of, is_stamp, kind_of}
+use Rattle.ob_orm.specs.Evaluations.{is_computed}
+use Rattle.ob_orm.specs.Kept.{kept_values}
+use Rattle.ob_orm.specs.Scratch.{val}
+use Rattle.ob_orm.specs.Sound.{HasForms, HasValue}
+use Rattle.ob_orm.specs.Tables.{Row}
 
--- the members of the one object of a list of one
-abbrev pub one_object_of : Data → Option Members
-one_object_of args = option_and_then (λ items. option_and_then as_object (only_item (listed items))) (as_array args)
+-- the value of a field among values by number
+abbrev pub held_at : List Value → ℕ → Value
+held_at values number = get_or values (number - 1) value.Nil
+
+-- the plain values of a row among values by number
+abbrev pub gathered : ModelInfo → List Value → Row
+gathered info values = map (λ column. (column.0, held_at values column.0)) (plain_columns info)
+
+-- one value for each field, the plain ones of their forms
+pub record ArePlain (info : ModelInfo) (values : List Value) : Type 0 where
+  pub forms : HasForms (plain_columns info) (gathered info values)
+  pub count : length values ≡ length info.fields
+
+-- a field to which a create may give a value: a stamp is a moment, and a default fits
+pub record IsGivable (field : FieldInfo) : Type 0 where
+  pub no_list : is_list field.field_type ≡ false
+  pub stamp : is_stamp field.name ≡ true → field.field_type ≡ type.Datetime
+  pub default : IfSome field.default (Holds field)
+
+-- a plain value, where calls give the field one, or what is told of the place that is wrong
+abbrev pub TakesValue : FieldInfo → Result Value (List PathStep) → Result Value Refusal → Type 0
+TakesValue field meant (Ok v) = is_plain_kept field ≡ true → (meant ≡ Ok v) × Holds field v
+TakesValue field meant (Err why) = (is_plain_kept field ≡ true) × Gives (λ v. v) (Err why) meant
+
+-- the refusal tells a fault at its place below this one
+abbrev pub IsFaultAt : List PathStep → CodecFault → Refusal → Type 0
+IsFaultAt place (codec.Shape below) why = IsMalformedAt (place ++ below) why
+IsFaultAt place (codec.Range below) why = IsMalformedAt (place ++ below) why
+IsFaultAt place (codec.Unknown below) why = IsMalformedAt (place ++ below) why
+IsFaultAt place codec.NoMemory why = why ≡ refusal.NoMemory
+
+-- a text is UTF-8
+abbrev pub IsTextual : Value → Type 0
+IsTextual value.Nil = ⊤
+IsTextual (value.Bool b) = ⊤
+IsTextual (value.Int n) = ⊤
+IsTextual (value.Word text) = IsUtf8 text
+IsTextual (value.Day n) = ⊤
+IsTextual (value.Moment n) = ⊤
+IsTextual (value.Ref id) = ⊤
+IsTextual (value.Refs ids) = ⊤
+
+-- each field of the tree is among the values, and its value is of its kind
+abbrev pub HoldsOperands : List Value → TypedTree → Type 0
+HoldsOperands values = EachField (λ number k. (1 ≤ number.0) × (number.0 ≤ length values) × HasKind k (held_at values number.0))
+
+-- the cell is broken by what its value is, or memory is wanting
+abbrev pub BreaksCell : Cell → Result Value ValueFault → Refusal → Type 0
+BreaksCell cell meant (refusal.Request place) = ⊥
+BreaksCell cell meant (refusal.Right m op) = ⊥
+BreaksCell cell meant (refusal.FieldRight m field) = ⊥
+BreaksCell cell meant (refusal.Missing m id) = ⊥
+BreaksCell cell meant (refusal.Rule m op id name) = ⊥
+BreaksCell cell meant (refusal.Constraint b) = (fault : ValueFault) × (meant ≡ Err fault) × (b ≡ record { kind = kind_of fault; cell = cell })
+BreaksCell cell meant refusal.Keeper = ⊥
+BreaksCell cell meant refusal.NoMemory = ⊤
+
+-- the value, or how its cell is broken, or want of memory
+abbrev pub GivesValue : Cell → Result Value ValueFault → Result Value Refusal → Type 0
+GivesValue cell meant (Ok v) = meant ≡ Ok v
+GivesValue cell meant (Err why) = BreaksCell cell meant why
+
+-- what a row keeps of a field: its value, which the field may hold; nothing of the id
+abbrev pub KeepsField : Column → ℕ → Row → Option Value → Type 0
+KeepsField column id row None = (is_kept column.1 ≡ false) × HasValue id row column
+KeepsField column id row (Some v) = (is_kept column.1 ≡ true) × (val column id row ≡ Ok v) × Holds column.1 v
+
+-- what the row keeps of a field, or how its cell is broken, or want of memory
+abbrev pub GivesField : Column → Cell → Row → Result (Option Value) Refusal → Type 0
+GivesField column cell row (Ok kept) = KeepsField column cell.id.0 row kept
+GivesField column cell row (Err why) = BreaksCell cell (val column cell.id.0 row) why
+
+-- how often a field is evaluated
+abbrev pub evaluations_of : FieldInfo → ℕ
+evaluations_of field = if is_computed field.origin then 1 else 0
+
+-- the values that a row keeps, each from scratch and of its form
+pub record AreKept (info : ModelInfo) (id : ℕ) (row : Row) (values : List Value) : Type 0 where
+  pub same : values ≡ kept_values info id row
+  pub whole : All (HasValue id row) (columns info)
+  pub hold : HoldAll (kept_fields info) values
+
+-- the changes that put a row of kept values under an id and raise the next id
+abbrev pub changes_of : List ModelInfo → ModelNo → ℕ → List Value → List Change
+changes_of models model id values = Put model (record { id = record { 0 = id }; body = row_form (kept_at models model) values; links = [] }) ∷ Next model (id + 1) ∷ []
+
+-- a field of the row has no value, or memory is wanting
+abbrev pub BreaksRow : ModelNo → ModelInfo → ℕ → Row → Refusal → Type 0
+BreaksRow model info id row (refusal.Request place) = ⊥
+BreaksRow model info id row (refusal.Right m op) = ⊥
+BreaksRow model info id row (refusal.FieldRight m field) = ⊥
+BreaksRow model info id row (refusal.Missing m i) = ⊥
+BreaksRow model info id row (refusal.Rule m op i name) = ⊥
+BreaksRow model info id row (refusal.Constraint b) = (column : Column) × (fault : ValueFault) × HasFault info id row column fault × (b ≡ record { kind = kind_of fault; cell = cell_of model id column.0 })
+BreaksRow model info id row refusal.Keeper = ⊥
+BreaksRow model info id row refusal.NoMemory = ⊤
+
+-- the values that the row keeps, or what it would break, or want of memory
+abbrev pub GivesKept : ModelNo → ModelInfo → ℕ → Row → Result (List Value) Refusal → Type 0
+GivesKept model info id row (Ok values) = AreKept info id row values
+GivesKept model info id row (Err why) = BreaksRow model info id row why

@@ -1,88 +1,113 @@
 -- The machine's `read`: the named fields of the named rows.
-use Rattle.std.specs.Prelude.{◌≡◌, ℕ, ◌≤◌, ◌==◌, ◌&&◌, nat_le, List, [], ◌∷◌, map, filter, find, not, codes, bytes_eq, if◌then◌else◌, Option, Some, None, option_map, option_and_then, Result, Ok, Err, Contains, All}
+use Rattle.std.specs.Prelude.{◌≡◌, ℕ, ◌≤◌, ◌==◌, List, [], ◌∷◌, filter, not, codes, Bool, true, false, Option, Some, None, Result, Ok, Err, Contains, All, ⊤}
+use Rattle.std.specs.List.{filter_map, list_any}
+use Rattle.std.specs.Option.{option_map_or}
+use Rattle.ob_base.specs.declared.id.ModelNo.{ModelNo}
+use Rattle.ob_base.specs.declared.place.PathStep.{PathStep}
 use Rattle.ob_base.specs.declared.refusal.Refusal.{Refusal}
 use Rattle.ob_base.specs.declared.refusal.Refusal.TheVariants as refusal
-use Rattle.serde_json.specs.Data.{unsigned, Data, number, array, object, Members, no_members, member, put}
-use Rattle.serde_json.specs.Find.{as_u64, as_number, as_str, as_array}
+use Rattle.ob_codec.specs.JsonForm.{Tells}
+use Rattle.ob_schema.specs.Fields.{Column, columns}
+use Rattle.ob_schema.specs.declared.info.ModelInfo.{ModelInfo}
+use Rattle.serde_json.specs.Data.{unsigned, Data, null, boolean, number, string, array, object, Members, no_members, put}
 use Rattle.serde_json.specs.View.{items_of}
-use Rattle.ob_orm.specs.Schema.{Column, ModelSchema}
+use Rattle.ob_orm.specs.declared.forms.Form.TheVariants as form
+use Rattle.ob_orm.specs.Arguments.{◌>>=◌, Expected, Given, arguments_of, id_from, listed, number_from}
 use Rattle.ob_orm.specs.Tables.{Row, Tables, row_of}
 use Rattle.ob_orm.specs.Scratch.{val_or_unset}
-use Rattle.ob_orm.specs.Json.{value_data, all_some, listed}
 
--- what a read asks for
-pub record ReadArgs : Type 0 where
-  pub ids : List ℕ
-  pub columns : List Column
+-- what a read is called with: ids, fields, and a way of loading that is not read
+abbrev pub read_expects : List Expected
+read_expects = record { name = codes "ids"; required = true; form = form.Ids } ∷ record { name = codes "fields"; required = false; form = form.Fields } ∷ record { name = codes "load"; required = false; form = form.Unread } ∷ []
 
--- an id within its limits
-abbrev pub id_from : Data → Option ℕ
-id_from d = option_and_then (λ n. if nat_le 1 n && nat_le n 4294967295 then Some n else None) (option_and_then as_u64 (as_number d))
+-- the ids of an argument of that form
+abbrev pub ids_in : Data → List ℕ
+ids_in null = []
+ids_in (boolean b) = []
+ids_in (number n) = filter_map id_from (number n ∷ [])
+ids_in (string text) = []
+ids_in (array items) = filter_map id_from (listed items)
+ids_in (object _) = []
 
--- the column that a text names
-abbrev pub column_from : ModelSchema → Data → Option Column
-column_from model d = option_and_then (λ name. find (λ column. bytes_eq column.name name) model.columns) (as_str d)
+-- whether one of these texts names the field of this number
+abbrev pub is_named : ModelInfo → List Data → ℕ → Bool
+is_named info names n = list_any (λ d. option_map_or (λ named. named.0 == n) (number_from info d) false) names
 
--- at least one column
-abbrev pub some_columns : List Column → Option (List Column)
-some_columns [] = None
-some_columns (column ∷ columns) = Some (column ∷ columns)
+-- the fields that the texts of a list name, or all where it is empty
+abbrev pub columns_named : ModelInfo → List Data → List Column
+columns_named info [] = columns info
+columns_named info (d ∷ ds) = filter (λ column. is_named info (d ∷ ds) column.0) (columns info)
 
--- a list of ids, and a list of at least one column's name
-abbrev pub read_lists : ModelSchema → Data → Data → Option ReadArgs
-read_lists model ids fields = option_and_then (λ found_ids. option_map (λ found. record { ids = found_ids; columns = found })
-    (option_and_then some_columns (option_and_then (λ items. all_some (map (column_from model) (listed items))) (as_array fields))))
-    (option_and_then (λ items. all_some (map id_from (listed items))) (as_array ids))
-
--- two of a list of two
-abbrev pub read_items : ModelSchema → List Data → Option ReadArgs
-read_items model [] = None
-read_items model (d ∷ []) = None
-read_items model (ids ∷ fields ∷ []) = read_lists model ids fields
-read_items model (d ∷ e ∷ f ∷ ds) = None
-
--- what the arguments of a read ask for
-abbrev pub read_args : ModelSchema → Data → Option ReadArgs
-read_args model args = option_and_then (λ items. read_items model (listed items)) (as_array args)
+-- the fields of an argument of that form
+abbrev pub columns_in : ModelInfo → Data → List Column
+columns_in info null = []
+columns_in info (boolean b) = []
+columns_in info (number n) = []
+columns_in info (string text) = []
+columns_in info (array items) = columns_named info (listed items)
+columns_in info (object _) = []
 
 -- each id once, at its first place
 abbrev pub once : List ℕ → List ℕ
 once [] = []
 once (id ∷ ids) = id ∷ filter (λ other. not (other == id)) (once ids)
 
--- the columns of a row, put into an object one after another
-abbrev pub put_columns : List Column → Row → Members → Members
-put_columns [] row members = members
-put_columns (column ∷ columns) row members = put_columns columns row (put column.name (value_data (val_or_unset column row)) members)
+-- what a read asks for
+pub record Asked : Type 0 where
+  pub ids : List ℕ
+  pub fields : List Column
 
--- the object that tells of a row: its id and these columns
-abbrev pub row_object : List Column → ℕ → Row → Data
-row_object columns id row = object (put_columns columns row (member (codes "id") (number (unsigned id)) no_members))
+-- the fields that are asked for: all where none is named
+abbrev pub asked_columns : ModelInfo → Option Given → List Column
+asked_columns info None = columns info
+asked_columns info (Some g) = columns_in info g.json
 
--- the object that tells of the row of an id, where there is one
-abbrev pub told_row : ModelSchema → Tables → List Column → ℕ → Option Data
-told_row model tables columns id = option_map (row_object columns id) (row_of tables model.number id)
+-- what the arguments ask for; the ids are given
+abbrev pub asked_by : ModelInfo → List (Option Given) → Asked
+asked_by info [] = record { ids = []; fields = [] }
+asked_by info (None ∷ gs) = record { ids = []; fields = [] }
+asked_by info (Some ids ∷ []) = record { ids = once (ids_in ids.json); fields = columns info }
+asked_by info (Some ids ∷ fields ∷ gs) = record { ids = once (ids_in ids.json); fields = asked_columns info fields }
+
+-- what a read asks for, or the first place that is wrong
+abbrev pub asked_of : ModelInfo → (args kw : Data) → Result Asked (List PathStep)
+asked_of info args kw = arguments_of info read_expects args kw >>= λ given. Ok (asked_by info given)
+
+-- the object so far has what tells of these fields of a row, and becomes this object
+abbrev pub TellsFields : ℕ → Row → List Column → Members → Data → Type 0
+TellsFields id row [] members d = d ≡ object members
+TellsFields id row (column ∷ more) members d = (own : Data) × Tells (val_or_unset column id row) own × TellsFields id row more (put column.1.name own members) d
+
+-- the object that tells of a row: its id and these fields
+abbrev pub TellsRow : List Column → ℕ → Row → Data → Type 0
+TellsRow fields id row d = TellsFields id row fields (put (codes "id") (number (unsigned id)) no_members) d
+
+-- each id has a row, and an object that tells of it, in the order of the ids
+abbrev pub TellsRows : ModelNo → Tables → List Column → List ℕ → List Data → Type 0
+TellsRows model tables fields [] [] = ⊤
+TellsRows model tables fields [] (d ∷ ds) = ⊥
+TellsRows model tables fields (id ∷ ids) [] = ⊥
+TellsRows model tables fields (id ∷ ids) (d ∷ ds) = (row : Row) × (row_of tables model id ≡ Some row) × TellsRow fields id row d × TellsRows model tables fields ids ds
 
 -- the least of the ids that no row has
-pub record IsLeastMissing (model : ModelSchema) (tables : Tables) (ids : List ℕ) (id : ℕ) : Type 0 where
+pub record IsLeastMissing (model : ModelNo) (tables : Tables) (ids : List ℕ) (id : ℕ) : Type 0 where
   pub asked : Contains ids id
-  pub missing : row_of tables model.number id ≡ None
-  pub least : All (λ other. row_of tables model.number other ≡ None → id ≤ other) ids
+  pub missing : row_of tables model id ≡ None
+  pub least : All (λ other. row_of tables model other ≡ None → id ≤ other) ids
 
 -- why a read is refused
-abbrev pub ReadRefuses : ModelSchema → Tables → Data → Refusal → Type 0
-ReadRefuses model tables args (refusal.Request place) = (read_args model args ≡ None) × (place ≡ [])
-ReadRefuses model tables args (refusal.Missing m id) = (asked : ReadArgs) × (read_args model args ≡ Some asked) × (m.0 ≡ model.number) × IsLeastMissing model tables asked.ids id.0
-ReadRefuses model tables args (refusal.Constraint b) = ⊥
-ReadRefuses model tables args (refusal.Right m op) = ⊥
-ReadRefuses model tables args (refusal.FieldRight m field) = ⊥
-ReadRefuses model tables args (refusal.Rule m op id name) = ⊥
-ReadRefuses model tables args refusal.Keeper = ⊥
-ReadRefuses model tables args refusal.NoMemory = ⊥
+abbrev pub ReadRefuses : ModelNo → ModelInfo → Tables → (args kw : Data) → Refusal → Type 0
+ReadRefuses model info tables args kw (refusal.Request place) = asked_of info args kw ≡ Err place
+ReadRefuses model info tables args kw (refusal.Missing m id) = (asked : Asked) × (asked_of info args kw ≡ Ok asked) × (m ≡ model) × IsLeastMissing model tables asked.ids id.0
+ReadRefuses model info tables args kw (refusal.Constraint b) = ⊥
+ReadRefuses model info tables args kw (refusal.Right m op) = ⊥
+ReadRefuses model info tables args kw (refusal.FieldRight m field) = ⊥
+ReadRefuses model info tables args kw (refusal.Rule m op id name) = ⊥
+ReadRefuses model info tables args kw refusal.Keeper = ⊥
+ReadRefuses model info tables args kw refusal.NoMemory = ⊥
 
 -- The machine answers a read with the objects of the rows, in the order of their ids,
 -- or with why not.
-abbrev pub Reads : ModelSchema → Tables → Data → Result Data Refusal → Type 0
-Reads model tables args (Ok json) = (asked : ReadArgs) × (objects : List Data) × (read_args model args ≡ Some asked)
-    × (all_some (map (told_row model tables asked.columns) (once asked.ids)) ≡ Some objects) × (json ≡ array (items_of objects))
-Reads model tables args (Err why) = ReadRefuses model tables args why
+abbrev pub Reads : ModelNo → ModelInfo → Tables → (args kw : Data) → Result Data Refusal → Type 0
+Reads model info tables args kw (Ok json) = (asked : Asked) × (objects : List Data) × (asked_of info args kw ≡ Ok asked) × TellsRows model tables asked.fields asked.ids objects × (json ≡ array (items_of objects))
+Reads model info tables args kw (Err why) = ReadRefuses model info tables args kw why

@@ -1,19 +1,27 @@
 -- How a refusal is told: a name, and a message.
-use Rattle.std.specs.Prelude.{ℕ, ◌==◌, List, [], ◌++◌, codes, decimal, find, Option, Some, None, if◌then◌else◌}
+use Rattle.std.specs.Prelude.{ℕ, List, [], ◌++◌, codes, decimal, Option, Some, None}
 use Rattle.std.specs.Option.{option_map_or}
+use Rattle.ob_base.specs.declared.id.FieldNo.{FieldNo}
+use Rattle.ob_base.specs.declared.id.ModelNo.{ModelNo}
+use Rattle.ob_base.specs.declared.id.RecId.{RecId}
 use Rattle.ob_base.specs.declared.refusal.Refusal.{Refusal}
 use Rattle.ob_base.specs.declared.refusal.Refusal.TheVariants as refusal
 use Rattle.ob_base.specs.Names.{op_name, kind_name}
 use Rattle.ob_base.specs.PathText.{path_text}
-use Rattle.ob_orm.specs.Schema.{ModelSchema}
+use Rattle.ob_schema.specs.Models.{field_at, model_at}
+use Rattle.ob_schema.specs.declared.info.ModelInfo.{ModelInfo}
 
--- the name of a model's field
-abbrev pub field_name : ModelSchema → ℕ → List ℕ
-field_name model field = if field == model.id_field then codes "id" else option_map_or (λ column. column.name) (find (λ column. column.field == field) model.columns) []
+-- the name of a model, empty where there is none of the number
+abbrev pub model_name : List ModelInfo → ModelNo → List ℕ
+model_name models model = option_map_or (λ info. info.name) (model_at models model) []
+
+-- the name of a field, empty where there is none of the number
+abbrev pub field_name : List ModelInfo → ModelNo → FieldNo → List ℕ
+field_name models model field = option_map_or (λ info. info.name) (field_at models model field) []
 
 -- a row, as messages name it
-abbrev pub row_text : ModelSchema → ℕ → List ℕ
-row_text model id = model.name ++ codes " " ++ decimal id
+abbrev pub row_text : List ModelInfo → ModelNo → RecId → List ℕ
+row_text models model id = model_name models model ++ codes " " ++ decimal id.0
 
 -- the name of a refusal
 abbrev pub refusal_name : Refusal → List ℕ
@@ -31,13 +39,13 @@ abbrev pub denial : Option (List ℕ) → List ℕ → List ℕ
 denial None op = []
 denial (Some rule) op = codes " by " ++ rule ++ codes " for " ++ op
 
--- the message of a refusal, over the one model
-abbrev pub refusal_message : ModelSchema → Refusal → List ℕ
-refusal_message model (refusal.Request place) = codes "malformed at " ++ path_text place
-refusal_message model (refusal.Right m op) = codes "no right " ++ op_name op ++ codes " on " ++ model.name
-refusal_message model (refusal.FieldRight m field) = codes "no right on " ++ model.name ++ codes "." ++ field_name model field.0
-refusal_message model (refusal.Missing m id) = row_text model id.0 ++ codes " does not exist"
-refusal_message model (refusal.Rule m op id name) = row_text model id.0 ++ codes " is not admitted" ++ denial name (op_name op)
-refusal_message model (refusal.Constraint b) = row_text model b.cell.id.0 ++ codes " " ++ field_name model b.cell.field.0
-refusal_message model refusal.Keeper = codes "keeper fault"
-refusal_message model refusal.NoMemory = codes "no memory"
+-- the message of a refusal, over the models of the registry
+abbrev pub refusal_message : List ModelInfo → Refusal → List ℕ
+refusal_message models (refusal.Request place) = codes "malformed at " ++ path_text place
+refusal_message models (refusal.Right m op) = codes "no right " ++ op_name op ++ codes " on " ++ model_name models m
+refusal_message models (refusal.FieldRight m field) = codes "no right on " ++ model_name models m ++ codes "." ++ field_name models m field
+refusal_message models (refusal.Missing m id) = row_text models m id ++ codes " does not exist"
+refusal_message models (refusal.Rule m op id name) = row_text models m id ++ codes " is not admitted" ++ denial name (op_name op)
+refusal_message models (refusal.Constraint b) = row_text models b.cell.model b.cell.id ++ codes " " ++ field_name models b.cell.model b.cell.field
+refusal_message models refusal.Keeper = codes "keeper fault"
+refusal_message models refusal.NoMemory = codes "no memory"

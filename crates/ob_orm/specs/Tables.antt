@@ -2,6 +2,7 @@
 use Rattle.std.specs.Prelude.{ℕ, ◌+◌, ◌==◌, List, [], ◌∷◌, if◌then◌else◌, Option, unwrap_or}
 use Rattle.std.specs.Ordering.{nat_cmp}
 use Rattle.std.specs.FinMap as finite
+use Rattle.ob_base.specs.declared.id.ModelNo.{ModelNo}
 use Rattle.ob_base.specs.declared.value.Value.{Value}
 use Rattle.ob_base.specs.declared.value.Value.TheVariants.{Nil}
 use Rattle.ob_io.specs.Store.{row_key_cmp}
@@ -20,16 +21,16 @@ abbrev pub empty_tables : Tables
 empty_tables = record { rows = finite.empty; next_ids = finite.empty }
 
 -- the row of a model and an id, where there is one
-abbrev pub row_of : Tables → ℕ → ℕ → Option Row
-row_of tables model id = finite.get tables.rows (record { model = record { 0 = model }; id = record { 0 = id } })
+abbrev pub row_of : Tables → ModelNo → ℕ → Option Row
+row_of tables model id = finite.get tables.rows (record { model = model; id = record { 0 = id } })
 
 -- the id that the model's next row takes
-abbrev pub next_id : Tables → ℕ → ℕ
-next_id tables model = unwrap_or (finite.get tables.next_ids model) 1
+abbrev pub next_id : Tables → ModelNo → ℕ
+next_id tables model = unwrap_or (finite.get tables.next_ids model.0) 1
 
 -- the tables after a row is made under the model's next id
-abbrev pub made : ℕ → Row → Tables → Tables
-made model row tables = record { rows = finite.insert tables.rows (record { model = record { 0 = model }; id = record { 0 = next_id tables model } }) row; next_ids = finite.insert tables.next_ids model (next_id tables model + 1) }
+abbrev pub made : ModelNo → Row → Tables → Tables
+made model row tables = record { rows = finite.insert tables.rows (record { model = model; id = record { 0 = next_id tables model } }) row; next_ids = finite.insert tables.next_ids model.0 (next_id tables model + 1) }
 
 -- the plain value of a field, unset where the row has none
 abbrev pub plain : Row → ℕ → Value

@@ -1,213 +1,231 @@
-//! The forms of arguments in JSON. A form is wanted whole: whatever breaks it, so far
-//! the whole request is what is refused.
+//! The arguments of a call, by position or by name, each of its form. The first that is
+//! wrong is told at its place. What a form is stands in `forms`, and the order in which
+//! arguments are gone through in specs/Arguments.
 
-ghost use Rattle.std.specs.Prelude.{◌≡◌, ◌≢◌, ◌≤◌, ℕ, [], None, map, length, option_map, IfOk, IfSome};
-ghost use Rattle.std.specs.List.{list_all};
-ghost use Rattle.serde_json.specs.View.{view, members_view, items_view};
-ghost use Rattle.ob_base.specs.declared.limits.TheConstants.{MAX_CHAR_BYTES};
-ghost use Rattle.ob_base.specs.declared.value.Value.TheVariants.{Int as an_integer, Word as a_word};
-ghost use Rattle.ob_expr.specs.declared.checker.Kind.TheVariants.{Int as an_int};
-ghost use Rattle.ob_orm.specs.LineForm.{char_value};
-ghost use Rattle.ob_orm.specs.Schema.{plain_columns};
-ghost use Rattle.ob_orm.specs.Json.{all_some, listed, read_char};
-ghost use Rattle.ob_orm.specs.Create.{new_row, given, keys_of, is_named};
-ghost use Rattle.ob_orm.specs.Read.{read_args, id_from, column_from, once};
-ghost use Rattle.ob_orm.specs.Line.{line_schema, name_column};
-ghost use Rattle.ob_orm.specs.ReadSteps.{two_lists};
-ghost use Rattle.ob_orm.specs.CreateSteps.{one_object_of};
-ghost use Rattle.ob_orm.specs.Values.{Gives, ArgsGive, row_of_values, column_of};
+ghost use Rattle.std.specs.Prelude.{◌≡◌, ◌<◌, true, false, codes, length, slice_get, map, vec_len, option_map, IfSome, Some, None, IfOk, IfErr, OnOk};
+ghost use Rattle.serde_json.specs.View.{view, members_view};
+ghost use Rattle.ob_schema.specs.Models.{HasModel, model_at};
+ghost use Rattle.ob_orm.specs.Arguments.{arguments_of, by_name, by_position, entries, has_key, is_absent, is_context, is_empty, name_place, tested};
+ghost use Rattle.ob_orm.specs.ArgumentsSteps.{all_given_of, at_position, free_number, missing};
+ghost use Rattle.ob_orm.specs.Parameters.{Gives, IsMalformedAt, expected_of, given_of, spot_place};
 
 use crate::call::Json;
-use crate::kept::Line;
-use crate::line::LineColumn;
-use ob_base::limits::{MAX_CHAR_BYTES, MAX_ID};
-use ob_base::{Place, Refusal, Word};
+use crate::forms::{Form, form_fault};
+use crate::places::{Below, Spot, malformed, malformed_whole};
+use ob_base::{ModelNo, Refusal};
+use ob_schema::Schema;
 use serde_json::Map;
 use std::alloc::Global;
-use std::collections::BTreeSet;
 
-/// The values that a create gives. A name that isn't given is unset, a number 0.
-#[derive(Drop)]
-pub(crate) struct LineValues {
-    pub(crate) name: Option<Word>,
-    pub(crate) price: i64,
-    pub(crate) qty: i64,
+/// What a call expects of an argument.
+#[derive(Clone, Copy, Debug)]
+pub(crate) struct Parameter {
+    pub(crate) name: &'static str,
+    pub(crate) required: bool,
+    pub(crate) form: Form,
 }
 
-impl LineValues {
-    /// The line of these values with its subtotal.
-    pub(crate) fn into_line(self, subtotal: i64) -> Line
-        ensures { result ≡ record { name = self.name; price = self.price; qty = self.qty; subtotal = subtotal } }
-    {
-        Line {
-            name: self.name,
-            price: self.price,
-            qty: self.qty,
-            subtotal,
-        }
-    }
+/// An argument that was given.
+#[derive(Clone, Copy)]
+pub(crate) struct Given<'a> {
+    pub(crate) spot: Spot<'a>,
+    pub(crate) json: &'a Json,
 }
 
-/// What a read asks for: ids, each once at its first place, and columns.
-#[derive(Drop)]
-pub(crate) struct ReadArguments {
-    pub(crate) ids: Vec<u64>,
-    pub(crate) columns: Vec<LineColumn>,
-}
-
-/// The refusal of a request that is of another form.
-fn malformed(alloc: Global) -> Refusal
-    ensures { result ≡ Refusal.Request [] }
+/// The arguments of a call, one for each that it expects: none where nothing is given that
+/// counts.
+pub(crate) fn arguments<'a>(
+    alloc: Global,
+    schema: &Schema,
+    model: ModelNo,
+    expected: &[Parameter],
+    args: &'a Json,
+    kw: &'a Json,
+) -> Result<Vec<Option<Given<'a>>>, Refusal>
+    requires { HasModel schema.now model }
+    ensures { IfSome (model_at schema.now model)
+        (λ info. Gives (λ given. map (option_map given_of) given.items) result
+        (arguments_of info (map expected_of expected.now) (view args.now) (view kw.now))) }
 {
-    Refusal::Request(Place::whole(alloc))
-}
-
-/// The values of the one object that the arguments are a list of.
-pub(crate) fn line_values(alloc: Global, args: &Json) -> Result<LineValues, Refusal>
-    ensures form { Gives row_of_values result (new_row line_schema (view args.now)) }
-    ensures limit { IfOk result (λ values. IfSome values.name (λ name. length name ≤ MAX_CHAR_BYTES)) }
-{
-    let Some(members) = one_object(args) else {
-        return Err(malformed(alloc));
+    let Json::Array(items) = args else {
+        return Err(malformed_whole(alloc, "args"));
     };
-    if !has_plain_keys(members) {
-        return Err(malformed(alloc));
+    let given = by_position(alloc, schema, model, expected, items.as_slice(), kw)?;
+    let Json::Object(members) = kw else {
+        return Err(malformed_whole(alloc, "kw"));
+    };
+    by_name(alloc, schema, model, expected, members, given)
+}
+
+/// The arguments by position; a surplus one is told last.
+fn by_position<'a>(
+    alloc: Global,
+    schema: &Schema,
+    model: ModelNo,
+    expected: &[Parameter],
+    items: &'a [Json],
+    kw: &Json,
+) -> Result<Vec<Option<Given<'a>>>, Refusal>
+    requires { HasModel schema.now model }
+    ensures told { IfSome (model_at schema.now model)
+        (λ info. Gives (λ given. all_given_of given.items) result
+        (by_position info (view kw.now) 0 (map expected_of expected.now) (map view items.now))) }
+    ensures sized { IfOk result (λ given. vec_len given ≡ length expected.now) }
+{
+    let mut given = Vec::new(alloc);
+    for (number, parameter) in expected.iter().enumerate() {
+        let own = at_position(alloc, schema, model, parameter, number, items, kw)?;
+        given.push(own).map_err(|_| Refusal::NoMemory)?;
     }
-    let name = text_at(alloc, members, "name")?;
-    let price = integer_at(alloc, members, "price")?;
-    let qty = integer_at(alloc, members, "qty")?;
-    Ok(LineValues { name, price, qty })
-}
-
-/// The one object that the arguments are a list of.
-fn one_object(args: &Json) -> Option<&Map<String, Json>>
-    ensures { option_map (λ members. members_view members.now.entries) result ≡ one_object_of (view args.now) }
-{
-    let items = args.as_array()?;
-    if items.len() != 1 {
-        return None;
+    if items.len() > expected.len() {
+        let surplus = Spot::Position(expected.len());
+        return Err(malformed(alloc, surplus, Below::Whole));
     }
-    items[0].as_object()
+    Ok(given)
 }
 
-/// Whether each key names a column whose values are given.
-fn has_plain_keys(members: &Map<String, Json>) -> bool
-    ensures { result ≡ list_all (is_named (plain_columns line_schema)) (keys_of (members_view members.now.entries)) }
+/// What stands at a position, or is missing there.
+fn at_position<'a>(
+    alloc: Global,
+    schema: &Schema,
+    model: ModelNo,
+    parameter: &Parameter,
+    number: usize,
+    items: &'a [Json],
+    kw: &Json,
+) -> Result<Option<Given<'a>>, Refusal>
+    requires { HasModel schema.now model }
+    ensures { IfSome (model_at schema.now model)
+        (λ info. Gives (option_map given_of) result
+        (at_position info (view kw.now) number (expected_of parameter.now) (option_map view (slice_get items.now number)))) }
 {
-    members.keys().all(|key| is_plain(key.as_str()))
+    let spot = Spot::Position(number);
+    match items.get(number) {
+        Some(json) => tested(alloc, schema, model, parameter, spot, json),
+        None => missing(alloc, parameter, spot, kw),
+    }
 }
 
-/// Whether the values of the column of this name are given.
-fn is_plain(name: &str) -> bool
-    ensures { result ≡ is_named (plain_columns line_schema) name.now }
+/// An argument at a spot, of its form.
+fn tested<'a>(
+    alloc: Global,
+    schema: &Schema,
+    model: ModelNo,
+    parameter: &Parameter,
+    spot: Spot<'a>,
+    json: &'a Json,
+) -> Result<Option<Given<'a>>, Refusal>
+    requires { HasModel schema.now model }
+    ensures { IfSome (model_at schema.now model)
+        (λ info. Gives (option_map given_of) result
+        (tested info (spot_place spot.entry) (expected_of parameter.now) (view json.now))) }
 {
-    matches!(name, "name" | "price" | "qty")
-}
-
-/// The text at a key, within the limit of a char.
-fn text_at(alloc: Global, members: &Map<String, Json>, key: &str) -> Result<Option<Word>, Refusal>
-    requires { key.now ≡ name_column.name }
-    ensures form { Gives char_value result (given name_column (members_view members.now.entries)) }
-    ensures limit { IfOk result (λ text. IfSome text (λ name. length name ≤ MAX_CHAR_BYTES)) }
-{
-    let Some(value) = members.get(key) else {
+    if is_absent(parameter, json) {
         return Ok(None);
-    };
-    let Some(text) = char_of(value) else {
-        return Err(malformed(alloc));
-    };
-    match Word::from_text(alloc, text) {
-        Ok(word) => Ok(Some(word)),
-        Err(_) => Err(Refusal::NoMemory),
+    }
+    match form_fault(schema, model, parameter.form, json) {
+        None => Ok(Some(Given { spot, json })),
+        Some(below) => Err(malformed(alloc, spot, below)),
     }
 }
 
-/// The text that a value is, within the limit of a char.
-fn char_of(value: &Json) -> Option<&str>
-    ensures form { option_map (λ text. a_word text.now) result ≡ read_char (view value.now) }
-    ensures limit { IfSome result (λ text. length text.now ≤ MAX_CHAR_BYTES) }
+/// An optional argument that is `null` or `false` counts as not given, where it is read.
+fn is_absent(parameter: &Parameter, json: &Json) -> bool
+    ensures { result ≡ is_absent (expected_of parameter.now) (view json.now) }
 {
-    let text = value.as_str()?;
-    (text.len() <= MAX_CHAR_BYTES).then_some(text)
+    !parameter.required && !matches!(parameter.form, Form::Unread) && is_empty(json)
 }
 
-/// The integer of 64 bits at a key.
-fn integer_at(alloc: Global, members: &Map<String, Json>, key: &str) -> Result<i64, Refusal>
-    ensures form { (field : ℕ) → Gives an_integer result (given (record { field = field; name = key.now; kind = an_int; formula = None }) (members_view members.now.entries)) }
-    // It takes no memory.
-    ensures memory { result ≢ Err Refusal.NoMemory }
+/// Whether a value is `null` or `false`.
+fn is_empty(json: &Json) -> bool
+    ensures { result ≡ is_empty (view json.now) }
 {
-    match members.get(key) {
-        None => Ok(0),
-        Some(value) => match value.as_i64() {
-            Some(number) => Ok(number),
-            None => Err(malformed(alloc)),
-        },
+    matches!(json, Json::Null | Json::Bool(false))
+}
+
+/// Nothing stands at a position: one that must be given has to come by name.
+fn missing<'a>(
+    alloc: Global,
+    parameter: &Parameter,
+    spot: Spot<'_>,
+    kw: &Json,
+) -> Result<Option<Given<'a>>, Refusal>
+    ensures { Gives (option_map given_of) result
+        (missing (spot_place spot.entry) (expected_of parameter.now) (view kw.now)) }
+{
+    if parameter.required && !has_key(kw, parameter.name) {
+        return Err(malformed(alloc, spot, Below::Whole));
+    }
+    Ok(None)
+}
+
+/// Whether an object has the key; no other value has one.
+fn has_key(json: &Json, name: &str) -> bool
+    ensures { result ≡ has_key name.now (view json.now) }
+{
+    match json {
+        Json::Object(members) => members.get(name).is_some(),
+        _ => false,
     }
 }
 
-/// The ids and columns of the two lists that the arguments are.
-pub(crate) fn read_arguments(alloc: Global, args: &Json) -> Result<ReadArguments, Refusal>
-    ensures { ArgsGive result (read_args line_schema (view args.now)) }
+/// The arguments with those by name, in byte order.
+fn by_name<'a>(
+    alloc: Global,
+    schema: &Schema,
+    model: ModelNo,
+    expected: &[Parameter],
+    members: &'a Map<String, Json>,
+    given: Vec<Option<Given<'a>>>,
+) -> Result<Vec<Option<Given<'a>>>, Refusal>
+    requires model { HasModel schema.now model }
+    requires sized { vec_len given ≡ length expected.now }
+    ensures { IfSome (model_at schema.now model)
+        (λ info. Gives (λ given. all_given_of given.items) result
+        (by_name info (map expected_of expected.now) (entries (members_view members.now.entries)) (all_given_of given.entry.items))) }
 {
-    let Some((ids, fields)) = two_lists(args) else {
-        return Err(malformed(alloc));
-    };
-    let ids = distinct_ids(alloc, ids)?;
-    let columns = columns_of(alloc, fields)?;
-    if columns.is_empty() {
-        return Err(malformed(alloc));
-    }
-    Ok(ReadArguments { ids, columns })
-}
-
-/// The two lists of a list of two.
-fn two_lists(args: &Json) -> Option<(&Vec<Json>, &Vec<Json>)>
-    ensures { option_map (λ lists. (items_view lists.0.now.items, items_view lists.1.now.items)) result ≡ two_lists (view args.now) }
-{
-    match args.as_array()?.as_slice() {
-        [ids, fields] => Some((ids.as_array()?, fields.as_array()?)),
-        _ => None,
-    }
-}
-
-/// An id within its limits.
-fn id_of(value: &Json) -> Option<u64>
-    ensures { result ≡ id_from (view value.now) }
-{
-    match value.as_u64() {
-        Some(id) if 1 <= id && id <= MAX_ID => Some(id),
-        _ => None,
-    }
-}
-
-/// The ids of a list, each once at its first place.
-fn distinct_ids(alloc: Global, values: &Vec<Json>) -> Result<Vec<u64>, Refusal>
-    ensures { Gives (λ ids. ids.items) result (option_map once (all_some (map id_from (listed (items_view values.now.items))))) }
-{
-    let mut seen = BTreeSet::new(alloc);
-    let mut ids = Vec::new(alloc);
-    for value in values {
-        let Some(id) = id_of(value) else {
-            return Err(malformed(alloc));
-        };
-        if seen.insert(id).map_err(|_| Refusal::NoMemory)? {
-            ids.push(id).map_err(|_| Refusal::NoMemory)?;
+    let mut given = given;
+    for (name, json) in members {
+        let name = name.as_str();
+        if name == "context" {
+            context(alloc, json)?;
+        } else {
+            let number = number_named(alloc, expected, name, given.as_slice())?;
+            let spot = Spot::Name(name);
+            given[number] = tested(alloc, schema, model, &expected[number], spot, json)?;
         }
     }
-    Ok(ids)
+    Ok(given)
 }
 
-/// The columns that the texts of a list name.
-fn columns_of(alloc: Global, values: &Vec<Json>) -> Result<Vec<LineColumn>, Refusal>
-    ensures { Gives (λ columns. map column_of columns.items) result (all_some (map (column_from line_schema) (listed (items_view values.now.items)))) }
+/// The context is an object, or counts as not given.
+fn context(alloc: Global, json: &Json) -> Result<(), Refusal>
+    ensures ok { OnOk result (is_context (view json.now) ≡ true) }
+    ensures err { IfErr result (λ why. (is_context (view json.now) ≡ false)
+        × IsMalformedAt (name_place (codes "context")) why) }
 {
-    let mut columns = Vec::new(alloc);
-    for value in values {
-        let Some(column) = value.as_str().and_then(LineColumn::from_name) else {
-            return Err(malformed(alloc));
-        };
-        columns.push(column).map_err(|_| Refusal::NoMemory)?;
+    if matches!(json, Json::Object(_)) || is_empty(json) {
+        return Ok(());
     }
-    Ok(columns)
+    Err(malformed(alloc, Spot::Name("context"), Below::Whole))
+}
+
+/// The number of the argument that a name gives: one that nothing gave yet.
+fn number_named(
+    alloc: Global,
+    expected: &[Parameter],
+    name: &str,
+    given: &[Option<Given<'_>>],
+) -> Result<usize, Refusal>
+    requires { length given.now ≡ length expected.now }
+    ensures ok { IfOk result (λ number. free_number name.now (map expected_of expected.now)
+        (map (option_map given_of) given.now) ≡ Some number) }
+    ensures within { IfOk result (λ number. number < length expected.now) }
+    ensures err { IfErr result (λ why. (free_number name.now (map expected_of expected.now)
+        (map (option_map given_of) given.now) ≡ None) × IsMalformedAt (name_place name.now) why) }
+{
+    match expected.iter().position(|parameter| parameter.name == name) {
+        Some(number) if given[number].is_none() => Ok(number),
+        _ => Err(malformed(alloc, Spot::Name(name), Below::Whole)),
+    }
 }

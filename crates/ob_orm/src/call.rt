@@ -14,6 +14,8 @@ pub struct Call<'a> {
     pub now: i64,
     /// The model that is called.
     pub model: ModelNo,
-    /// The positional arguments, a list.
+    /// The positional arguments: a list, else the call is refused.
     pub args: &'a Json,
+    /// The arguments by name: an object, else the call is refused.
+    pub kw: &'a Json,
 }

@@ -1,46 +1,56 @@
-//! `read`: the named columns of the named rows.
+//! `read`: the named fields of the named rows.
 
-ghost use Rattle.std.specs.Prelude.{◌≡◌, ◌≤◌, false, All, IfOk, IfErr, IfSome, Some, min};
+ghost use Rattle.std.specs.Prelude.{◌≡◌, ◌≤◌, false, map, min, All, IfOk, IfErr, IfSome, Some};
 ghost use Rattle.std.specs.Option.{option_map_or};
-ghost use Rattle.serde_json.specs.Data.{array};
-ghost use Rattle.serde_json.specs.View.{view, items_of};
+ghost use Rattle.serde_json.specs.View.{view};
 ghost use Rattle.serde_json.specs.Written.{has_float};
 ghost use Rattle.ob_io.specs.Cause.{Rose};
-ghost use Rattle.ob_orm.specs.Tables.{Tables, row_of};
-ghost use Rattle.ob_orm.specs.LineSteps.{IsLineOf, FetchesLines, IsMissingAmong};
-ghost use Rattle.ob_orm.specs.LineJson.{kept_value, line_object, line_objects};
-ghost use Rattle.ob_orm.specs.Json.{value_data};
-ghost use Rattle.ob_orm.specs.Sound.{IsSound};
-ghost use Rattle.ob_orm.specs.Kept.{Kept};
-ghost use Rattle.ob_orm.specs.Line.{line_schema};
-ghost use Rattle.ob_orm.specs.Answer.{ReadAnswers, ReadCause, Refuses, result_view};
+ghost use Rattle.ob_codec.specs.RowForm.{row_form};
+ghost use Rattle.ob_schema.specs.Fields.{kept_fields};
+ghost use Rattle.ob_schema.specs.Models.{HasField, HasModel, model_at};
+ghost use Rattle.ob_orm.specs.Answer.{ReadAnswers, ReadCause, Refuses, called_by, result_view};
+ghost use Rattle.ob_orm.specs.Kept.{Kept, kept_values};
+ghost use Rattle.ob_orm.specs.Parameters.{expected_of};
+ghost use Rattle.ob_orm.specs.Read.{read_expects};
+ghost use Rattle.ob_orm.specs.ReadParts.{HaveAll, columns_at};
+ghost use Rattle.ob_orm.specs.ReadRows.{AnswersRows, AreValuesOf, IsMissingAmong};
+ghost use Rattle.ob_orm.specs.Served.{IsServed};
+ghost use Rattle.ob_orm.specs.Sound.{IsSound, IsSoundRow};
+ghost use Rattle.ob_orm.specs.Tables.{Row, Tables, row_of};
 
-use crate::arguments::{ReadArguments, read_arguments};
+use crate::arguments::{Parameter, arguments};
+use crate::asked::{asked_fields, asked_ids};
 use crate::call::{Call, Json};
 use crate::fault::keeper_refusal;
-use crate::kept::{Line, RowFault, line_of};
-use crate::line::{LINE, LineColumn};
-use ob_base::{Ledger, RecId, Refusal, Steps};
+use crate::forms::Form;
+use crate::told_rows::{row_object, row_values};
+use ob_base::{FieldNo, Ledger, ModelNo, NoMemory, RecId, Refusal, Steps, Value};
+use ob_codec::{RowFault, row_of};
 use ob_io::Keeper;
-use serde_json::Map;
-use std::alloc::{AllocError, Global};
+use ob_schema::Schema;
+use std::alloc::Global;
 
 /// Answers one object for each named row, in the order of the ids, each id once at its
-/// first place: the id and the named columns. Refused are arguments of another form,
-/// and ids that no row has, the least of which is named. Nothing is evaluated, since
-/// all columns are kept.
+/// first place: the id and the named fields, or all fields where none is named. Refused are
+/// arguments of another form, at their place, and ids that no row has, the least of which
+/// is named. Nothing is evaluated, since all fields are kept.
 pub fn read<K: Keeper, L: Ledger>(
     alloc: Global,
     keeper: &mut K,
+    schema: &Schema,
     call: &Call<'_>,
     _steps: &mut Steps<L>,
 ) -> Result<Json, Refusal>
+    requires model { HasModel schema.now call.now.model }
+    requires served { IfSome (model_at schema.now call.now.model) IsServed }
+
     // Over a keeper that tells its rows it is the machine's read.
-    ensures answer { IfSome (K.kept keeper.old) (λ store. (tables : Tables) → Kept line_schema store tables → IsSound line_schema tables
-        → ReadAnswers tables (view call.entry.now.args.now) (Rose (K.faults keeper.old) (K.faults keeper.new)) (result_view result)) }
+    ensures answer { IfSome (K.kept keeper.old) (λ store. (tables : Tables) → Kept schema.now store tables → IsSound schema.now tables
+        → IfSome (model_at schema.now call.entry.now.model) (λ info. ReadAnswers tables (called_by call.entry.now info) (Rose (K.faults keeper.old) (K.faults keeper.new)) (result_view result))) }
 
     // Over any keeper each refusal has its cause.
-    ensures causes { IfErr result (Refuses (Rose (K.faults keeper.old) (K.faults keeper.new)) (ReadCause (view call.entry.now.args.now))) }
+    ensures causes { IfErr result (Refuses (Rose (K.faults keeper.old) (K.faults keeper.new))
+        (λ why. IfSome (model_at schema.now call.entry.now.model) (λ info. ReadCause (called_by call.entry.now info) why))) }
     ensures plain { IfOk result (λ json. has_float (view json) ≡ false) }
 
     // It changes nothing, and evaluates nothing.
@@ -48,32 +58,93 @@ pub fn read<K: Keeper, L: Ledger>(
     ensures count { K.faults keeper.old ≤ K.faults keeper.new }
     ensures steps { _steps.new ≡ _steps.old }
 {
-    let asked = read_arguments(alloc, call.args)?;
-    let lines = fetch_lines(alloc, keeper, asked.ids.as_slice())?;
-    match row_objects(alloc, &asked, lines.as_slice()) {
-        Ok(json) => Ok(json),
-        Err(_) => Err(Refusal::NoMemory),
-    }
+    let expected = read_parameters();
+    let given = arguments(alloc, schema, call.model, &expected, call.args, call.kw)?;
+    let Some(ids) = &given[0] else {
+        unreachable!();
+    };
+    let ids = asked_ids(alloc, ids.json).map_err(no_memory)?;
+    let fields = asked_fields(alloc, schema, call.model, &given[1]).map_err(no_memory)?;
+    objects_of(
+        alloc,
+        keeper,
+        schema,
+        call.model,
+        ids.as_slice(),
+        fields.as_slice(),
+    )
 }
 
-/// The line of an id. A row that can't be read is taken as not there, which only a
-/// keeper that doesn't tell its rows can bring.
-fn fetch_line<K: Keeper>(alloc: Global, keeper: &mut K, id: u64) -> Result<Option<Line>, Refusal>
-    requires { id ≤ 4294967295 }
-    ensures told { IfSome (K.kept keeper.old) (λ store. (tables : Tables) → Kept line_schema store tables → IsSound line_schema tables
-        → IfOk result (λ line. IsLineOf line (row_of tables 1 id))) }
-    ensures causes { IfErr result (Refuses (Rose (K.faults keeper.old) (K.faults keeper.new)) (λ _. ⊥)) }
+/// What a read is called with: ids, fields, and a way of loading that is not read.
+fn read_parameters() -> [Parameter; 3]
+    ensures { map expected_of result ≡ read_expects }
+{
+    [
+        Parameter {
+            name: "ids",
+            required: true,
+            form: Form::Ids,
+        },
+        Parameter {
+            name: "fields",
+            required: false,
+            form: Form::Fields,
+        },
+        Parameter {
+            name: "load",
+            required: false,
+            form: Form::Unread,
+        },
+    ]
+}
+
+fn no_memory(_: NoMemory) -> Refusal
+    ensures { result ≡ Refusal.NoMemory }
+{
+    Refusal::NoMemory
+}
+
+/// The objects of the rows of these ids, in their order; or the least id that has none.
+fn objects_of<K: Keeper>(
+    alloc: Global,
+    keeper: &mut K,
+    schema: &Schema,
+    model: ModelNo,
+    ids: &[u64],
+    fields: &[FieldNo],
+) -> Result<Json, Refusal>
+    requires model { HasModel schema.now model }
+    requires served { IfSome (model_at schema.now model) IsServed }
+    requires ids { All (λ id. id ≤ 4294967295) ids.now }
+    requires fields { All (HasField schema.now model) fields.now }
+    ensures told { IfSome (K.kept keeper.old) (λ store. (tables : Tables) → Kept schema.now store tables → IsSound schema.now tables
+        → IfSome (model_at schema.now model) (λ info. AnswersRows model tables (columns_at info fields.now) ids.now (Rose (K.faults keeper.old) (K.faults keeper.new)) (result_view result))) }
+    ensures missing { IfErr result (Refuses (Rose (K.faults keeper.old) (K.faults keeper.new)) (IsMissingAmong model ids.now)) }
+    ensures plain { IfOk result (λ json. has_float (view json) ≡ false) }
     ensures same { K.kept keeper.new ≡ K.kept keeper.old }
     ensures count { K.faults keeper.old ≤ K.faults keeper.new }
 {
-    match keeper.fetch(LINE, RecId(id)) {
-        Ok(Some(row)) => match line_of(alloc, row.body.as_slice()) {
-            Ok(line) => Ok(Some(line)),
-            Err(RowFault::Bad) => Ok(None),
-            Err(RowFault::NoMemory) => Err(Refusal::NoMemory),
-        },
-        Ok(None) => Ok(None),
-        Err(fault) => Err(keeper_refusal(fault)),
+    let mut objects = Vec::new(alloc);
+    let mut missing = None;
+    for id in ids {
+        match fetch_row(alloc, keeper, schema, model, *id)? {
+            Some(values) => {
+                let object = row_object(
+                    alloc,
+                    schema,
+                    model,
+                    fields,
+                    *id,
+                    values.as_slice(),
+                ).map_err(no_memory)?;
+                objects.push(object).map_err(|_| Refusal::NoMemory)?;
+            }
+            None => missing = least(missing, *id),
+        }
+    }
+    match missing {
+        Some(id) => Err(Refusal::Missing(model, RecId(id))),
+        None => Ok(Json::Array(objects)),
     }
 }
 
@@ -87,69 +158,58 @@ fn least(before: Option<u64>, id: u64) -> Option<u64>
     }
 }
 
-/// The lines of the ids, in their order; or the least id that has none.
-fn fetch_lines<K: Keeper>(alloc: Global, keeper: &mut K, ids: &[u64]) -> Result<Vec<Line>, Refusal>
-    requires { All (λ id. id ≤ 4294967295) ids.now }
-    ensures told { IfSome (K.kept keeper.old) (λ store. (tables : Tables) → Kept line_schema store tables → IsSound line_schema tables
-        → FetchesLines tables ids.now (Rose (K.faults keeper.old) (K.faults keeper.new)) result) }
-    ensures missing { IfErr result (Refuses (Rose (K.faults keeper.old) (K.faults keeper.new)) (IsMissingAmong ids.now)) }
+/// The values of all fields of the row of an id, by number; none where there is no row.
+fn fetch_row<K: Keeper>(
+    alloc: Global,
+    keeper: &mut K,
+    schema: &Schema,
+    model: ModelNo,
+    id: u64,
+) -> Result<Option<Vec<Value>>, Refusal>
+    requires model { HasModel schema.now model }
+    requires served { IfSome (model_at schema.now model) IsServed }
+    requires id { id ≤ 4294967295 }
+    ensures told { IfSome (K.kept keeper.old) (λ store. (tables : Tables) → Kept schema.now store tables → IsSound schema.now tables
+        → IfOk result (λ values. IfSome (model_at schema.now model) (λ info. AreValuesOf info id values (row_of tables model id)))) }
+    ensures holds { IfOk result (λ values. IfSome values (λ all.
+        IfSome (model_at schema.now model) (λ info. HaveAll info.fields all.items))) }
+    ensures causes { IfErr result (Refuses (Rose (K.faults keeper.old) (K.faults keeper.new)) (λ _. ⊥)) }
     ensures same { K.kept keeper.new ≡ K.kept keeper.old }
     ensures count { K.faults keeper.old ≤ K.faults keeper.new }
 {
-    let mut lines = Vec::new(alloc);
-    let mut missing = None;
-    for id in ids {
-        match fetch_line(alloc, keeper, *id)? {
-            Some(line) => lines.push(line).map_err(|_| Refusal::NoMemory)?,
-            None => missing = least(missing, *id),
-        }
-    }
-    match missing {
-        Some(id) => Err(Refusal::Missing(LINE, RecId(id))),
-        None => Ok(lines),
+    match keeper.fetch(model, RecId(id)) {
+        Ok(Some(row)) => values_in(alloc, schema, model, id, row.body.as_slice()),
+        Ok(None) => Ok(None),
+        Err(fault) => Err(keeper_refusal(fault)),
     }
 }
 
-/// The value of a column as replies tell it.
-fn column_json(alloc: Global, line: &Line, column: LineColumn) -> Result<Json, AllocError>
-    ensures { IfOk result (λ json. view json ≡ value_data (kept_value line.now column)) }
-{
-    match column {
-        LineColumn::Name => match &line.name {
-            Some(name) => Ok(Json::String(String::from_str(alloc, name.as_str())?)),
-            None => Ok(Json::Bool(false)),
-        },
-        LineColumn::Price => Ok(Json::from(line.price)),
-        LineColumn::Qty => Ok(Json::from(line.qty)),
-        LineColumn::Subtotal => Ok(Json::from(line.subtotal)),
-    }
-}
-
-/// The object that tells of a row.
-fn row_object(
+/// The values of all fields of the row that has this body, by number. One that can't be read
+/// is taken as not there, which only a keeper that doesn't tell its rows can bring.
+fn values_in(
     alloc: Global,
-    columns: &[LineColumn],
+    schema: &Schema,
+    model: ModelNo,
     id: u64,
-    line: &Line,
-) -> Result<Json, AllocError>
-    ensures { IfOk result (λ json. view json ≡ line_object columns.now id line.now) }
+    body: &[u8],
+) -> Result<Option<Vec<Value>>, Refusal>
+    requires model { HasModel schema.now model }
+    requires served { IfSome (model_at schema.now model) IsServed }
+    requires id { id ≤ 4294967295 }
+    ensures told { IfOk result (λ values. IfSome (model_at schema.now model) (λ info. (row : Row) →
+        IsSoundRow info id row → body.now ≡ row_form (kept_fields info) (kept_values info id row) →
+        AreValuesOf info id values (Some row))) }
+    ensures holds { IfOk result (λ values. IfSome values (λ all.
+        IfSome (model_at schema.now model) (λ info. HaveAll info.fields all.items))) }
+    ensures memory { IfErr result (λ why. why ≡ Refusal.NoMemory) }
 {
-    let mut members = Map::new(alloc);
-    members.insert(String::from_str(alloc, "id")?, Json::from(id))?;
-    for column in columns {
-        let key = String::from_str(alloc, column.name())?;
-        members.insert(key, column_json(alloc, line, *column)?)?;
+    let info = schema.model_info(model);
+    match row_of(alloc, schema, model, body) {
+        Ok(kept) => match row_values(alloc, info.fields.as_slice(), id, kept.into_vec()) {
+            Ok(values) => Ok(Some(values)),
+            Err(NoMemory) => Err(Refusal::NoMemory),
+        },
+        Err(RowFault::Bad) => Ok(None),
+        Err(RowFault::NoMemory) => Err(Refusal::NoMemory),
     }
-    Ok(Json::Object(members))
-}
-
-/// The objects of all rows.
-fn row_objects(alloc: Global, asked: &ReadArguments, lines: &[Line]) -> Result<Json, AllocError>
-    ensures { IfOk result (λ json. view json ≡ array (items_of (line_objects asked.now.columns.items asked.now.ids.items lines.now))) }
-{
-    let mut objects = Vec::new(alloc);
-    for (id, line) in asked.ids.iter().zip(lines) {
-        objects.push(row_object(alloc, asked.columns.as_slice(), *id, line)?)?;
-    }
-    Ok(Json::Array(objects))
 }

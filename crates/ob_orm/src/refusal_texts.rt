@@ -1,29 +1,26 @@
 //! How refusals are told in replies: a name for programs, a message for people.
 
-ghost use Rattle.std.specs.Prelude.{◌≡◌, ◌++◌, codes, decimal, option_map, IfOk, string_bytes};
+ghost use Rattle.std.specs.Prelude.{◌≡◌, ◌++◌, codes, IfOk, string_bytes};
 ghost use Rattle.ob_base.specs.Names.{op_name};
-ghost use Rattle.ob_orm.specs.Line.{line_schema};
-ghost use Rattle.ob_orm.specs.RefusalText.{field_name, row_text, refusal_name, refusal_message, denial};
+ghost use Rattle.ob_orm.specs.RefusalText.{denial, field_name, model_name, refusal_message, refusal_name, row_text};
 
-use crate::line::{ID, NAME, PRICE, QTY, SUBTOTAL};
-use ob_base::{FieldNo, NoMemory, Op, RecId, Refusal, Word};
+use ob_base::{Broken, FieldNo, ModelNo, NoMemory, Op, RecId, Refusal, Word};
+use ob_schema::Schema;
 use std::alloc::{AllocError, Global};
 
-/// The name of the one model.
-const MODEL: &str = "demo.line";
-
-/// The name of a field of the model; none but its own are asked for.
-fn field_name(field: FieldNo) -> &'static str
-    ensures { result.now ≡ field_name line_schema field.0 }
+/// The name and the message by which a refusal is told. A model or a field that the registry
+/// doesn't have is told by no name.
+pub fn refusal_text(
+    alloc: Global,
+    schema: &Schema,
+    refusal: &Refusal,
+) -> Result<(Word, Word), NoMemory>
+    ensures name { IfOk result (λ texts. texts.0 ≡ refusal_name refusal.now) }
+    ensures message { IfOk result (λ texts. texts.1 ≡ refusal_message schema.now refusal.now) }
 {
-    match field {
-        ID => "id",
-        NAME => "name",
-        PRICE => "price",
-        QTY => "qty",
-        SUBTOTAL => "subtotal",
-        _ => "",
-    }
+    let name = Word::new(name_of(alloc, refusal)?);
+    let message = Word::new(message_of(alloc, schema, refusal)?);
+    Ok((name, message))
 }
 
 /// The name of a refusal.
@@ -42,48 +39,79 @@ fn name_of(alloc: Global, refusal: &Refusal) -> Result<String, AllocError>
     }
 }
 
-/// That a row isn't admitted, and by which rule where that may be told.
-fn denial(alloc: Global, op: Op, id: RecId, rule: &Option<Word>) -> Result<String, AllocError>
-    ensures { IfOk result (λ text. string_bytes text ≡ row_text line_schema id.0 ++ codes " is not admitted" ++ denial rule.now (op_name op)) }
-{
-    let number = id.0;
-    match rule {
-        None => format!(in alloc; "{MODEL} {number} is not admitted"),
-        Some(rule) => format!(in alloc; "{MODEL} {number} is not admitted by {rule} for {op}"),
-    }
-}
-
 /// The message of a refusal.
-fn message_of(alloc: Global, refusal: &Refusal) -> Result<String, AllocError>
-    ensures { IfOk result (λ text. string_bytes text ≡ refusal_message line_schema refusal.now) }
+fn message_of(alloc: Global, schema: &Schema, refusal: &Refusal) -> Result<String, AllocError>
+    ensures { IfOk result (λ text. string_bytes text ≡ refusal_message schema.now refusal.now) }
 {
     match refusal {
         Refusal::Request(place) => format!(in alloc; "malformed at {place}"),
-        Refusal::Right(_, op) => format!(in alloc; "no right {op} on {MODEL}"),
-        Refusal::FieldRight(_, field) => {
-            let field = field_name(*field);
-            format!(in alloc; "no right on {MODEL}.{field}")
+        Refusal::Right(model, op) => {
+            let model = model_name(schema, *model);
+            format!(in alloc; "no right {op} on {model}")
         }
-        Refusal::Missing(_, id) => {
-            let number = id.0;
-            format!(in alloc; "{MODEL} {number} does not exist")
+        Refusal::FieldRight(model, field) => {
+            let field = field_name(schema, *model, *field);
+            let model = model_name(schema, *model);
+            format!(in alloc; "no right on {model}.{field}")
         }
-        Refusal::Rule(_, op, id, rule) => denial(alloc, *op, *id, rule),
-        Refusal::Constraint(broken) => {
-            let number = broken.cell.id.0;
-            let field = field_name(broken.cell.field);
-            format!(in alloc; "{MODEL} {number} {field}")
+        Refusal::Missing(model, id) => {
+            let (model, number) = (model_name(schema, *model), id.0);
+            format!(in alloc; "{model} {number} does not exist")
         }
+        Refusal::Rule(model, op, id, rule) => denial(alloc, schema, *model, *op, *id, rule),
+        Refusal::Constraint(broken) => broken_cell(alloc, schema, broken),
         Refusal::Keeper => String::from_str(alloc, "keeper fault"),
         Refusal::NoMemory => String::from_str(alloc, "no memory"),
     }
 }
 
-/// The name and the message by which a refusal is told.
-pub fn refusal_text(alloc: Global, refusal: &Refusal) -> Result<(Word, Word), NoMemory>
-    ensures { IfOk result (λ texts. (texts.0 ≡ refusal_name refusal.now) × (texts.1 ≡ refusal_message line_schema refusal.now)) }
+/// That a row isn't admitted, and by which rule where that may be told.
+fn denial(
+    alloc: Global,
+    schema: &Schema,
+    model: ModelNo,
+    op: Op,
+    id: RecId,
+    rule: &Option<Word>,
+) -> Result<String, AllocError>
+    ensures { IfOk result (λ text. string_bytes text
+        ≡ row_text schema.now model id ++ codes " is not admitted" ++ denial rule.now (op_name op)) }
 {
-    let name = Word::new(name_of(alloc, refusal)?);
-    let message = Word::new(message_of(alloc, refusal)?);
-    Ok((name, message))
+    let (model, number) = (model_name(schema, model), id.0);
+    match rule {
+        None => format!(in alloc; "{model} {number} is not admitted"),
+        Some(rule) => format!(in alloc; "{model} {number} is not admitted by {rule} for {op}"),
+    }
+}
+
+/// The cell that is broken.
+fn broken_cell(alloc: Global, schema: &Schema, broken: &Broken) -> Result<String, AllocError>
+    ensures { IfOk result (λ text. string_bytes text
+        ≡ row_text schema.now broken.now.cell.model broken.now.cell.id
+        ++ codes " " ++ field_name schema.now broken.now.cell.model broken.now.cell.field) }
+{
+    let cell = broken.cell;
+    let (model, number) = (model_name(schema, cell.model), cell.id.0);
+    let field = field_name(schema, cell.model, cell.field);
+    format!(in alloc; "{model} {number} {field}")
+}
+
+/// The name of a model, empty where there is none of the number.
+fn model_name(schema: &Schema, model: ModelNo) -> &str
+    ensures { result.now ≡ model_name schema.now model }
+{
+    match schema.find_model(model) {
+        Some(info) => info.name.as_str(),
+        None => "",
+    }
+}
+
+/// The name of a field, empty where there is none of the number.
+fn field_name(schema: &Schema, model: ModelNo, field: FieldNo) -> &str
+    ensures { result.now ≡ field_name schema.now model field }
+{
+    match schema.find_field(model, field) {
+        Some(info) => info.name.as_str(),
+        None => "",
+    }
 }

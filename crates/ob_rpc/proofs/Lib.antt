@@ -1,3 +1,4 @@
+mod Ids
 mod Lines
 mod Members
 mod Parts

@@ -1,7 +1,10 @@
--- What a request's body is, and what its envelope holds.
-use Rattle.std.specs.Prelude.{ℕ, List, codes, Bool, true, false, not, if◌then◌else◌, Option, Some, None, option_and_then, ⊤}
+-- What a request's body is, and what its envelope holds; or the first place that is wrong.
+use Rattle.std.specs.Prelude.{ℕ, ◌&&◌, nat_lt, List, [], ◌∷◌, length, codes, Bool, true, false, not, if◌then◌else◌, Option, Some, None, option_map, option_and_then, Result, Ok, Err}
+use Rattle.std.specs.Option.{option_map_or}
 use Rattle.std.specs.Str.{is_utf8, bytes_eq}
-use Rattle.serde_json.specs.Data.{Data, null, boolean, number, string, array, object, Items, Members}
+use Rattle.ob_base.specs.declared.place.PathStep.{PathStep}
+use Rattle.ob_base.specs.declared.place.PathStep.TheVariants.{Key, Item}
+use Rattle.serde_json.specs.Data.{Data, null, boolean, number, string, array, object, Items, no_items, item, Members}
 use Rattle.serde_json.specs.Read.{read}
 use Rattle.serde_json.specs.Find.{get_member, as_str, as_array, as_object, is_float}
 
@@ -10,12 +13,23 @@ pub record Envelope : Type 0 where
   pub id : Data
   pub service : List ℕ
   pub method : List ℕ
-  pub args : Items
+  pub args : List Data
 
--- each part in turn, and none after one that is missing
+-- the first place that is wrong, and the id by which that is told: null where none was read
+pub record Fault : Type 0 where
+  pub place : List PathStep
+  pub id : Data
+
+-- each part in turn, and none after one that is wrong
 infixl 10 ◌>>=◌
-abbrev pub ◌>>=◌ : {A B : Type 0} → Option A → (A → Option B) → Option B
-part >>= rest = option_and_then rest part
+abbrev pub ◌>>=◌ : {A B : Type 0} → Result A Fault → (A → Result B Fault) → Result B Fault
+(Ok x) >>= rest = rest x
+(Err e) >>= rest = Err e
+
+-- what is there, or a fault at the place
+abbrev pub there : {A : Type 0} → List PathStep → Data → Option A → Result A Fault
+there place id None = Err (record { place = place; id = id })
+there place id (Some x) = Ok x
 
 -- the JSON value of a body, none where it is no JSON text
 abbrev pub json_of : List ℕ → Option Data
@@ -35,38 +49,77 @@ abbrev pub given_id : Option Data → Option Data
 given_id None = Some null
 given_id (Some d) = if is_id d then Some d else None
 
--- that a value is this text
-abbrev pub text_match : List ℕ → Data → Option ⊤
-text_match text d = do
-  s ← as_str d
-  if bytes_eq s text then Some tt else None
+-- whether a value is this text
+abbrev pub is_text : List ℕ → Data → Bool
+is_text text d = option_map_or (bytes_eq text) (as_str d) false
 
--- that the version is 2.0, where one is told
-abbrev pub version_match : Option Data → Option ⊤
-version_match None = Some tt
-version_match (Some d) = text_match (codes "2.0") d
+-- a text that a test takes, none where it is no text or another one
+abbrev pub text_for : (List ℕ → Bool) → Option Data → Option (List ℕ)
+text_for test None = None
+text_for test (Some d) = option_and_then (λ text. if test text then Some text else None) (as_str d)
+
+-- the version is 2.0, where one is told
+abbrev pub version_of : Option Data → Option Data
+version_of None = Some null
+version_of (Some d) = if is_text (codes "2.0") d then Some d else None
+
+-- how many elements the arguments of a method have, from and to
+pub record Arity : Type 0 where
+  pub least : ℕ
+  pub most : ℕ
+
+-- the services, so far `object` alone
+abbrev pub is_service : List ℕ → Bool
+is_service service = bytes_eq (codes "object") service
+
+-- the methods of a service, so far `execute_kw` alone: its last element may be absent
+abbrev pub arity_of : (service method : List ℕ) → Option Arity
+arity_of service method = if is_service service && bytes_eq (codes "execute_kw") method then Some (record { least = 6; most = 7 }) else None
+
+-- the method that a service has, and its arity
+abbrev pub method_of : List ℕ → Option Data → Option (List ℕ × Arity)
+method_of service given = option_and_then (λ method. option_map (λ arity. (method, arity)) (arity_of service method)) (text_for (λ _. true) given)
+
+-- the items of a JSON list
+abbrev pub listed : Items → List Data
+listed no_items = []
+listed (item d items) = d ∷ listed items
+
+-- the place of an element of the arguments
+abbrev pub element_place : ℕ → List PathStep
+element_place n = Key (codes "params") ∷ Key (codes "args") ∷ Item n ∷ []
+
+-- the number of the first element that is missing, or that is one too many
+abbrev pub wrong_element : Arity → ℕ → Option ℕ
+wrong_element arity count = if nat_lt count arity.least then Some count else (if nat_lt arity.most count then Some arity.most else None)
+
+-- the elements, where there is no wrong one
+abbrev pub without_wrong : List Data → Data → Option ℕ → Result (List Data) Fault
+without_wrong elements id None = Ok elements
+without_wrong elements id (Some n) = Err (record { place = element_place n; id = id })
+
+-- the elements, of which there are enough and not too many
+abbrev pub counted : Arity → Data → List Data → Result (List Data) Fault
+counted arity id elements = without_wrong elements id (wrong_element arity (length elements))
 
 -- the envelope of an id and the members of the params
-unfoldable pub asked_in : Data → Members → Option Envelope
+unfoldable pub asked_in : Data → Members → Result Envelope Fault
 asked_in id params = do
-  service ← option_and_then as_str (get_member (codes "service") params)
-  method ← option_and_then as_str (get_member (codes "method") params)
-  args ← option_and_then as_array (get_member (codes "args") params)
-  Some (record { id = id; service = service; method = method; args = args })
+  service ← there (Key (codes "params") ∷ Key (codes "service") ∷ []) id (text_for is_service (get_member (codes "service") params))
+  method ← there (Key (codes "params") ∷ Key (codes "method") ∷ []) id (method_of service (get_member (codes "method") params))
+  items ← there (Key (codes "params") ∷ Key (codes "args") ∷ []) id (option_and_then as_array (get_member (codes "args") params))
+  elements ← counted method.1 id (listed items)
+  Ok (record { id = id; service = service; method = method.0; args = elements })
 
 -- the envelope in the members of a body
-unfoldable pub envelope_in : Members → Option Envelope
+unfoldable pub envelope_in : Members → Result Envelope Fault
 envelope_in body = do
-  id ← given_id (get_member (codes "id") body)
-  known ← version_match (get_member (codes "jsonrpc") body)
-  called ← option_and_then (text_match (codes "call")) (get_member (codes "method") body)
-  params ← option_and_then as_object (get_member (codes "params") body)
+  id ← there (Key (codes "id") ∷ []) null (given_id (get_member (codes "id") body))
+  _ ← there (Key (codes "jsonrpc") ∷ []) id (version_of (get_member (codes "jsonrpc") body))
+  _ ← there (Key (codes "method") ∷ []) id (text_for (bytes_eq (codes "call")) (get_member (codes "method") body))
+  params ← there (Key (codes "params") ∷ []) id (option_and_then as_object (get_member (codes "params") body))
   asked_in id params
 
--- the envelope of a value, which must be an object
-abbrev pub envelope_of_data : Data → Option Envelope
-envelope_of_data d = option_and_then envelope_in (as_object d)
-
--- the envelope of a body
-abbrev pub envelope_of : List ℕ → Option Envelope
-envelope_of body = option_and_then envelope_of_data (json_of body)
+-- the envelope of a body, which is a JSON object
+abbrev pub envelope_of : List ℕ → Result Envelope Fault
+envelope_of body = there [] null (option_and_then as_object (json_of body)) >>= envelope_in

@@ -1,72 +1,106 @@
-//! The envelope of a request. One function reads each part, and the parts are
-//! read in the order in which a later fault may name the first that is wrong:
-//! whole body, id, jsonrpc, method, params and its service, method and args.
-//! Parts are moved out of the parsed body and never copied, for a body is large.
+//! The envelope of a request, or the first place that is wrong. One function reads
+//! each part and answers none where it is wrong; the order in which `envelope`,
+//! `read_body` and `read_params` ask for the parts is the order in which faults are
+//! told. Parts are moved out of the parsed body and never copied, for a body is large.
 
-ghost use Rattle.std.specs.Prelude.{◌≡◌, ◌≢◌, ℕ, List, codes, false, Some, None, IfOk, IsErrOf, option_map, option_and_then};
-ghost use Rattle.serde_json.specs.Find.{get_member, as_object, as_str, as_array};
+ghost use Rattle.std.specs.Prelude.{◌≡◌, ◌≢◌, ℕ, List, false, true, map, IfOk, IfErr, option_map, option_and_then};
+ghost use Rattle.ob_base.specs.declared.place.PathStep.TheVariants.{Key};
+ghost use Rattle.serde_json.specs.Find.{get_member, as_object, as_array};
 ghost use Rattle.serde_json.specs.View.{view, members_view, items_view};
 ghost use Rattle.serde_json.specs.Written.{has_float};
-ghost use Rattle.ob_rpc.specs.Envelope.{json_of, given_id, text_match, version_match, asked_in, envelope_of_data, envelope_of};
-ghost use Rattle.ob_rpc.specs.Seen.{seen, Gives};
+ghost use Rattle.ob_rpc.specs.Envelope as spec;
+ghost use Rattle.ob_rpc.specs.Envelope.{json_of, text_for, element_place, asked_in, envelope_in};
+ghost use Rattle.std.specs.Str.{bytes_eq};
+ghost use Rattle.ob_rpc.specs.Seen.{seen, seen_arity, answer_id, FaultsAt, Gives};
 
 use crate::Json;
-use crate::request::{Envelope, EnvelopeFault};
-use ob_base::{Sequence, Word};
+use crate::request::{EnvFault, Envelope};
+use ob_base::{NoMemory, PathStep, Place, Sequence, Word};
 use serde_json::Map;
 use std::alloc::Global;
 
-/// The envelope of a body: one JSON object with `method` "call", `params` of
-/// `service`, `method` and `args`, an `id` or none, and `jsonrpc` "2.0" or none.
-pub fn envelope(alloc: Global, body: &[u8]) -> Result<Envelope, EnvelopeFault>
-    ensures ok { IfOk result (λ e. envelope_of body.now ≡ Some (seen e)) }
-    ensures malformed { IsErrOf result EnvelopeFault.Malformed → envelope_of body.now ≡ None }
-    ensures id { IfOk result (λ e. has_float (view e.id) ≡ false) }
-{
-    let value = value_of(alloc, body)?;
-    envelope_of(value)
+/// How many elements the arguments of a method have, from and to.
+#[derive(Clone, Copy, Debug, PartialEq, Eq)]
+struct Arity {
+    least: usize,
+    most: usize,
 }
 
-fn value_of(alloc: Global, body: &[u8]) -> Result<Json, EnvelopeFault>
-    ensures ok { IfOk result (λ value. json_of body.now ≡ Some (view value)) }
-    ensures malformed { IsErrOf result EnvelopeFault.Malformed → json_of body.now ≡ None }
+/// The envelope of a body, or the first place of it that is wrong. A body is one JSON
+/// object; then, in this order: `id` is an integer, a text or null, or absent, which is
+/// null; `jsonrpc` is "2.0" or absent; `method` is "call"; `params` is an object, its
+/// `service` is "object", its `method` is "execute_kw", and its `args` is a list of 6 to
+/// 7 elements. Other keys are unread, and the last of a repeated key counts.
+///
+/// `EnvFault::At` tells the place with the id, which is null where none was read before
+/// it: too few elements are told at the first that is missing, too many at the first
+/// that is too much. `EnvFault::NoMemory` comes where an allocation fails.
+pub fn envelope(alloc: Global, body: &[u8]) -> Result<Envelope, EnvFault>
+    ensures ok { IfOk result (λ e. spec.envelope_of body.now ≡ Ok (seen e)) }
+    ensures fault { IfErr result (λ f. FaultsAt f (spec.envelope_of body.now)) }
+    ensures id { has_float (answer_id result) ≡ false }
 {
-    match Json::from_slice(alloc, body) {
-        Ok(value) => Ok(value),
-        Err(error) => if error.is_memory() {
-            Err(EnvelopeFault::NoMemory)
-        } else {
-            Err(EnvelopeFault::Malformed)
-        },
-    }
+    let Some(members) = members_of(value_of(alloc, body)?) else {
+        return Err(fault_at(alloc, &[], Json::Null));
+    };
+    read_body(alloc, members)
 }
 
-fn envelope_of(value: Json) -> Result<Envelope, EnvelopeFault>
-    ensures envelope { Gives seen result (envelope_of_data (view value)) }
-    ensures id { IfOk result (λ e. has_float (view e.id) ≡ false) }
+/// The envelope in the members of a body.
+fn read_body(alloc: Global, mut body: Map<String, Json>) -> Result<Envelope, EnvFault>
+    ensures { Gives result (envelope_in (members_view body.entries)) }
 {
-    let mut body = members_of(Some(value))?;
-    let id = id_of(take(&mut body, "id"))?;
-    check_version(take(&mut body, "jsonrpc"))?;
-    check_call(take(&mut body, "method"))?;
-    let params = members_of(take(&mut body, "params"))?;
-    asked(id, params)
+    let Some(id) = id_of(take(&mut body, "id")) else {
+        return Err(fault_at(alloc, &["id"], Json::Null));
+    };
+    let Some(_) = version_of(take(&mut body, "jsonrpc")) else {
+        return Err(fault_at(alloc, &["jsonrpc"], id));
+    };
+    let Some(_) = text_equal(take(&mut body, "method"), "call") else {
+        return Err(fault_at(alloc, &["method"], id));
+    };
+    let Some(params) = members_of(take(&mut body, "params")) else {
+        return Err(fault_at(alloc, &["params"], id));
+    };
+    read_params(alloc, id, params)
 }
 
 /// The envelope of an id and the members of `params`.
-fn asked(id: Json, mut params: Map<String, Json>) -> Result<Envelope, EnvelopeFault>
-    ensures envelope { Gives seen result (asked_in (view id) (members_view params.entries)) }
-    ensures id { IfOk result (λ e. view e.id ≡ view id) }
+fn read_params(alloc: Global, id: Json, mut params: Map<String, Json>) -> Result<Envelope, EnvFault>
+    ensures { Gives result (asked_in (view id) (members_view params.entries)) }
 {
-    let service = word_of(take(&mut params, "service"))?;
-    let method = word_of(take(&mut params, "method"))?;
-    let args = list_of(take(&mut params, "args"))?;
+    let Some(service) = text_equal(take(&mut params, "service"), "object") else {
+        return Err(fault_at(alloc, &["params", "service"], id));
+    };
+    let Some((method, arity)) = method_of(service.as_str(), take(&mut params, "method")) else {
+        return Err(fault_at(alloc, &["params", "method"], id));
+    };
+    let Some(args) = list_of(take(&mut params, "args")) else {
+        return Err(fault_at(alloc, &["params", "args"], id));
+    };
+    if let Some(number) = wrong_element(arity, args.len()) {
+        return Err(fault_at_element(alloc, number, id));
+    }
     Ok(Envelope {
         id,
         service,
         method,
         args,
     })
+}
+
+/// The JSON value of a body, where it is one.
+fn value_of(alloc: Global, body: &[u8]) -> Result<Option<Json>, NoMemory>
+    ensures { IfOk result (λ value. option_map view value ≡ json_of body.now) }
+{
+    match Json::from_slice(alloc, body) {
+        Ok(value) => Ok(Some(value)),
+        Err(error) => if error.is_memory() {
+            Err(NoMemory)
+        } else {
+            Ok(None)
+        },
+    }
 }
 
 /// Takes the value at a key out of an object, where there is one.
@@ -79,80 +113,141 @@ fn take(members: &mut Map<String, Json>, key: &str) -> Option<Json>
     members.remove(key)
 }
 
-fn id_of(given: Option<Json>) -> Result<Json, EnvelopeFault>
-    ensures id { Gives view result (given_id (option_map view given)) }
-    ensures no_float { IfOk result (λ id. has_float (view id) ≡ false) }
+fn id_of(given: Option<Json>) -> Option<Json>
+    ensures { option_map view result ≡ spec.given_id (option_map view given) }
 {
     match given {
-        None => Ok(Json::Null),
-        Some(Json::Null) => Ok(Json::Null),
-        Some(Json::String(text)) => Ok(Json::String(text)),
+        None => Some(Json::Null),
+        Some(Json::Null) => Some(Json::Null),
+        Some(Json::String(text)) => Some(Json::String(text)),
         Some(Json::Number(number)) => if number.is_f64() {
-            Err(EnvelopeFault::Malformed)
+            None
         } else {
-            Ok(Json::Number(number))
+            Some(Json::Number(number))
         },
-        Some(_) => Err(EnvelopeFault::Malformed),
+        Some(_) => None,
     }
 }
 
-fn check_version(given: Option<Json>) -> Result<(), EnvelopeFault>
-    ensures { Gives (λ _. tt) result (version_match (option_map view given)) }
+fn version_of(given: Option<Json>) -> Option<Json>
+    ensures { option_map view result ≡ spec.version_of (option_map view given) }
 {
     match given {
-        None => Ok(()),
-        Some(version) => check_text(&version, "2.0"),
-    }
-}
-
-fn check_call(given: Option<Json>) -> Result<(), EnvelopeFault>
-    ensures { Gives (λ _. tt) result (option_and_then (text_match (codes "call")) (option_map view given)) }
-{
-    match given {
-        None => Err(EnvelopeFault::Malformed),
-        Some(method) => check_text(&method, "call"),
-    }
-}
-
-fn check_text(value: &Json, text: &str) -> Result<(), EnvelopeFault>
-    ensures { Gives (λ _. tt) result (text_match text.now (view value.now)) }
-{
-    match value.as_str() {
-        Some(found) => if found == text {
-            Ok(())
+        None => Some(Json::Null),
+        Some(Json::String(text)) => if "2.0" == text.as_str() {
+            Some(Json::String(text))
         } else {
-            Err(EnvelopeFault::Malformed)
+            None
         },
-        None => Err(EnvelopeFault::Malformed),
+        Some(_) => None,
     }
 }
 
-fn members_of(given: Option<Json>) -> Result<Map<String, Json>, EnvelopeFault>
-    ensures { Gives (λ m. members_view m.entries) result (option_and_then as_object (option_map view given)) }
+fn members_of(given: Option<Json>) -> Option<Map<String, Json>>
+    ensures { option_map (λ m. members_view m.entries) result ≡ option_and_then as_object (option_map view given) }
 {
-    match given {
-        Some(value) => match value {
-            Json::Object(members) => Ok(members),
-            _ => Err(EnvelopeFault::Malformed),
-        },
-        None => Err(EnvelopeFault::Malformed),
+    match given? {
+        Json::Object(members) => Some(members),
+        _ => None,
     }
 }
 
-fn word_of(given: Option<Json>) -> Result<Word, EnvelopeFault>
-    ensures { Gives (λ w. w) result (option_and_then as_str (option_map view given)) }
+/// A part that has to be this text.
+fn text_equal(given: Option<Json>, text: &str) -> Option<Word>
+    ensures { result ≡ text_for (bytes_eq text.now) (option_map view given) }
 {
-    match given {
-        Some(Json::String(text)) => Ok(Word::new(text)),
-        _ => Err(EnvelopeFault::Malformed),
+    let found = text_of(given)?;
+    if text == found.as_str() {
+        Some(found)
+    } else {
+        None
     }
 }
 
-fn list_of(given: Option<Json>) -> Result<Sequence<Json>, EnvelopeFault>
-    ensures { Gives items_view result (option_and_then as_array (option_map view given)) }
+fn text_of(given: Option<Json>) -> Option<Word>
+    ensures { result ≡ text_for (λ _. true) (option_map view given) }
 {
     match given {
-        Some(Json::Array(items)) => Ok(Sequence::from_vec(items)),
-        _ => Err(EnvelopeFault::Malformed),
+        Some(Json::String(text)) => Some(Word::new(text)),
+        _ => None,
     }
+}
+
+/// The method that a service has, and how many elements it takes.
+fn method_of(service: &str, given: Option<Json>) -> Option<(Word, Arity)>
+    ensures { option_map (λ m. (m.0, seen_arity m.1)) result ≡ spec.method_of service.now (option_map view given) }
+{
+    let method = text_of(given)?;
+    let arity = arity_of(service, method.as_str())?;
+    Some((method, arity))
+}
+
+fn arity_of(service: &str, method: &str) -> Option<Arity>
+    ensures { option_map seen_arity result ≡ spec.arity_of service.now method.now }
+{
+    if "object" == service && "execute_kw" == method {
+        Some(Arity { least: 6, most: 7 })
+    } else {
+        None
+    }
+}
+
+fn list_of(given: Option<Json>) -> Option<Sequence<Json>>
+    ensures { option_map (λ s. items_view s) result ≡ option_and_then as_array (option_map view given) }
+{
+    match given {
+        Some(Json::Array(items)) => Some(Sequence::from_vec(items)),
+        _ => None,
+    }
+}
+
+/// The number of the first element that is missing, or that is one too many.
+fn wrong_element(arity: Arity, count: usize) -> Option<usize>
+    ensures { result ≡ spec.wrong_element (seen_arity arity) count }
+{
+    if count < arity.least {
+        Some(count)
+    } else if arity.most < count {
+        Some(arity.most)
+    } else {
+        None
+    }
+}
+
+/// The fault at a path of keys, by the id.
+fn fault_at(alloc: Global, keys: &[&str], id: Json) -> EnvFault
+    ensures { FaultsAt result (Err (record { place = map (λ key. Key key.now) keys.now; id = view id })) }
+{
+    match place_of(alloc, keys) {
+        Ok(place) => EnvFault::At(place, id),
+        Err(NoMemory) => EnvFault::NoMemory,
+    }
+}
+
+/// The fault at an element of the arguments, by the id.
+fn fault_at_element(alloc: Global, number: usize, id: Json) -> EnvFault
+    ensures { FaultsAt result (Err (record { place = element_place number; id = view id })) }
+{
+    match place_of_element(alloc, number) {
+        Ok(place) => EnvFault::At(place, id),
+        Err(NoMemory) => EnvFault::NoMemory,
+    }
+}
+
+fn place_of(alloc: Global, keys: &[&str]) -> Result<Place, NoMemory>
+    ensures { IfOk result (λ place. place ≡ map (λ key. Key key.now) keys.now) }
+{
+    let mut place = Place::whole(alloc);
+    for key in keys {
+        place.push(PathStep::Key(Word::from_text(alloc, key)?))?;
+    }
+    Ok(place)
+}
+
+fn place_of_element(alloc: Global, number: usize) -> Result<Place, NoMemory>
+    ensures { IfOk result (λ place. place ≡ element_place number) }
+{
+    let mut place = place_of(alloc, &["params", "args"])?;
+    place.push(PathStep::Item(number as u64))?;
+    Ok(place)
 }

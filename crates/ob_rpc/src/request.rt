@@ -1,8 +1,10 @@
 //! What the envelope of a request holds, and why a body has none. Only these two
 //! types live here; `read` makes them.
 
+ghost use Rattle.std.specs.Prelude.{◌≡◌};
+
 use crate::Json;
-use ob_base::{Sequence, Word};
+use ob_base::{NoMemory, Place, Sequence, Word};
 use thiserror::Error;
 
 /// What a request asks for, and the id by which its reply is told.
@@ -10,21 +12,32 @@ use thiserror::Error;
 pub struct Envelope {
     /// An integer, a text or null; null where the body has none.
     pub id: Json,
-    /// The service, as `object`.
+    /// The service: `object`.
     pub service: Word,
-    /// The service's method, as `execute_kw`.
+    /// The service's method: `execute_kw`.
     pub method: Word,
-    /// What the method is called with, in order.
+    /// What the method is called with, in order, as many as it takes.
     pub args: Sequence<Json>,
 }
 
 /// Why a body has no envelope.
-#[derive(Clone, Copy, Debug, PartialEq, Eq, Error)]
-pub enum EnvelopeFault {
-    /// It is not the JSON text of a request.
-    #[error("the body is no request")]
-    Malformed,
+#[derive(Debug, Drop, Error)]
+pub enum EnvFault {
+    /// The first place of the body that is wrong, and the id by which that is told: null
+    /// where none was read.
+    #[error("malformed at {0}")]
+    At(Place, Json),
     /// An allocation failed, so it is not known whether it is one.
     #[error("no memory")]
     NoMemory,
+}
+
+impl From<NoMemory> for EnvFault {
+    ghost use Rattle.ob_rpc.specs.declared.request.EnvFault.TheVariants as fault;
+
+    ghost from_gives = { λ _ e. e ≡ fault.NoMemory };
+
+    fn from(_error: NoMemory) -> EnvFault {
+        EnvFault::NoMemory
+    }
 }

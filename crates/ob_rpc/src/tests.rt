@@ -1,9 +1,190 @@
-//! What no clause says: the exact bytes of replies and bodies that were worked
-//! out by hand, and that each call succeeds where memory is left.
+//! What no clause says: the exact bytes of replies, and bodies and their faults that
+//! were worked out by hand, and that each call succeeds where memory is left.
 
-use crate::{EnvelopeFault, Json, Outcome, envelope, no_memory_reply, reply_text};
+use crate::{EnvFault, Json, Outcome, envelope, no_memory_reply, reply_text};
 use ob_base::Word;
 use std::test::Fail;
+
+/// Bodies that are no request, the first place that is wrong, and the id.
+const FAULTS: [(&str, &str, &str); 30] = [
+    ("", "", "null"),
+    ("[1", "", "null"),
+    (
+        r#"[{"id":1,"jsonrpc":"2.0","method":"call","params":{"service":"object","method":"execute_kw","args":["stock",2,"admin","demo.line","create",[]]}}]"#,
+        "",
+        "null",
+    ),
+    (
+        r#"{"id":1,"jsonrpc":"2.0","method":"call","params":{"service":"object","method":"execute_kw","args":["stock",2,"admin","demo.line","create",[]]}}x"#,
+        "",
+        "null",
+    ),
+    (
+        r#"{"id":true,"jsonrpc":"2.0","method":"call","params":{"service":"object","method":"execute_kw","args":["stock",2,"admin","demo.line","create",[]]}}"#,
+        "id",
+        "null",
+    ),
+    (
+        r#"{"id":[1],"jsonrpc":"2.0","method":"call","params":{"service":"object","method":"execute_kw","args":["stock",2,"admin","demo.line","create",[]]}}"#,
+        "id",
+        "null",
+    ),
+    (
+        r#"{"id":{},"jsonrpc":"2.0","method":"call","params":{"service":"object","method":"execute_kw","args":["stock",2,"admin","demo.line","create",[]]}}"#,
+        "id",
+        "null",
+    ),
+    (
+        r#"{"id":1.5,"jsonrpc":"2.0","method":"call","params":{"service":"object","method":"execute_kw","args":["stock",2,"admin","demo.line","create",[]]}}"#,
+        "id",
+        "null",
+    ),
+    (
+        r#"{"id":18446744073709551616,"jsonrpc":"2.0","method":"call","params":{"service":"object","method":"execute_kw","args":["stock",2,"admin","demo.line","create",[]]}}"#,
+        "id",
+        "null",
+    ),
+    (
+        r#"{"id":true,"jsonrpc":"1.0","method":"call","params":{"service":"object","method":"execute_kw","args":["stock",2,"admin","demo.line","create",[]]}}"#,
+        "id",
+        "null",
+    ),
+    (
+        r#"{"id":1,"jsonrpc":"1.0","method":"call","params":{"service":"object","method":"execute_kw","args":["stock",2,"admin","demo.line","create",[]]}}"#,
+        "jsonrpc",
+        "1",
+    ),
+    (
+        r#"{"id":1,"jsonrpc":null,"method":"call","params":{"service":"object","method":"execute_kw","args":["stock",2,"admin","demo.line","create",[]]}}"#,
+        "jsonrpc",
+        "1",
+    ),
+    (
+        r#"{"id":"q1","jsonrpc":2,"method":"run","params":{"service":"object","method":"execute_kw","args":["stock",2,"admin","demo.line","create",[]]}}"#,
+        "jsonrpc",
+        r#""q1""#,
+    ),
+    ("{}", "method", "null"),
+    (
+        r#"{"id":-3,"jsonrpc":"2.0","method":"run","params":{"service":"object","method":"execute_kw","args":["stock",2,"admin","demo.line","create",[]]}}"#,
+        "method",
+        "-3",
+    ),
+    (
+        r#"{"id":1,"jsonrpc":"2.0","method":1,"params":[]}"#,
+        "method",
+        "1",
+    ),
+    (
+        r#"{"id":1,"jsonrpc":"2.0","method":"call","method":"run","params":{"service":"object","method":"execute_kw","args":["stock",2,"admin","demo.line","create",[]]}}"#,
+        "method",
+        "1",
+    ),
+    (
+        r#"{"id":null,"jsonrpc":"2.0","method":"call"}"#,
+        "params",
+        "null",
+    ),
+    (
+        r#"{"id":18446744073709551615,"jsonrpc":"2.0","method":"call","params":[]}"#,
+        "params",
+        "18446744073709551615",
+    ),
+    (
+        r#"{"id":5,"jsonrpc":"2.0","method":"call","params":{}}"#,
+        "params.service",
+        "5",
+    ),
+    (
+        r#"{"id":1,"jsonrpc":"2.0","method":"call","params":{"service":1,"method":"execute_kw","args":["stock",2,"admin","demo.line","create",[]]}}"#,
+        "params.service",
+        "1",
+    ),
+    (
+        r#"{"id":1,"jsonrpc":"2.0","method":"call","params":{"service":"common","method":"login","args":["stock",2,"admin","demo.line","create",[]]}}"#,
+        "params.service",
+        "1",
+    ),
+    (
+        r#"{"id":1,"jsonrpc":"2.0","method":"call","params":{"service":"object","args":["stock",2,"admin","demo.line","create",[]]}}"#,
+        "params.method",
+        "1",
+    ),
+    (
+        r#"{"id":1,"jsonrpc":"2.0","method":"call","params":{"service":"object","method":7,"args":["stock",2,"admin","demo.line","create",[]]}}"#,
+        "params.method",
+        "1",
+    ),
+    (
+        r#"{"id":1,"jsonrpc":"2.0","method":"call","params":{"service":"object","method":"execute","args":[]}}"#,
+        "params.method",
+        "1",
+    ),
+    (
+        r#"{"id":1,"jsonrpc":"2.0","method":"call","params":{"service":"object","method":"execute_kw"}}"#,
+        "params.args",
+        "1",
+    ),
+    (
+        r#"{"id":1,"jsonrpc":"2.0","method":"call","params":{"service":"object","method":"execute_kw","args":{}}}"#,
+        "params.args",
+        "1",
+    ),
+    (
+        r#"{"id":1,"jsonrpc":"2.0","method":"call","params":{"service":"object","method":"execute_kw","args":[]}}"#,
+        "params.args.0",
+        "1",
+    ),
+    (
+        r#"{"id":"q1","jsonrpc":"2.0","method":"call","params":{"service":"object","method":"execute_kw","args":["stock",2,"admin","demo.line","create"]}}"#,
+        "params.args.5",
+        r#""q1""#,
+    ),
+    (
+        r#"{"id":1,"jsonrpc":"2.0","method":"call","params":{"service":"object","method":"execute_kw","args":["stock",2,"admin","demo.line","create",[],{},0]}}"#,
+        "params.args.7",
+        "1",
+    ),
+];
+
+/// Requests, the id, and how many elements the arguments have.
+const REQUESTS: [(&str, &str, usize); 7] = [
+    (
+        r#"{"id":5,"jsonrpc":"2.0","method":"call","params":{"service":"object","method":"execute_kw","args":["stock",2,"admin","demo.line","create",[]]}}"#,
+        "5",
+        6,
+    ),
+    (
+        r#"{"id":-3,"jsonrpc":"2.0","method":"call","params":{"service":"object","method":"execute_kw","args":["stock",2,"admin","demo.line","create",[],{}]}}"#,
+        "-3",
+        7,
+    ),
+    (
+        r#"{"id":"q1","method":"call","params":{"service":"object","method":"execute_kw","args":["stock",2,"admin","demo.line","create",[]]}}"#,
+        r#""q1""#,
+        6,
+    ),
+    (
+        r#"{"id":null,"jsonrpc":"2.0","method":"call","params":{"service":"object","method":"execute_kw","args":["stock",2,"admin","demo.line","create",[]]}}"#,
+        "null",
+        6,
+    ),
+    (
+        r#"{"method":"call","params":{"service":"object","method":"execute_kw","args":["stock",2,"admin","demo.line","create",[]]}}"#,
+        "null",
+        6,
+    ),
+    (
+        r#"{"id":18446744073709551615,"jsonrpc":"2.0","method":"call","params":{"service":"object","method":"execute_kw","args":["stock",2,"admin","demo.line","create",[]]}}"#,
+        "18446744073709551615",
+        6,
+    ),
+    (
+        r#"{"id":true,"id":2,"jsonrpc":"2.0","method":"call","params":{"service":"object","method":"execute_kw","args":["stock",2,"admin","demo.line","create",[]]},"more":[1.5]}"#,
+        "2",
+        6,
+    ),
+];
 
 #[test]
 fn reads_the_worked_request(rt: HostRuntime) -> Result<(), Fail> {
@@ -26,42 +207,36 @@ fn reads_the_worked_request(rt: HostRuntime) -> Result<(), Fail> {
 }
 
 #[test]
-fn id_and_version_may_be_absent(rt: HostRuntime) -> Result<(), Fail> {
-    let body =
-        b"{\"extra\":[],\"method\":\"call\",\"params\":{\"args\":[],\"service\":\"s\",\"method\":\"m\"}}";
-    let read = envelope(rt.alloc(), body)?;
-    assert!(rt; read.id.is_null());
-    assert!(rt; read.args.is_empty());
+fn takes_what_is_a_request(rt: HostRuntime) -> Result<(), Fail> {
+    let alloc = rt.alloc();
+    for (body, id, count) in REQUESTS {
+        let read = envelope(alloc, body.as_bytes())?;
+        assert_eq!(rt; read.id.to_string(alloc)?.as_str(), id);
+        assert_eq!(rt; read.args.len(), count);
+    }
     Ok(())
 }
 
 #[test]
-fn refuses_what_is_no_request(rt: HostRuntime) {
-    let bodies: [&[u8]; 16] = [
-        b"",
-        b"[1",
-        b"[]",
-        b"{}",
-        b"\xff",
-        b"{\"id\":\"\xff\",\"method\":\"call\",\"params\":{\"service\":\"s\",\"method\":\"m\",\"args\":[]}}",
-        b"{\"id\":1.5,\"method\":\"call\",\"params\":{\"service\":\"s\",\"method\":\"m\",\"args\":[]}}",
-        b"{\"id\":true,\"method\":\"call\",\"params\":{\"service\":\"s\",\"method\":\"m\",\"args\":[]}}",
-        b"{\"jsonrpc\":null,\"method\":\"call\",\"params\":{\"service\":\"s\",\"method\":\"m\",\"args\":[]}}",
-        b"{\"jsonrpc\":\"1.0\",\"method\":\"call\",\"params\":{\"service\":\"s\",\"method\":\"m\",\"args\":[]}}",
-        b"{\"method\":\"x\",\"params\":{\"service\":\"s\",\"method\":\"m\",\"args\":[]}}",
-        b"{\"params\":{\"service\":\"s\",\"method\":\"m\",\"args\":[]}}",
-        b"{\"method\":\"call\",\"params\":[]}",
-        b"{\"method\":\"call\",\"params\":{\"service\":1,\"method\":\"m\",\"args\":[]}}",
-        b"{\"method\":\"call\",\"params\":{\"service\":\"s\",\"args\":[]}}",
-        b"{\"method\":\"call\",\"params\":{\"service\":\"s\",\"method\":\"m\",\"args\":{}}}",
-    ];
-    for (at, body) in bodies.iter().enumerate() {
-        let answer = envelope(rt.alloc(), body);
-        assert!(rt;
-            matches!(answer, Err(EnvelopeFault::Malformed)),
-            "the body at {at}"
-        );
+fn tells_the_first_place_that_is_wrong(rt: HostRuntime) -> Result<(), Fail> {
+    let alloc = rt.alloc();
+    for (body, place, id) in FAULTS {
+        let Err(EnvFault::At(at, by)) = envelope(alloc, body.as_bytes()) else {
+            panic!(rt; "{body}");
+        };
+        assert_eq!(rt; at.to_word(alloc)?.as_str(), place, "{body}");
+        assert_eq!(rt; by.to_string(alloc)?.as_str(), id, "{body}");
     }
+    Ok(())
+}
+
+#[test]
+fn bytes_that_are_no_text_are_no_request(rt: HostRuntime) {
+    let Err(EnvFault::At(place, id)) = envelope(rt.alloc(), b"{\"id\":\"\xff\"}") else {
+        panic!(rt; "not told");
+    };
+    assert!(rt; place.steps().is_empty());
+    assert!(rt; id.is_null());
 }
 
 #[test]

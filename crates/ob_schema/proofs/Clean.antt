@@ -2,7 +2,7 @@
 use Rattle.std.proofs.Common.{◌≡◌, ℕ, suc, ◌<◌, ◌≤◌, ◌||◌, inl, inr, Bool, true, false, not, cond, nat_lt, List, length, Option, Some, None, is_some, option_map, Result, Ok, IfOk, IfSome, refl, sym, ap, subst, ◌∙◌, arith}
 use Rattle.std.specs.Prelude.{Contains, IsSome, IsSomeAnd, ◌==◌, option_and_then, slice_get}
 use Rattle.std.specs.List.{position_or_len}
-use Rattle.std.proofs.lemmas.Bool.{cases_lt, false≢true}
+use Rattle.std.proofs.lemmas.Bool.{cases_lt, false≢true, true_from_ne_false}
 use Rattle.std.proofs.lemmas.Bool.Decides.{Decides-ltb}
 use Rattle.std.proofs.lemmas.List.Folds.{find_at}
 use Rattle.std.proofs.lemmas.Option.{get_or_from_slice_get, slice_get-get_or, slice_get_cases, slice_get_within}
@@ -29,6 +29,7 @@ use Rattle.ob_schema.specs.Definitions.{is_text, model_def}
 use Rattle.ob_schema.specs.Faults.{HasTyped, IsFaultless}
 use Rattle.ob_schema.specs.Findings.{EntryHas, FieldHas, IsChecked, IsFinding, fault_at}
 use Rattle.ob_schema.specs.Formulas.{found_in, kind_of_field, kind_of_type, model_number, number_of}
+use Rattle.ob_schema.specs.Keys.{fits}
 use Rattle.ob_schema.proofs.Capping.{capped_field-low, each_tree, found_in-each, number_of-low}
 use Rattle.ob_schema.proofs.FindingLaws.{tree_of_seen, unknown_names, unreadable, wrong_kind}
 use Rattle.ob_schema.proofs.Spots.{faulty_entry, faulty_field, field_spot, whole_spot}
@@ -190,3 +191,7 @@ inverse_found defs f relation inverse target n r m i e =
     ∙ sym (ap (λ (o : Option (List ℕ)). option_and_then (λ inv. Some (number_of target inv)) o) i)
     ∙ sym (ap (λ (o : Option ModelDef). option_and_then (λ t. option_and_then (λ inv. Some (number_of t inv)) f.inverse) o) m)
     ∙ sym (ap (λ (o : Option (List ℕ)). option_and_then (λ rel. option_and_then (λ t. option_and_then (λ inv. Some (number_of t inv)) f.inverse) (model_def defs rel)) o) r)
+
+-- the keys of each field fit
+pub sound_fits : (defs : List ModelDef) (def : ModelDef) (f : FieldDef) → IsFaultless defs → Contains defs def → Contains def.fields f → fits f ≡ true
+sound_fits defs def f faultless among declared = true_from_ne_false (fits f) (λ unfit. clean_field defs def f faultless among declared wrong.Kind (inl (inr unfit)))

@@ -1,8 +1,8 @@
 -- The fields of a model by name: each name once, and so each above all before it.
-use Rattle.std.proofs.Common.{◌≡◌, ℕ, zero, suc, ◌+◌, ◌<◌, ◌≤◌, ◌||◌, ◌&&◌, inl, inr, Bool, true, false, cond, nat_le, List, [], ◌∷◌, ◌++◌, map, length, get_or, refl, sym, ap, subst, ◌∙◌, Ordering, arith, length-append}
+use Rattle.std.proofs.Common.{◌≡◌, ℕ, zero, suc, ◌+◌, ◌<◌, ◌≤◌, ◌||◌, ◌&&◌, inl, inr, Bool, true, false, cond, nat_le, List, [], ◌∷◌, map, length, get_or, refl, sym, ap, subst, ◌∙◌, Ordering, arith}
 use Rattle.std.specs.Prelude.{All, Any, Contains, codes, count_by}
 use Rattle.std.specs.List.{AllZip, list_all}
-use Rattle.std.specs.List.Sorted.{IsPermutation, IsSortedByKey}
+use Rattle.std.specs.List.Sorted.{IsSortedByKey}
 use Rattle.std.specs.Cmp.Lexicographic.{slice_cmp}
 use Rattle.std.specs.FinMap.{nat_cmp-IsAntisymmetric, slice_cmp-IsAntisymmetric}
 use Rattle.std.specs.Ordering.{is_lt, nat_cmp, ordering_reverse}
@@ -12,10 +12,11 @@ use Rattle.std.proofs.lemmas.Bool.{cases_lt, false≢true}
 use Rattle.std.proofs.lemmas.Bool.Decides.{nat_tests}
 use Rattle.std.proofs.lemmas.Cmp.{nat_list_cmp_total}
 use Rattle.std.proofs.lemmas.List.{get_or-map, length-map}
-use Rattle.std.proofs.lemmas.List.Elements.{All-append, All-cons, All-contains_itself, All-nil, All-weaker, Contains-append_left, Contains-append_right}
-use Rattle.std.proofs.lemmas.List.Sorted.{All-permutation, Contains-permutation, length_permutation, ranks_by, sorted_far, sum_by-IsPermutation}
+use Rattle.std.proofs.lemmas.List.Elements.{All-cons, All-nil}
+use Rattle.std.proofs.lemmas.List.Sorted.{ranks_by, sorted_far}
 use Rattle.std.proofs.lemmas.List.Sums.{sum_by-append, sum_by-cons}
 use Rattle.std.proofs.lemmas.Slice.Eq.{bytes_eq-Decides}
+use Rattle.ob_expr.specs.Lexemes.{begins_with_letter, is_name_byte}
 use Rattle.ob_schema.specs.declared.definition.FieldDef.{FieldDef}
 use Rattle.ob_schema.specs.declared.definition.ModelDef.{ModelDef}
 use Rattle.ob_schema.specs.declared.info.FieldInfo.{FieldInfo}
@@ -23,18 +24,17 @@ use Rattle.ob_schema.specs.declared.wrong.Wrong.TheVariants as wrong
 use Rattle.ob_schema.specs.Built.{IsFieldOf, automatic_infos, id_info, moment_info}
 use Rattle.ob_schema.specs.Definitions.{is_automatic}
 use Rattle.ob_schema.specs.Faults.{IsFaultless}
-use Rattle.ob_schema.specs.Making.{AreFields, AreUnsorted}
+use Rattle.ob_schema.specs.Making.{AreUnsorted}
 use Rattle.ob_schema.specs.Models.{AreInOrder}
-use Rattle.ob_schema.specs.Names.{begins_with_letter, is_field_name, is_name_byte}
-use Rattle.ob_schema.proofs.Clean.{clean_field, few_declared}
-use Rattle.ob_schema.proofs.Copies.{zip_length}
+use Rattle.ob_schema.specs.Names.{is_field_name}
+use Rattle.ob_schema.proofs.Clean.{clean_field}
 
 -- ---- counts
 
-count-cons : {X : Type 0} (p : X → Bool) (x : X) (xs : List X) → count_by p (x ∷ xs) ≡ cond (p x) 1 0 + count_by p xs
+pub count-cons : {X : Type 0} (p : X → Bool) (x : X) (xs : List X) → count_by p (x ∷ xs) ≡ cond (p x) 1 0 + count_by p xs
 count-cons p x xs = sum_by-cons (λ y. cond (p y) 1 0) x xs
 
-one_if : (b : Bool) → b ≡ true → ◌≡◌ {A = ℕ} (cond b 1 0) 1
+pub one_if : (b : Bool) → b ≡ true → ◌≡◌ {A = ℕ} (cond b 1 0) 1
 one_if b e = ap (λ (c : Bool). cond {A = ℕ} c 1 0) e
 
 -- an element that passes is counted
@@ -65,7 +65,7 @@ counted p (x ∷ xs) some = counted_in p x xs (p x) refl some (λ h. counted p x
 
 -- ---- each name once
 
-abbrev named : List ℕ → FieldInfo → Bool
+abbrev pub named : List ℕ → FieldInfo → Bool
 named x info = bytes_eq info.name x
 
 abbrev declared_named : List ℕ → FieldDef → Bool
@@ -127,7 +127,7 @@ declared_count defs def x faultless among = elim (cases_lt 0 (count_by (declared
   | inr none ↦ (omega arith, λ automatic. omega arith)
 ]
 
-once_unsorted : (defs : List ModelDef) (def : ModelDef) (infos : List FieldInfo) (x : List ℕ) → IsFaultless defs → Contains defs def → AreUnsorted defs def infos → count_by (named x) infos ≤ 1
+pub once_unsorted : (defs : List ModelDef) (def : ModelDef) (infos : List FieldInfo) (x : List ℕ) → IsFaultless defs → Contains defs def → AreUnsorted defs def infos → count_by (named x) infos ≤ 1
 once_unsorted defs def infos x faultless among are =
     let both : count_by (named x) infos ≡ count_by (named x) are.declared + count_by (named x) automatic_infos = ap (count_by (named x)) are.is ∙ sum_by-append (λ i. cond (named x i) 1 0) are.declared automatic_infos in
     let own : count_by (named x) are.declared ≡ count_by (declared_named x) def.fields = count_zip defs def x def.fields are.declared are.each in
@@ -190,7 +190,7 @@ low n e = grind (arith, nat_tests)
 short_name : (name : List ℕ) → is_field_name name ≡ true → length name ≤ 64
 short_name name e = low (length name) (last (begins_with_letter name && list_all is_name_byte name) (nat_le (length name) 64) e)
 
-declared_short : (defs : List ModelDef) (def : ModelDef) (fs : List FieldDef) (infos : List FieldInfo) → ((f : FieldDef) → Contains fs f → is_field_name f.name ≡ true) → AllZip (IsFieldOf defs def) fs infos → All (λ (i : FieldInfo). length i.name ≤ 64) infos
+pub declared_short : (defs : List ModelDef) (def : ModelDef) (fs : List FieldDef) (infos : List FieldInfo) → ((f : FieldDef) → Contains fs f → is_field_name f.name ≡ true) → AllZip (IsFieldOf defs def) fs infos → All (λ (i : FieldInfo). length i.name ≤ 64) infos
 declared_short defs def [] [] each all = All-nil (λ (i : FieldInfo). length i.name ≤ 64)
 declared_short defs def [] (i ∷ infos) each all = absurd all
 declared_short defs def (f ∷ fs) [] each all = absurd all
@@ -200,19 +200,19 @@ declared_short defs def (f ∷ fs) (i ∷ infos) each all =
     (declared_short defs def fs infos (λ g (k, low, at). each g (suc k, omega arith, at)) all.1)
 
 -- so is that of an automatic one
-automatic_short : All (λ (i : FieldInfo). length i.name ≤ 64) automatic_infos
+pub automatic_short : All (λ (i : FieldInfo). length i.name ≤ 64) automatic_infos
 automatic_short =
     let small = λ (i : FieldInfo). length i.name ≤ 64 in
     All-cons small (moment_info (codes "create_date")) (id_info ∷ moment_info (codes "write_date") ∷ []) (omega arith)
     (All-cons small id_info (moment_info (codes "write_date") ∷ []) (omega arith)
     (All-cons small (moment_info (codes "write_date")) [] (omega arith) (All-nil small)))
 
-field_name_by : (b : Bool) → (b ≡ false → ⊥) → b ≡ true
+pub field_name_by : (b : Bool) → (b ≡ false → ⊥) → b ≡ true
 field_name_by true h = refl
 field_name_by false h = absurd (h refl)
 
 -- each declared field has its info
-declared_any : (defs : List ModelDef) (def : ModelDef) (all : List FieldInfo) (fs : List FieldDef) (infos : List FieldInfo) → ((i : FieldInfo) → Contains infos i → Contains all i) → AllZip (IsFieldOf defs def) fs infos → All (λ f. Any (IsFieldOf defs def f) all) fs
+pub declared_any : (defs : List ModelDef) (def : ModelDef) (all : List FieldInfo) (fs : List FieldDef) (infos : List FieldInfo) → ((i : FieldInfo) → Contains infos i → Contains all i) → AllZip (IsFieldOf defs def) fs infos → All (λ f. Any (IsFieldOf defs def f) all) fs
 declared_any defs def all [] [] into zip = All-nil (λ f. Any (IsFieldOf defs def f) all)
 declared_any defs def all [] (i ∷ infos) into zip = absurd zip
 declared_any defs def all (f ∷ fs) [] into zip = absurd zip
@@ -220,22 +220,3 @@ declared_any defs def all (f ∷ fs) (i ∷ infos) into zip =
     let here = into i (0, omega arith, refl) in
     All-cons (λ g. Any (IsFieldOf defs def g) all) f fs (here.0, i, here.1, here.2, zip.0)
     (declared_any defs def all fs infos (λ j (k, low, at). into j (suc k, omega arith, at)) zip.1)
-
-pub sorted_fields : (defs : List ModelDef) (def : ModelDef) (infos sorted : List FieldInfo) → IsFaultless defs → Contains defs def → AreUnsorted defs def infos → IsPermutation infos sorted → IsSortedByKey (λ (i : FieldInfo). i.name) (slice_cmp nat_cmp) sorted → AreFields defs def sorted
-sorted_fields defs def infos sorted faultless among are moved ordered =
-    let small = λ (i : FieldInfo). length i.name ≤ 64 in
-    let few : length def.fields ≤ 253 = few_declared defs def faultless among in
-    let counts : length sorted ≡ length infos = length_permutation infos sorted moved in
-    let parts : length infos ≡ length are.declared + 3 = ap (λ (l : List FieldInfo). length l) are.is ∙ length-append are.declared automatic_infos in
-    let own : length are.declared ≡ length def.fields = zip_length (IsFieldOf defs def) def.fields are.declared are.each in
-    let from_all = λ (i : FieldInfo) (here : Contains (are.declared ++ automatic_infos) i). Contains-permutation infos sorted i moved (subst (λ (l : List FieldInfo). Contains l i) (sym are.is) here) in
-    let each = λ (f : FieldDef) (here : Contains def.fields f). field_name_by (is_field_name f.name) (λ e. clean_field defs def f faultless among here wrong.Kind (inl (inl e))) in
-    let short_all = All-append small are.declared automatic_infos (declared_short defs def def.fields are.declared each are.each) automatic_short in
-    record {
-      declared = declared_any defs def sorted def.fields are.declared (λ i here. from_all i (Contains-append_left are.declared automatic_infos i here)) are.each;
-      automatic = All-weaker (Contains automatic_infos) (Contains sorted) (λ i here. from_all i (Contains-append_right are.declared automatic_infos i here)) automatic_infos (All-contains_itself automatic_infos);
-      count = omega arith;
-      few = omega arith;
-      short = All-permutation small infos sorted moved (subst (All small) (sym are.is) short_all);
-      ordered = in_order sorted ordered (λ x. let same : count_by (named x) sorted ≡ count_by (named x) infos = sum_by-IsPermutation (λ i. cond (named x i) 1 0) infos sorted moved in let one : count_by (named x) infos ≤ 1 = once_unsorted defs def infos x faultless among are in omega arith);
-    }

@@ -53,7 +53,7 @@ module _ (fields : List FieldInfo) (ordered : AreInOrder (map (λ field. field.n
   abbrev pub order : FieldInfo → Ordering
   order field = slice_cmp nat_cmp field.name name
 
-  in_order : (i j : ℕ) (d : FieldInfo) → i < j → j < length fields → slice_cmp nat_cmp (get_or fields i d).name (get_or fields j d).name ≡ Less
+  pub in_order : (i j : ℕ) (d : FieldInfo) → i < j → j < length fields → slice_cmp nat_cmp (get_or fields i d).name (get_or fields j d).name ≡ Less
   in_order i j d before inside =
       let named = λ (field : FieldInfo). field.name in
       let within : j < length (map named fields) = omega (arith, length-map fields named) in

@@ -111,7 +111,7 @@ no_computed_relation f text e relation =
     ∙ ap (λ (b : Bool). relation_fits f && ondelete_fits f && b) unfit
     ∙ and_false (relation_fits f && ondelete_fits f)
 
-abbrev names_rows : Kind → Bool
+abbrev pub names_rows : Kind → Bool
 names_rows kind.Bool = false
 names_rows kind.Int = false
 names_rows kind.Word = false

@@ -17,3 +17,10 @@ pub mod Walks
 pub mod Clean
 pub mod Copies
 pub mod FieldOrder
+pub mod Defaults
+pub mod NameNumbers
+pub mod FormulaKinds
+pub mod Operands
+pub mod FormulasFit
+pub mod SortedFields
+pub mod NameBytes

@@ -1,5 +1,6 @@
 -- Fields of a model: which are kept, and what they may hold.
-use Rattle.std.specs.Prelude.{◌&&◌, List, Bool, true, false, not, is_none, filter}
+use Rattle.std.specs.List.{enumerate_from}
+use Rattle.std.specs.Prelude.{ℕ, ◌&&◌, List, Bool, true, false, not, is_none, filter}
 use Rattle.ob_base.specs.declared.value.Value.{Value}
 use Rattle.ob_schema.specs.declared.field_type.FieldType.TheVariants as type
 use Rattle.ob_schema.specs.declared.field_type.FieldType.{FieldType}
@@ -50,3 +51,15 @@ kept_fields model = filter is_kept model.fields
 -- a value that the field may hold
 abbrev pub Holds : FieldInfo → Value → Type 0
 Holds field v = IsValueOf field.field_type field.selection v
+
+-- a field with its number
+abbrev pub Column : Type 0
+Column = ℕ × FieldInfo
+
+-- the fields of a model with their numbers, from 1
+abbrev pub columns : ModelInfo → List Column
+columns model = enumerate_from 1 model.fields
+
+-- those whose values calls give and rows keep
+abbrev pub plain_columns : ModelInfo → List Column
+plain_columns model = filter (λ column. is_plain_kept column.1) (columns model)

@@ -1,6 +1,10 @@
 -- How the registry's parts are made of definitions, a function at a time.
-use Rattle.std.specs.Prelude.{◌≡◌, ◌+◌, ◌++◌, ◌≤◌, ℕ, List, [], length, map, All, Any, Contains, Bool, true, false, None}
+use Rattle.std.specs.Prelude.{◌≡◌, ◌+◌, ◌++◌, ◌≤◌, ℕ, List, [], length, map, All, Any, Contains, Bool, true, false, None, FitsSigned, IfSome, ⊤}
+use Rattle.std.specs.Int.{w64}
 use Rattle.std.specs.List.{AllZip}
+use Rattle.std.specs.Str.{IsUtf8}
+use Rattle.ob_base.specs.declared.value.Value.{Value}
+use Rattle.ob_base.specs.declared.value.Value.TheVariants as value
 use Rattle.ob_schema.specs.declared.definition.ModelDef.{ModelDef}
 use Rattle.ob_schema.specs.declared.field_type.FieldType.{FieldType}
 use Rattle.ob_schema.specs.declared.field_type.OnDelete.TheVariants as ondelete
@@ -8,13 +12,24 @@ use Rattle.ob_schema.specs.declared.info.FieldInfo.{FieldInfo}
 use Rattle.ob_schema.specs.declared.info.OrderTerm.{OrderTerm}
 use Rattle.ob_schema.specs.declared.info.Origin.{Origin}
 use Rattle.ob_schema.specs.Built.{IsFieldOf, automatic_infos, terms_of}
+use Rattle.ob_schema.specs.Fields.{Holds}
 use Rattle.ob_schema.specs.Formulas.{number_of}
-use Rattle.ob_schema.specs.Models.{AreInOrder}
+use Rattle.ob_schema.specs.Models.{AreInOrder, IsOriginIn}
 use Rattle.ob_schema.specs.Orders.{Term}
 
 -- a field with no key but its type
 abbrev pub bare_info : List ℕ → FieldType → Origin → Bool → FieldInfo
 bare_info name field_type origin managed = record { name = name; field_type = field_type; origin = origin; string = name; required = false; default = None; store = true; recursive = false; relation = None; inverse = None; mirror = None; ondelete = ondelete.SetNull; selection = []; groups = []; managed = managed; fixed = false; secret = false }
+
+-- what each value of the program has by its type: an integer fits 64 bits, and a text is UTF-8
+abbrev pub IsNative : Value → Type 0
+IsNative (value.Int n) = FitsSigned w64 n
+IsNative (value.Word text) = IsUtf8 text
+IsNative _ = ⊤
+
+-- the field holds its default
+abbrev pub HoldsDefault : FieldInfo → Type 0
+HoldsDefault info = IfSome info.default (Holds info)
 
 -- a term with the number of its field
 abbrev pub numbered_term : ModelDef → Term → OrderTerm
@@ -28,6 +43,7 @@ order_of def = map (numbered_term def) (terms_of def.order)
 pub record AreUnsorted (defs : List ModelDef) (def : ModelDef) (infos : List FieldInfo) : Type 0 where
   pub declared : List FieldInfo
   pub each : AllZip (IsFieldOf defs def) def.fields declared
+  pub held : All HoldsDefault declared
   pub is : infos ≡ declared ++ automatic_infos
 
 -- the fields of a model, by name
@@ -38,3 +54,5 @@ pub record AreFields (defs : List ModelDef) (def : ModelDef) (infos : List Field
   pub few : length infos ≤ 256
   pub short : All (λ info. length info.name ≤ 64) infos
   pub ordered : AreInOrder (map (λ info. info.name) infos)
+  pub formulas : All (λ info. IsOriginIn infos info info.origin) infos
+  pub defaults : All HoldsDefault infos

@@ -1,6 +1,6 @@
 -- The registry as contracts see it: a list of models, each with its fields. Model number
 -- n stands at n - 1, and so does field number n of a model.
-use Rattle.std.specs.Prelude.{◌≡◌, ◌≤◌, ℕ, zero, suc, List, [], length, All, map, Option, None, option_map, option_and_then, IsSome, position, slice_get}
+use Rattle.std.specs.Prelude.{◌≡◌, ◌≤◌, ℕ, zero, suc, List, [], length, All, Contains, map, true, false, Option, Some, None, option_map, option_and_then, IsSome, IfSome, IsSomeAnd, position, slice_get, ⊤}
 use Rattle.std.specs.Cmp.Lexicographic.{slice_cmp}
 use Rattle.std.specs.List.{AllPairs}
 use Rattle.std.specs.Ordering.{nat_cmp}
@@ -9,9 +9,19 @@ use Rattle.std.specs.Str.{bytes_eq}
 use Rattle.std.specs.declared.cmp.Ordering.TheVariants.{Less}
 use Rattle.ob_base.specs.declared.id.FieldNo.{FieldNo}
 use Rattle.ob_base.specs.declared.id.ModelNo.{ModelNo}
+use Rattle.ob_expr.specs.Checking.{EachField, IsWellKinded, kind_of, typed_tree_of}
+use Rattle.ob_expr.specs.declared.checker.Kind.{Kind}
+use Rattle.ob_schema.specs.declared.field_type.FieldType.TheVariants as type
 use Rattle.ob_schema.specs.declared.info.FieldInfo.{FieldInfo}
+use Rattle.ob_schema.specs.declared.info.Formula.{Formula}
 use Rattle.ob_schema.specs.declared.info.ModelInfo.{ModelInfo}
-use Rattle.ob_schema.specs.Fields.{kept_fields}
+use Rattle.ob_schema.specs.declared.info.Origin.{Origin}
+use Rattle.ob_schema.specs.declared.info.Origin.TheVariants as origin
+use Rattle.ob_schema.specs.Built.{automatic_infos}
+use Rattle.ob_schema.specs.Fields.{Holds, is_plain_kept, kept_fields}
+use Rattle.ob_schema.specs.Formulas.{kind_of_type}
+use Rattle.ob_schema.specs.Keys.{is_selection}
+use Rattle.ob_schema.specs.Types.{is_list}
 
 -- what has this number, counted from 1
 abbrev pub numbered : {X : Type 0} → List X → ℕ → Option X
@@ -46,11 +56,36 @@ field_named fields name = option_map (λ i. record { 0 = suc i }) (position (λ 
 abbrev pub AreInOrder : List (List ℕ) → Type 0
 AreInOrder names = AllPairs (λ a b. slice_cmp nat_cmp a b ≡ Less) names
 
--- a model's fields are named in byte order, each name once and at most 64 bytes, 256 fields at most
+-- the kind of a field's values
+abbrev pub kind_of_info : FieldInfo → Option Kind
+kind_of_info field = kind_of_type field.field_type field.relation
+
+-- a plain kept field of this number, whose values are of the kind
+abbrev pub IsOperand : List FieldInfo → FieldNo → Kind → Type 0
+IsOperand fields number k = IsSomeAnd (numbered fields number.0) (λ field. (is_plain_kept field ≡ true) × (kind_of_info field ≡ Some k))
+
+-- a formula takes plain fields of the row, each for the kind that it has, and gives values of the field's own kind; the field is no list and no selection
+pub record IsFormulaIn (fields : List FieldInfo) (field : FieldInfo) (formula : Formula) : Type 0 where
+  pub kinded : IsWellKinded (typed_tree_of formula.typed)
+  pub operands : EachField (IsOperand fields) (typed_tree_of formula.typed)
+  pub kind : kind_of_info field ≡ Some (kind_of (typed_tree_of formula.typed))
+  pub no_list : is_list field.field_type ≡ false
+  pub no_selection : is_selection field.field_type ≡ false
+
+-- an id is an integer, and a computed field's formula is one of its model
+abbrev pub IsOriginIn : List FieldInfo → FieldInfo → Origin → Type 0
+IsOriginIn fields field origin.Id = field.field_type ≡ type.Integer
+IsOriginIn fields field origin.Plain = ⊤
+IsOriginIn fields field (origin.Computed formula) = IsFormulaIn fields field formula
+
+-- a model's fields are named in byte order, each name once and at most 64 bytes, 256 fields at most; the automatic fields are among them; formulas and defaults fit their fields
 pub record IsModel (model : ModelInfo) : Type 0 where
   pub few : length model.fields ≤ 256
   pub short : All (λ field. length field.name ≤ 64) model.fields
   pub ordered : AreInOrder (map (λ field. field.name) model.fields)
+  pub automatic : All (Contains model.fields) automatic_infos
+  pub formulas : All (λ field. IsOriginIn model.fields field field.origin) model.fields
+  pub defaults : All (λ field. IfSome field.default (Holds field)) model.fields
 
 -- at most 512 models
 pub record IsRegistry (models : List ModelInfo) : Type 0 where

@@ -1,18 +1,7 @@
--- The forms of names.
-use Rattle.std.specs.Prelude.{ℕ, ◌&&◌, ◌||◌, ◌==◌, nat_le, List, [], ◌∷◌, length, Bool, false}
+-- The forms of names. Their bytes are those of names in expressions.
+use Rattle.std.specs.Prelude.{ℕ, ◌&&◌, ◌||◌, ◌==◌, nat_le, List, length, Bool}
 use Rattle.std.specs.List.{list_all}
-
--- a small letter
-abbrev pub is_letter : ℕ → Bool
-is_letter b = nat_le 97 b && nat_le b 122
-
--- a small letter, a digit or an underscore
-abbrev pub is_name_byte : ℕ → Bool
-is_name_byte b = is_letter b || (nat_le 48 b && nat_le b 57) || (b == 95)
-
-abbrev pub begins_with_letter : List ℕ → Bool
-begins_with_letter [] = false
-begins_with_letter (b ∷ bytes) = is_letter b
+use Rattle.ob_expr.specs.Lexemes.{begins_with_letter, is_name_byte}
 
 -- a letter first, and at most 64 bytes
 abbrev pub is_named_by : (ℕ → Bool) → List ℕ → Bool

@@ -4,6 +4,7 @@
 ghost use Rattle.std.specs.Prelude.{◌≢◌, IfOk, IfErr, OnOk};
 ghost use Rattle.ob_schema.specs.Built.{IsBuilt};
 ghost use Rattle.ob_schema.specs.Faults.{IsFaultless, IsFirst};
+ghost use Rattle.ob_schema.specs.Models.{IsRegistry};
 
 use crate::building::registry;
 use crate::definition::ModelDef;
@@ -19,6 +20,7 @@ impl Schema {
     /// field by bytes, then variant as listed.
     pub fn build(alloc: Global, defs: &[ModelDef]) -> Result<Schema, SchemaFault>
         ensures built { IfOk result (λ schema. IsBuilt defs.now schema) }
+        ensures sound { IfOk result IsRegistry }
         ensures faultless { OnOk result (IsFaultless defs.now) }
         ensures fault { IfErr result
             (λ why. why ≢ SchemaFault.NoMemory → IsFirst defs.now why) }

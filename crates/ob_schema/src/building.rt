@@ -1,15 +1,15 @@
 //! The registry of definitions against which nothing stands: its models, each with its
 //! fields by name. What a field is made of stands in `field_building`.
 
-ghost use Rattle.std.specs.Prelude.{◌≡◌, ◌≤◌, Contains, IfOk, length, map};
+ghost use Rattle.std.specs.Prelude.{◌≡◌, ◌≤◌, All, Contains, IfOk, length, map};
 ghost use Rattle.std.specs.Cmp.Lexicographic.{slice_cmp};
 ghost use Rattle.std.specs.List.{AllZip};
 ghost use Rattle.std.specs.List.Sorted.{IsPermutation, IsSortedByKey};
 ghost use Rattle.std.specs.Ordering.{nat_cmp};
 ghost use Rattle.ob_schema.specs.Built.{IsBuilt, IsFieldOf, IsModelOf, id_info, moment_info};
 ghost use Rattle.ob_schema.specs.Faults.{IsFaultless};
-ghost use Rattle.ob_schema.specs.Making.{AreFields, AreUnsorted, bare_info, numbered_term, order_of};
-ghost use Rattle.ob_schema.specs.Models.{IsModel};
+ghost use Rattle.ob_schema.specs.Making.{AreFields, AreUnsorted, HoldsDefault, bare_info, numbered_term, order_of};
+ghost use Rattle.ob_schema.specs.Models.{IsModel, IsRegistry};
 ghost use Rattle.ob_schema.specs.Orders.{terms_of};
 
 use crate::definition::ModelDef;
@@ -27,7 +27,8 @@ use std::alloc::Global;
 /// The registry of definitions.
 pub(crate) fn registry(alloc: Global, defs: &[ModelDef]) -> Result<Schema, NoMemory>
     requires { IsFaultless defs.now }
-    ensures { IfOk result (λ schema. IsBuilt defs.now schema) }
+    ensures built { IfOk result (λ schema. IsBuilt defs.now schema) }
+    ensures sound { IfOk result IsRegistry }
 {
     let mut models = Sequence::new(alloc);
     for def in defs {
@@ -136,8 +137,9 @@ fn declared_fields(
 ) -> Result<Vec<FieldInfo>, NoMemory>
     requires faultless { IsFaultless defs.now }
     requires among { Contains defs.now def.now }
-    ensures { IfOk result
+    ensures of { IfOk result
         (λ fields. AllZip (IsFieldOf defs.now def.now) def.now.fields fields.items) }
+    ensures held { IfOk result (λ fields. All HoldsDefault fields.items) }
 {
     let mut fields = Vec::new(alloc);
     for field in def.fields.as_slice() {

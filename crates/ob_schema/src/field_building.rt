@@ -1,11 +1,14 @@
 //! A field of the registry from its definition. A new key of the module format gets its
 //! meaning here, and in `specs/Built`.
 
-ghost use Rattle.std.specs.Prelude.{◌≡◌, ◌≤◌, ◌∷◌, [], Contains, IfOk, IsSome, length, map, option_and_then, unwrap_or};
+ghost use Rattle.std.specs.Prelude.{◌≡◌, ◌≤◌, ◌∷◌, [], Contains, IfOk, IfSome, IsSome, true, length, map, option_and_then, unwrap_or};
 ghost use Rattle.ob_schema.specs.Built.{IsFieldOf, IsOrigin, inverse_number, is_stored};
 ghost use Rattle.ob_schema.specs.Faults.{HasTyped, IsFaultless};
 ghost use Rattle.ob_expr.specs.Checking.{typed_tree_of};
 ghost use Rattle.ob_schema.specs.Formulas.{model_number, number_of};
+ghost use Rattle.ob_schema.specs.Keys.{default_fits};
+ghost use Rattle.ob_schema.specs.Making.{HoldsDefault, IsNative};
+ghost use Rattle.ob_schema.specs.Values.{IsValueOf};
 
 use crate::definition::{FieldDef, ModelDef};
 use crate::definitions::{model_def, model_number, number_of};
@@ -28,7 +31,8 @@ pub(crate) fn field_info(
     requires faultless { IsFaultless defs.now }
     requires among { Contains defs.now def.now }
     requires declared { Contains def.now.fields field.now }
-    ensures { IfOk result (IsFieldOf defs.now def.now field.now) }
+    ensures of { IfOk result (IsFieldOf defs.now def.now field.now) }
+    ensures held { IfOk result HoldsDefault }
 {
     Ok(FieldInfo {
         name: field.name.try_clone(alloc)?,
@@ -125,11 +129,26 @@ fn string_of(alloc: Global, field: &FieldDef) -> Result<Word, NoMemory>
 
 /// A copy of the default.
 fn default_of(alloc: Global, field: &FieldDef) -> Result<Option<Value>, NoMemory>
-    ensures { IfOk result (λ default. default ≡ field.now.default) }
+    requires { default_fits field.now ≡ true }
+    ensures same { IfOk result (λ default. default ≡ field.now.default) }
+    ensures held { IfOk result (λ default. IfSome default
+        (IsValueOf field.now.field_type (unwrap_or field.now.selection []))) }
 {
     match &field.default {
-        Some(value) => Ok(Some(value.try_clone(alloc)?)),
+        Some(value) => Ok(Some(same_constant(alloc, value)?)),
         None => Ok(None),
+    }
+}
+
+/// The same constant again: by their types an integer fits 64 bits and a text is UTF-8.
+fn same_constant(alloc: Global, value: &Value) -> Result<Value, NoMemory>
+    ensures same { IfOk result (λ constant. constant ≡ value.now) }
+    ensures native { IfOk result IsNative }
+{
+    match value {
+        Value::Int(number) => Ok(Value::Int(*number)),
+        Value::Word(word) => Ok(Value::Word(Word::from_text(alloc, word.as_str())?)),
+        _ => value.try_clone(alloc),
     }
 }
 

@@ -1,6 +1,8 @@
 //! Models as definitions: what a module's text declares, and the registry that is
 //! built from it, with every name resolved. So far a model's fields are plain, or
-//! computed over plain fields of their own row.
+//! computed over plain fields of their own row. Its contract: `build` accepts exactly
+//! the stated definitions, else it names the first fault in the stated order, and each
+//! look-up is that of the list of models.
 //!
 //! Rooms: `field_type` (the types of fields and what they may hold), `definition` (what
 //! is declared, a field for each key of a module file), `info` (the same with names

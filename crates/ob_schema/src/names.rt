@@ -1,9 +1,10 @@
 //! The forms of names of models and fields. A byte that names may have is added in
-//! `specs/Names` and here.
+//! `specs/Lexemes` of ob_expr and here.
 
 ghost use Rattle.std.specs.Prelude.{◌≡◌, ◌||◌, ◌==◌};
 ghost use Rattle.std.specs.List.{list_all};
-ghost use Rattle.ob_schema.specs.Names.{begins_with_letter, is_field_name, is_letter, is_model_name, is_name_byte};
+ghost use Rattle.ob_expr.specs.Lexemes.{begins_with_letter, is_letter, is_name_byte};
+ghost use Rattle.ob_schema.specs.Names.{is_field_name, is_model_name};
 
 /// The length in bytes of a name.
 const MAX_NAME_BYTES: usize = 64;
@@ -54,6 +55,7 @@ fn is_letter(byte: u8) -> bool
     matches!(byte, b'a'..=b'z')
 }
 
+#[tactic(auto, using(crate::proofs::NameBytes::name_byte_tests))]
 fn is_name_byte(byte: u8) -> bool
     ensures { result ≡ is_name_byte byte }
 {

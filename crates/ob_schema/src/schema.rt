@@ -2,7 +2,7 @@
 //! index by name may be changed here at will.
 
 ghost use Rattle.std.specs.Prelude.{◌≡◌, ◌≤◌, All, IfOk, IfSome, option_map, Some, length, map};
-ghost use Rattle.ob_schema.specs.Models.{AreInOrder, HasField, HasModel, IsRegistry, field_at, field_named, model_at, model_named};
+ghost use Rattle.ob_schema.specs.Models.{AreInOrder, HasField, HasModel, IsModel, IsRegistry, field_at, field_named, model_at, model_named, numbered};
 ghost use Rattle.ob_schema.specs.NameIndex.{IsIndexOf};
 
 use crate::info::{FieldInfo, ModelInfo};
@@ -52,7 +52,8 @@ impl Schema {
 
     /// The model of this name.
     pub fn model(&self, name: &str) -> Option<ModelNo>
-        ensures { result ≡ model_named self.now name.now }
+        ensures named { result ≡ model_named self.now name.now }
+        ensures there { IfSome result (HasModel self.now) }
     {
         self.index.get(name).copied()
     }
@@ -60,17 +61,35 @@ impl Schema {
     /// The field of this name of a model.
     pub fn field(&self, model: ModelNo, name: &str) -> Option<FieldNo>
         requires { HasModel self.now model }
-        ensures { IfSome (model_at self.now model)
+        ensures named { IfSome (model_at self.now model)
             (λ info. result ≡ field_named info.fields name.now) }
+        ensures there { IfSome result (HasField self.now model) }
     {
         let info = &self.models.as_slice()[model.0 as usize - 1];
         field_number(info.fields.as_slice(), name)
     }
 
+    /// The model of a number, where there is one.
+    pub fn find_model(&self, model: ModelNo) -> Option<&ModelInfo>
+        ensures { option_map (λ info. info.now) result ≡ model_at self.now model }
+    {
+        numbered(self.models.as_slice(), model.0)
+    }
+
+    /// The field of a number of a model, where there are both.
+    pub fn find_field(&self, model: ModelNo, field: FieldNo) -> Option<&FieldInfo>
+        ensures { option_map (λ info. info.now) result ≡ field_at self.now model field }
+    {
+        let info = self.find_model(model)?;
+        numbered(info.fields.as_slice(), field.0)
+    }
+
     /// A model.
     pub fn model_info(&self, model: ModelNo) -> &ModelInfo
         requires { HasModel self.now model }
-        ensures { model_at self.now model ≡ Some result.now }
+        ensures at { model_at self.now model ≡ Some result.now }
+        // Its formulas and defaults fit its fields.
+        ensures fit { IsModel result.now }
     {
         &self.models.as_slice()[model.0 as usize - 1]
     }
@@ -95,6 +114,13 @@ impl Schema {
     {
         &self.model_info(model).fields.as_slice()[field.0 as usize - 1]
     }
+}
+
+/// What has this number, counted from 1.
+fn numbered<T>(items: &[T], number: u16) -> Option<&T>
+    ensures { option_map (λ item. item.now) result ≡ numbered items.now number }
+{
+    items.get(usize::from(number).checked_sub(1)?)
 }
 
 /// The number of the first model of each name.

@@ -1,4 +1,5 @@
-//! The registry of the line model, and what stands against definitions, a case a line.
+//! The registry of the line model, look-ups by name, and what stands against definitions,
+//! a case a line.
 
 use crate::{FieldDef, FieldType, ModelDef, Schema, SchemaFault, Spot};
 use ob_base::{FieldNo, ModelNo, NoMemory, Sequence, Value, Word};
@@ -364,6 +365,60 @@ fn a_model_with_its_numbers(rt: HostRuntime) -> Result<(), Fail> {
     }
     assert_eq!(rt; schema.model("demo.line"), Some(ModelNo(1)));
     assert!(rt; model.fields.as_slice()[5].store);
+    Ok(())
+}
+
+fn registry_of_two(alloc: Global) -> Result<Schema, Fail> {
+    const ACTIVE: Field = Field {
+        name: "active",
+        ..CHAR
+    };
+    const CITY: Field = Field {
+        name: "city",
+        ..CHAR
+    };
+    const ZIP_CODE: Field = Field {
+        name: "zip_code",
+        ..CHAR
+    };
+    const ZIP: Field = Field {
+        name: "zip",
+        ..CHAR
+    };
+    let mut defs = Vec::new(alloc);
+    defs.push(model_of(alloc, "res.partner", &[CITY, ACTIVE])?)?;
+    defs.push(model_of(alloc, "res.city", &[ZIP_CODE, ZIP])?)?;
+    Ok(Schema::build(alloc, defs.as_slice())?)
+}
+
+/// The number of the field of a name of the model of a name, and the name at that number.
+fn found<'a>(schema: &'a Schema, model: &str, name: &str) -> Option<(FieldNo, &'a str)> {
+    let model = schema.model(model)?;
+    let field = schema.field(model, name)?;
+    Some((field, schema.info(model, field).name.as_str()))
+}
+
+#[test]
+fn look_ups(rt: HostRuntime) -> Result<(), Fail> {
+    let schema = registry_of_two(rt.alloc())?;
+    assert_eq!(rt; schema.model("res.partner"), Some(ModelNo(1)));
+    assert_eq!(rt; schema.model("res.city"), Some(ModelNo(2)));
+    assert_eq!(rt; schema.model("res.part"), None);
+    let table = [
+        ("res.partner", "active", Some((FieldNo(1), "active"))),
+        ("res.partner", "city", Some((FieldNo(2), "city"))),
+        ("res.partner", "name", Some((FieldNo(5), "name"))),
+        ("res.partner", "zip", None),
+        ("res.city", "id", Some((FieldNo(2), "id"))),
+        ("res.city", "zip", Some((FieldNo(7), "zip"))),
+        ("res.city", "zip_code", Some((FieldNo(8), "zip_code"))),
+        ("res.city", "zip_", None),
+        ("res.city", "", None),
+        ("", "id", None),
+    ];
+    for (model, name, field) in table {
+        assert_eq!(rt; found(&schema, model, name), field, "{model}.{name}");
+    }
     Ok(())
 }
 

@@ -12,3 +12,10 @@ pub mod OneWord
 pub mod WholeCall
 pub mod WrittenParts
 pub mod Others
+pub mod SixElements
+pub mod CallFound
+pub mod RegistryText
+pub mod RegistryFaultless
+pub mod RegistryPlaces
+pub mod RegistryLine
+pub mod ServedLine

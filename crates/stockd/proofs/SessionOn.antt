@@ -7,7 +7,8 @@ use Rattle.std.proofs.lemmas.List.Elements.{filter-append}
 use Rattle.ob_io.specs.Store.{Store}
 use Rattle.ob_orm.specs.Tables.{empty_tables}
 use Rattle.ob_orm.specs.Kept.{Kept}
-use Rattle.ob_orm.specs.Line.{line_schema}
+use Rattle.ob_schema.specs.declared.info.ModelInfo.{ModelInfo}
+use Rattle.stockd.specs.Model.{IsLineRegistry}
 use Rattle.stockd.specs.declared.ending.Ending.{Ending}
 use Rattle.stockd.specs.declared.ending.Ending.TheVariants as ending
 use Rattle.stockd.specs.Lines.{is_blank, Reading}
@@ -40,22 +41,22 @@ pub no_write_fault : (why : Ending) → CutsNone why → why ≡ ending.WriteFau
 no_write_fault why h is = cut_at_fault (subst CutsNone is h)
 
 -- the session ends with all replies written
-ends_served : {moments : ℕ → ℤ} {faults_before : ℕ} {before : List ℕ} {bodies : List (List ℕ)} {now : Standing} (h : HasServed moments faults_before before bodies now) (stream left : List ℕ) {left_now : Option (List ℕ)} (why : Ending) → left_now ≡ Some left → TakesIn why stream left bodies → CutsNone why → ServesSession moments faults_before now.faults why stream before now.kept now.coming left_now now.written
-ends_served {moments} {faults_before} {before} {bodies} {now} h stream left why left_is takes_in told = record {
+ends_served : {models : List ModelInfo} (registry : IsLineRegistry models) {moments : ℕ → ℤ} {faults_before : ℕ} {before : List ℕ} {bodies : List (List ℕ)} {now : Standing} (h : HasServed models moments faults_before before bodies now) (stream left : List ℕ) {left_now : Option (List ℕ)} (why : Ending) → left_now ≡ Some left → TakesIn why stream left bodies → CutsNone why → ServesSession moments faults_before now.faults why stream before now.kept now.coming left_now now.written
+ends_served {models} registry {moments} {faults_before} {before} {bodies} {now} h stream left why left_is takes_in told = record {
   store = h.store;
   left = left;
   written = reply_lines h.replies;
   kept_is = h.kept_is;
   left_is = left_is;
   written_is = h.written_is;
-  session = record { bodies = bodies; replies = h.replies; rest = h.rest; tables = h.tables; run = h.run; kept = h.kept; takes_in = takes_in; tells = told h.replies };
+  session = record { models = models; registry = registry; bodies = bodies; replies = h.replies; rest = h.rest; tables = h.tables; run = h.run; kept = h.kept; takes_in = takes_in; tells = told h.replies };
   coming_is = h.coming_is;
 }
 
 -- the session ends where no further line is read
-pub ends_reading : {moments : ℕ → ℤ} {faults_before : ℕ} {stream before : List ℕ} {reader : Reading} {left : Option (List ℕ)} {now : Standing} (h : IsServing moments faults_before stream before reader left now) {left_now : Option (List ℕ)} (why : Ending) → StopsReading why stream left_now h.lines → CutsNone why → ServesSession moments faults_before now.faults why stream before now.kept now.coming left_now now.written
-ends_reading {stream = stream} h why stops told =
-    ends_served h.served stream stops.left why stops.left_is stops.takes_in told
+pub ends_reading : {models : List ModelInfo} (registry : IsLineRegistry models) {moments : ℕ → ℤ} {faults_before : ℕ} {stream before : List ℕ} {reader : Reading} {left : Option (List ℕ)} {now : Standing} (h : IsServing models moments faults_before stream before reader left now) {left_now : Option (List ℕ)} (why : Ending) → StopsReading why stream left_now h.lines → CutsNone why → ServesSession moments faults_before now.faults why stream before now.kept now.coming left_now now.written
+ends_reading registry {stream = stream} h why stops told =
+    ends_served registry h.served stream stops.left why stops.left_is stops.takes_in told
 
 -- a session begins
 
@@ -70,17 +71,17 @@ read_none stream reader left new told = record {
   none_too_long = λ k below. absurd (omega arith);
 }
 
-pub begins : {moments : ℕ → ℤ} {stream before : List ℕ} {store : Store} {reader : Reading} {left : Option (List ℕ)} (now : Standing) → reader ≡ record { held = []; line = []; lines = 0; consumed = 0 } → left ≡ Some stream → now.written ≡ Some before → now.kept ≡ Some store → now.coming ≡ Some moments → Kept line_schema store empty_tables → IsServing moments now.faults stream before reader left now
-begins {moments} {stream} {before} {store} {reader} {left} now new l w k c same = record {
+pub begins : (models : List ModelInfo) {moments : ℕ → ℤ} {stream before : List ℕ} {store : Store} {reader : Reading} {left : Option (List ℕ)} (now : Standing) → reader ≡ record { held = []; line = []; lines = 0; consumed = 0 } → left ≡ Some stream → now.written ≡ Some before → now.kept ≡ Some store → now.coming ≡ Some moments → Kept models store empty_tables → IsServing models moments now.faults stream before reader left now
+begins models {moments} {stream} {before} {store} {reader} {left} now new l w k c same = record {
   lines = [];
   read = read_none stream reader left new l;
-  served = served_none moments before store now k c w same;
+  served = served_none models moments before store now k c w same;
 }
 
 -- there was no memory for a reader
-pub ends_at_once : {moments : ℕ → ℤ} {stream before : List ℕ} {store : Store} {left : Option (List ℕ)} (now : Standing) → left ≡ Some stream → now.written ≡ Some before → now.kept ≡ Some store → now.coming ≡ Some moments → Kept line_schema store empty_tables → ServesSession moments now.faults now.faults ending.NoMemory stream before now.kept now.coming left now.written
-ends_at_once {moments} {stream} {before} {store} now l w k c same =
-    ends_served (served_none moments before store now k c w same) stream stream ending.NoMemory l (0, record { bodies_are = refl; none_too_long = λ k below. absurd (omega arith) }) (λ replies. refl)
+pub ends_at_once : (models : List ModelInfo) → IsLineRegistry models → {moments : ℕ → ℤ} {stream before : List ℕ} {store : Store} {left : Option (List ℕ)} (now : Standing) → left ≡ Some stream → now.written ≡ Some before → now.kept ≡ Some store → now.coming ≡ Some moments → Kept models store empty_tables → ServesSession moments now.faults now.faults ending.NoMemory stream before now.kept now.coming left now.written
+ends_at_once models registry {moments} {stream} {before} {store} now l w k c same =
+    ends_served registry (served_none models moments before store now k c w same) stream stream ending.NoMemory l (0, record { bodies_are = refl; none_too_long = λ k below. absurd (omega arith) }) (λ replies. refl)
 
 -- a line more
 
@@ -88,18 +89,18 @@ bodies_in-append : (lines more : List (List ℕ)) → bodies_in (lines ++ more) 
 bodies_in-append lines more =
     filter-append (λ (line : List ℕ). not (is_blank line)) lines more
 
-serves_more : {moments : ℕ → ℤ} {faults_before : ℕ} {stream before : List ℕ} {reader : Reading} {left : Option (List ℕ)} {old : Standing} (h : IsServing moments faults_before stream before reader left old) (line : List ℕ) (now : Standing) → ServesOn (bodies_in (line ∷ [])) old now → HasServed moments faults_before before (bodies_in (h.lines ++ line ∷ [])) now
-serves_more {moments} {faults_before} {stream} {before} h line now serves =
-    subst (λ bodies. HasServed moments faults_before before bodies now) (sym (bodies_in-append h.lines (line ∷ []))) (serves moments faults_before before (bodies_in h.lines) h.served)
+serves_more : {models : List ModelInfo} {moments : ℕ → ℤ} {faults_before : ℕ} {stream before : List ℕ} {reader : Reading} {left : Option (List ℕ)} {old : Standing} (h : IsServing models moments faults_before stream before reader left old) (line : List ℕ) (now : Standing) → ServesOn models (bodies_in (line ∷ [])) old now → HasServed models moments faults_before before (bodies_in (h.lines ++ line ∷ [])) now
+serves_more {models} {moments} {faults_before} {stream} {before} h line now serves =
+    subst (λ bodies. HasServed models moments faults_before before bodies now) (sym (bodies_in-append h.lines (line ∷ []))) (serves moments faults_before before (bodies_in h.lines) h.served)
 
-pub goes_on : {moments : ℕ → ℤ} {faults_before : ℕ} {stream before : List ℕ} {reader new : Reading} {left left_now : Option (List ℕ)} {old : Standing} (h : IsServing moments faults_before stream before reader left old) (line : List ℕ) (now : Standing) → HasRead stream new left_now (h.lines ++ line ∷ []) → ServesOn (bodies_in (line ∷ [])) old now → IsServing moments faults_before stream before new left_now now
+pub goes_on : {models : List ModelInfo} {moments : ℕ → ℤ} {faults_before : ℕ} {stream before : List ℕ} {reader new : Reading} {left left_now : Option (List ℕ)} {old : Standing} (h : IsServing models moments faults_before stream before reader left old) (line : List ℕ) (now : Standing) → HasRead stream new left_now (h.lines ++ line ∷ []) → ServesOn models (bodies_in (line ∷ [])) old now → IsServing models moments faults_before stream before new left_now now
 goes_on h line now read serves =
     record { lines = h.lines ++ line ∷ []; read = read; served = serves_more h line now serves }
 
 -- the last line had no line feed
-pub ends_at_end : {moments : ℕ → ℤ} {faults_before : ℕ} {stream before : List ℕ} {reader : Reading} {left left_now : Option (List ℕ)} {old : Standing} (h : IsServing moments faults_before stream before reader left old) (line : List ℕ) (now : Standing) → HasReadAll stream left_now (h.lines ++ line ∷ []) → ServesOn (bodies_in (line ∷ [])) old now → ServesSession moments faults_before now.faults ending.Done stream before now.kept now.coming left_now now.written
-ends_at_end {stream = stream} h line now read serves =
-    ends_served (serves_more h line now serves) stream [] ending.Done read.none_left (sym (ap bodies_in read.lines_are), refl, subst (λ (ls : List (List ℕ)). NoneTooLong (length ls) stream) (sym read.lines_are) read.none_too_long) (λ replies. refl)
+pub ends_at_end : {models : List ModelInfo} (registry : IsLineRegistry models) {moments : ℕ → ℤ} {faults_before : ℕ} {stream before : List ℕ} {reader : Reading} {left left_now : Option (List ℕ)} {old : Standing} (h : IsServing models moments faults_before stream before reader left old) (line : List ℕ) (now : Standing) → HasReadAll stream left_now (h.lines ++ line ∷ []) → ServesOn models (bodies_in (line ∷ [])) old now → ServesSession moments faults_before now.faults ending.Done stream before now.kept now.coming left_now now.written
+ends_at_end registry {stream = stream} h line now read serves =
+    ends_served registry (serves_more h line now serves) stream [] ending.Done read.none_left (sym (ap bodies_in read.lines_are), refl, subst (λ (ls : List (List ℕ)). NoneTooLong (length ls) stream) (sym read.lines_are) read.none_too_long) (λ replies. refl)
 
 -- the lines that were read are the stream's first ones, and the source tells what it has left
 read_among : (whole : Bool) (stream : List ℕ) (reader : Reading) (left : Option (List ℕ)) (lines : List (List ℕ)) → HasReadTo whole stream reader left lines → AreAmong (length lines) stream (bodies_in lines)
@@ -123,8 +124,8 @@ bodies_in-body lines line body =
     bodies_in-append lines (line ∷ []) ∙ ap (λ more. bodies_in lines ++ more) last
 
 -- the sink failed within the reply's line
-pub ends_writing : {moments : ℕ → ℤ} {faults_before : ℕ} {stream before : List ℕ} {reader : Reading} {left left_now : Option (List ℕ)} {old : Standing} (h : IsServing moments faults_before stream before reader left old) (whole : Bool) (new : Reading) (line : List ℕ) (now : Standing) → HasReadTo whole stream new left_now (h.lines ++ line ∷ []) → is_blank line ≡ false → StopsAt line old now → ServesSession moments faults_before now.faults ending.WriteFault stream before now.kept now.coming left_now now.written
-ends_writing {moments} {faults_before} {stream} {before} {left_now = left_now} h whole new line now read body stops =
+pub ends_writing : {models : List ModelInfo} (registry : IsLineRegistry models) {moments : ℕ → ℤ} {faults_before : ℕ} {stream before : List ℕ} {reader : Reading} {left left_now : Option (List ℕ)} {old : Standing} (h : IsServing models moments faults_before stream before reader left old) (whole : Bool) (new : Reading) (line : List ℕ) (now : Standing) → HasReadTo whole stream new left_now (h.lines ++ line ∷ []) → is_blank line ≡ false → StopsAt models line old now → ServesSession moments faults_before now.faults ending.WriteFault stream before now.kept now.coming left_now now.written
+ends_writing {models} registry {moments} {faults_before} {stream} {before} {left_now = left_now} h whole new line now read body stops =
     let stop = stops moments faults_before before (bodies_in h.lines) h.served in
     let left = read_left whole stream new left_now (h.lines ++ line ∷ []) read in
     let among = read_among whole stream new left_now (h.lines ++ line ∷ []) read in record {
@@ -134,7 +135,7 @@ ends_writing {moments} {faults_before} {stream} {before} {left_now = left_now} h
       kept_is = stop.kept_is;
       left_is = left.1;
       written_is = stop.written_is;
-      session = record { bodies = bodies_in h.lines ++ line ∷ []; replies = stop.replies; rest = stop.rest; tables = stop.tables; run = stop.run; kept = stop.kept; takes_in = (length (h.lines ++ line ∷ []), subst (λ (bodies : List (List ℕ)). AreAmong (length (h.lines ++ line ∷ [])) stream bodies) (bodies_in-body h.lines line body) among); tells = stop.tells };
+      session = record { models = models; registry = registry; bodies = bodies_in h.lines ++ line ∷ []; replies = stop.replies; rest = stop.rest; tables = stop.tables; run = stop.run; kept = stop.kept; takes_in = (length (h.lines ++ line ∷ []), subst (λ (bodies : List (List ℕ)). AreAmong (length (h.lines ++ line ∷ [])) stream bodies) (bodies_in-body h.lines line body) among); tells = stop.tells };
       coming_is = stop.coming_is;
     }
 

@@ -1,40 +1,48 @@
 -- From what `call` did up to its last line to what the whole run did.
-use Rattle.std.proofs.Common.{◌≡◌, ℕ, ◌≤◌, ℤ, List, [], ◌∷◌, ◌++◌, Option, Some, None, refl, subst, inl, inr, arith}
+use Rattle.std.proofs.Common.{◌≡◌, ℕ, ◌≤◌, ℤ, List, [], ◌∷◌, ◌++◌, Option, Some, Result, Ok, Err, refl, sym, ap, subst, inl, inr, arith}
+use Rattle.ob_base.specs.declared.id.ModelNo.{ModelNo}
 use Rattle.ob_io.specs.Cause.{Rose}
 use Rattle.ob_io.specs.Store.{Store}
 use Rattle.std.specs.FinMap.{get-empty}
 use Rattle.ob_orm.specs.Tables.{Tables, empty_tables}
-use Rattle.ob_orm.specs.Kept.{Kept}
-use Rattle.ob_orm.specs.Line.{line_schema}
+use Rattle.ob_orm.specs.Kept.{Kept, KeepsModel}
+use Rattle.ob_rpc.specs.Envelope.{Envelope, Fault, envelope_of}
+use Rattle.ob_schema.specs.Built.{IsBuilt}
+use Rattle.ob_schema.specs.Models.{model_at}
+use Rattle.ob_schema.specs.declared.info.ModelInfo.{ModelInfo}
+use Rattle.stockd.specs.Model.{line_defs, line_model}
 use Rattle.stockd.specs.declared.ending.Ending.{Ending}
 use Rattle.stockd.specs.declared.ending.Ending.TheVariants.{Usage}
-use Rattle.stockd.specs.Request.{Request, request_of}
 use Rattle.stockd.specs.Machine.{FailsBy, Step, Run}
 use Rattle.stockd.specs.Out.{status_of, last_line, IsNew, WritesLast, ServesSession, RunsCall, HasCauses}
 use Rattle.stockd.specs.Opening.{EndsCall}
+use Rattle.stockd.proofs.RegistryLine.{model_at-only}
+use Rattle.stockd.proofs.ServedOn.{if_found}
 
 -- a count that rose from a later moment on rose from an earlier one on
 rose_from : (a b c : ℕ) → a ≤ b → Rose b c → Rose a c
 rose_from a b c h (inl rose) = inl (omega arith)
 rose_from a b c h (inr most) = inr most
 
-fails_from : (a b c : ℕ) → a ≤ b → (request : Option Request) (reply : List ℕ) → FailsBy (Rose b c) request reply → FailsBy (Rose a c) request reply
-fails_from a b c h None reply fails = fails
-fails_from a b c h (Some request) reply fails = (rose_from a b c h fails.0, fails.1)
+-- the same of a fault of the keeper
+fails_from : (a b c : ℕ) → a ≤ b → (found : Result Envelope Fault) (reply : List ℕ) → FailsBy (Rose b c) found reply → FailsBy (Rose a c) found reply
+fails_from a b c h (Err fault) reply fails = absurd fails
+fails_from a b c h (Ok envelope) reply fails = (rose_from a b c h fails.0, fails.1)
 
-step_from : (a b c : ℕ) → a ≤ b → (old : Tables) (now : ℤ) (body reply : List ℕ) (new : Tables) → Step old now (Rose b c) body reply new → Step old now (Rose a c) body reply new
-step_from a b c h old now body reply new (inl answers) = inl answers
-step_from a b c h old now body reply new (inr (same, inl text)) = inr (same, inl text)
-step_from a b c h old now body reply new (inr (same, inr fails)) =
-    inr (same, inr (fails_from a b c h (request_of body) reply fails))
+-- and of a step
+step_from : (a b c : ℕ) → a ≤ b → (models : List ModelInfo) (old : Tables) (now : ℤ) (body reply : List ℕ) (new : Tables) → Step models old now (Rose b c) body reply new → Step models old now (Rose a c) body reply new
+step_from a b c h models old now body reply new (inl answers) = inl answers
+step_from a b c h models old now body reply new (inr (same, inl text)) = inr (same, inl text)
+step_from a b c h models old now body reply new (inr (same, inr fails)) =
+    inr (same, inr (fails_from a b c h (envelope_of body) reply fails))
 
 -- a run of the machine from a later count of faults on is one from an earlier one on
-pub run_from : (moments : ℕ → ℤ) (old : Tables) (a b : ℕ) → a ≤ b → (bodies replies : List (List ℕ)) (rest : ℕ → ℤ) (now : ℕ) (new : Tables) → Run moments old b bodies replies rest now new → Run moments old a bodies replies rest now new
-run_from moments old a b h [] [] rest now new run = (run.0, omega (arith, run.1), run.2)
-run_from moments old a b h [] (reply ∷ replies) rest now new run = run
-run_from moments old a b h (body ∷ bodies) [] rest now new run = run
-run_from moments old a b h (body ∷ bodies) (reply ∷ replies) rest now new run =
-    (run.0, run.1, run.2, run.3, omega (arith, run.4), step_from a b run.2 h old (moments 0) body reply run.1 run.5, run.6)
+pub run_from : (models : List ModelInfo) (moments : ℕ → ℤ) (old : Tables) (a b : ℕ) → a ≤ b → (bodies replies : List (List ℕ)) (rest : ℕ → ℤ) (now : ℕ) (new : Tables) → Run models moments old b bodies replies rest now new → Run models moments old a bodies replies rest now new
+run_from models moments old a b h [] [] rest now new run = (run.0, omega (arith, run.1), run.2)
+run_from models moments old a b h [] (reply ∷ replies) rest now new run = run
+run_from models moments old a b h (body ∷ bodies) [] rest now new run = run
+run_from models moments old a b h (body ∷ bodies) (reply ∷ replies) rest now new run =
+    (run.0, run.1, run.2, run.3, omega (arith, run.4), step_from a b run.2 h models old (moments 0) body reply run.1 run.5, run.6)
 
 -- the same of a session
 pub session_from : (moments : ℕ → ℤ) (a b now : ℕ) → a ≤ b → (why : Ending) (stream before : List ℕ) (kept_now : Option Store) (coming_now : Option (ℕ → ℤ)) (left_now written_now : Option (List ℕ)) → ServesSession moments b now why stream before kept_now coming_now left_now written_now → ServesSession moments a now why stream before kept_now coming_now left_now written_now
@@ -48,11 +56,13 @@ session_from moments a b now h why stream before kept_now coming_now left_now wr
       left_is = s.left_is;
       written_is = s.written_is;
       session = record {
+        models = t.models;
+        registry = t.registry;
         bodies = t.bodies;
         replies = t.replies;
         rest = t.rest;
         tables = t.tables;
-        run = run_from moments empty_tables a b h t.bodies t.replies t.rest now t.tables t.run;
+        run = run_from t.models moments empty_tables a b h t.bodies t.replies t.rest now t.tables t.run;
         kept = t.kept;
         takes_in = t.takes_in;
         tells = t.tells;
@@ -61,8 +71,15 @@ session_from moments a b now h why stream before kept_now coming_now left_now wr
     }
 
 -- a new store has the rows of tables without rows
-pub new_is_kept : (store : Store) → IsNew store → Kept line_schema store empty_tables
-new_is_kept store new = record { rows = λ id. rw get-empty (new.no_row id); next = rw get-empty new.next }
+keeps_none : (info : ModelInfo) (store : Store) → IsNew store → KeepsModel line_model info store empty_tables
+keeps_none info store new = record { rows = λ id. rw get-empty (new.no_row id); next = rw get-empty new.next }
+
+-- of each model of the registry, since it has no other
+pub new_is_kept : (models : List ModelInfo) → IsBuilt line_defs models → (store : Store) → IsNew store → Kept models store empty_tables
+new_is_kept models built store new model =
+    if_found (model_at models model) (λ info at.
+    let is_line : model ≡ line_model = ap (λ (n : ℕ). record { 0 = n }) (model_at-only models built model info at) in
+    subst (λ (m : ModelNo). KeepsModel m info store empty_tables) (sym is_line) (keeps_none info store new))
 
 last_from : (a b c : ℕ) → a ≤ b → (before now : Option (List ℕ)) (line : List ℕ) → WritesLast (Rose b c) before now line → WritesLast (Rose a c) before now line
 last_from a b c h before now line (inl whole) = inl whole

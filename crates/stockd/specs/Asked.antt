@@ -1,26 +1,22 @@
--- How contracts see requests, wherever they lie in memory.
-use Rattle.std.specs.Prelude.{◌≡◌, Result, Ok, Err, Option, Some, None, ⊤}
+-- How contracts see what a request asks for.
+use Rattle.std.specs.Prelude.{◌≡◌, ℕ, option_map, unwrap_or, Result, Ok, Err}
+use Rattle.serde_json.specs.Data.{object, no_members}
 use Rattle.serde_json.specs.View.{view}
-use Rattle.stockd.specs.declared.request.MethodCall.{MethodCall}
-use Rattle.stockd.specs.declared.request.MethodCall.TheVariants.{Create, Read}
-use Rattle.stockd.specs.declared.request.Request as declared
-use Rattle.stockd.specs.declared.request.RequestFault.{RequestFault}
-use Rattle.stockd.specs.declared.request.RequestFault.TheVariants.{Malformed, NoMemory}
-use Rattle.stockd.specs.Request.{Call, create, read, Request}
+use Rattle.stockd.specs.declared.request.Method.{Method}
+use Rattle.stockd.specs.declared.request.Method.TheVariants as method
+use Rattle.stockd.specs.declared.request.ModelCall.{ModelCall}
+use Rattle.stockd.specs.Request as spec
 
-abbrev pub seen_call : MethodCall → Call
-seen_call (Create args) = create (view args)
-seen_call (Read args) = read (view args)
+-- a method, as the specs hold it
+abbrev pub method_seen : Method → spec.Method
+method_seen method.Create = spec.create
+method_seen method.Read = spec.read
 
-abbrev pub seen_request : declared.Request → Request
-seen_request request = record { id = view request.id; call = seen_call request.call }
+-- a call, as the specs hold it; arguments by name that are absent are none
+abbrev pub call_seen : ModelCall → spec.Call
+call_seen call = record { model = call.model; method = method_seen call.method; args = view call.args.now; kw = unwrap_or (option_map (λ kw. view kw.now) call.kw) (object no_members) }
 
--- a malformed body says that there is none of what was sought; want of memory says nothing
-abbrev pub Fails : {Y : Type 0} → RequestFault → Option Y → Type 0
-Fails Malformed sought = sought ≡ None
-Fails NoMemory sought = ⊤
-
--- what a function answers, seen by view, is what was sought, unless memory ran out
-abbrev pub Gives : {X Y : Type 0} → (X → Y) → Result X RequestFault → Option Y → Type 0
-Gives view (Ok x) sought = sought ≡ Some (view x)
-Gives view (Err fault) sought = Fails fault sought
+-- what was found is what was sought: the call, or the number of the wrong element
+abbrev pub Finds : Result ModelCall ℕ → Result spec.Call ℕ → Type 0
+Finds (Ok call) sought = sought ≡ Ok (call_seen call)
+Finds (Err n) sought = sought ≡ Err n

@@ -1,5 +1,6 @@
 pub mod Lines
 pub mod LineSteps
+pub mod Model
 pub mod Request
 pub mod Asked
 pub mod Texts

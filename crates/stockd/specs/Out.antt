@@ -5,7 +5,8 @@ use Rattle.ob_io.specs.Cause.{Rose}
 use Rattle.ob_io.specs.Store.{Store, row_at, next_of}
 use Rattle.ob_orm.specs.Tables.{Tables, empty_tables}
 use Rattle.ob_orm.specs.Kept.{Kept}
-use Rattle.ob_orm.specs.Line.{line_schema}
+use Rattle.ob_schema.specs.declared.info.ModelInfo.{ModelInfo}
+use Rattle.stockd.specs.Model.{IsLineRegistry}
 use Rattle.stockd.specs.declared.ending.Ending.{Ending}
 use Rattle.stockd.specs.declared.ending.Ending.TheVariants as ending
 use Rattle.stockd.specs.Lines.{is_line_feed, is_blank, lines_of, bodies_of, line_back, line_size, IsTooLong}
@@ -103,14 +104,16 @@ Tells ending.KeeperFault replies written = ⊥
 Tells (ending.Store id) replies written = ⊥
 
 -- A session over a new store: the machine's replies to the bodies that were taken in,
--- and its tables, with which the kept rows agree.
+-- over the registry of the definitions, and its tables, with which the kept rows agree.
 pub record Session (moments : ℕ → ℤ) (faults_before faults_now : ℕ) (store : Store) (why : Ending) (stream left written : List ℕ) : Type 0 where
+  pub models : List ModelInfo
+  pub registry : IsLineRegistry models
   pub bodies : List (List ℕ)
   pub replies : List (List ℕ)
   pub rest : ℕ → ℤ
   pub tables : Tables
-  pub run : Run moments empty_tables faults_before bodies replies rest faults_now tables
-  pub kept : Kept line_schema store tables
+  pub run : Run models moments empty_tables faults_before bodies replies rest faults_now tables
+  pub kept : Kept models store tables
   pub takes_in : TakesIn why stream left bodies
   pub tells : Tells why replies written
 

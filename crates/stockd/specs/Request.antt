@@ -1,46 +1,62 @@
--- What a body asks of the one model.
-use Rattle.std.specs.Prelude.{ℕ, ◌==◌, ◌&&◌, List, [], ◌∷◌, codes, bytes_eq, Bool, false, if◌then◌else◌, Option, Some, None, option_map, option_and_then}
+-- What a body asks for.
+use Rattle.std.specs.Prelude.{ℕ, ◌==◌, ◌&&◌, List, [], ◌∷◌, codes, Bool, false, if◌then◌else◌, Option, Some, None, option_and_then, Result, Ok, Err}
 use Rattle.std.specs.Option.{option_map_or}
-use Rattle.serde_json.specs.Data.{Data}
-use Rattle.serde_json.specs.Find.{as_u64, as_number, as_str}
-use Rattle.ob_rpc.specs.Envelope.{Envelope, envelope_of}
-use Rattle.ob_orm.specs.Json.{listed}
+use Rattle.ob_base.specs.declared.id.ModelNo.{ModelNo}
+use Rattle.ob_rpc.specs.Envelope.{is_text}
+use Rattle.ob_schema.specs.Models.{model_named}
+use Rattle.ob_schema.specs.declared.info.ModelInfo.{ModelInfo}
+use Rattle.serde_json.specs.Data.{Data, object, no_members}
+use Rattle.serde_json.specs.Find.{as_u64, as_number}
 
--- a create or a read, with its arguments
-pub data Call : Type 0 where
-  create : Data → Call
-  read : Data → Call
+-- the methods that models serve so far
+pub data Method : Type 0 where
+  create : Method
+  read : Method
 
--- a call, and the id by which its reply is told
-pub record Request : Type 0 where
-  pub id : Data
-  pub call : Call
-
--- whether a JSON value is this text
-abbrev pub is_text : List ℕ → Data → Bool
-is_text text d = option_map_or (bytes_eq text) (as_str d) false
+-- a method of a model, with its arguments by position and by name
+pub record Call : Type 0 where
+  pub model : ModelNo
+  pub method : Method
+  pub args : Data
+  pub kw : Data
 
 -- whether a JSON value is this integer
 abbrev pub is_integer : ℕ → Data → Bool
 is_integer n d = option_map_or (λ m. m == n) (option_and_then as_u64 (as_number d)) false
 
--- the call of a method's name
-abbrev pub method_call : Data → Data → Option Call
-method_call method args = if is_text (codes "create") method then Some (create args) else (if is_text (codes "read") method then Some (read args) else None)
+-- the caller: so far user 2 with the key `admin`
+abbrev pub is_caller : (user key : Data) → Bool
+is_caller user key = is_integer 2 user && is_text (codes "admin") key
 
--- whether the caller and the model are those that are served
-abbrev pub is_served : (db user key model : Data) → Bool
-is_served db user key model = is_text (codes "stock") db && is_integer 2 user && is_text (codes "admin") key && is_text (codes "demo.line") model
+-- the model of a name, where it serves calls: so far `demo.line` alone
+abbrev pub served_model : List ModelInfo → Data → Option ModelNo
+served_model models d = if is_text (codes "demo.line") d then model_named models (codes "demo.line") else None
 
--- the call that the elements of an envelope make, of which there are six
-abbrev pub call_of : List Data → Option Call
-call_of (db ∷ user ∷ key ∷ model ∷ method ∷ args ∷ []) = if is_served db user key model then method_call method args else None
-call_of _ = None
+-- the method of a name
+abbrev pub method_from : Data → Option Method
+method_from d = if is_text (codes "create") d then Some create else (if is_text (codes "read") d then Some read else None)
 
--- the request of an envelope of the service `object` and its method `execute_kw`
-abbrev pub envelope_request : Envelope → Option Request
-envelope_request e = if bytes_eq e.service (codes "object") && bytes_eq e.method (codes "execute_kw") then option_map (λ call. record { id = e.id; call = call }) (call_of (listed e.args)) else None
+-- the arguments by name, which may be absent
+abbrev pub named_args : List Data → Data
+named_args [] = object no_members
+named_args (d ∷ ds) = d
 
--- the request that a body makes, none where it is of another form
-abbrev pub request_of : List ℕ → Option Request
-request_of body = option_and_then envelope_request (envelope_of body)
+-- what is there, or the number of the element that is wrong
+abbrev pub element : {A : Type 0} → ℕ → Option A → Result A ℕ
+element n None = Err n
+element n (Some x) = Ok x
+
+-- a call of a model and a method, where both are there; the first that is wrong is told
+abbrev pub model_call : Result ModelNo ℕ → Result Method ℕ → (args kw : Data) → Result Call ℕ
+model_call (Err n) method args kw = Err n
+model_call (Ok model) (Err n) args kw = Err n
+model_call (Ok model) (Ok method) args kw = Ok (record { model = model; method = method; args = args; kw = kw })
+
+-- the call of a caller's model and method, with the rest of the elements
+abbrev pub call_in : List ModelInfo → (model method args : Data) → List Data → Result Call ℕ
+call_in models model method args rest = model_call (element 3 (served_model models model)) (element 4 (method_from method)) args (named_args rest)
+
+-- the call that the elements of an envelope make, or the number of the first that is wrong
+abbrev pub call_of : List ModelInfo → List Data → Result Call ℕ
+call_of models (db ∷ user ∷ key ∷ model ∷ method ∷ args ∷ rest) = if is_text (codes "stock") db then (if is_caller user key then call_in models model method args rest else Err 1) else Err 0
+call_of models _ = Err 5

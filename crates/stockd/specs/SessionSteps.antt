@@ -4,7 +4,7 @@ use Rattle.ob_io.specs.Store.{Store}
 use Rattle.ob_orm.specs.Tables.{Tables, empty_tables}
 use Rattle.ob_orm.specs.Sound.{IsSound}
 use Rattle.ob_orm.specs.Kept.{Kept}
-use Rattle.ob_orm.specs.Line.{line_schema}
+use Rattle.ob_schema.specs.declared.info.ModelInfo.{ModelInfo}
 use Rattle.stockd.specs.declared.ending.Ending.{Ending}
 use Rattle.stockd.specs.declared.ending.Ending.TheVariants.{WriteFault}
 use Rattle.stockd.specs.Lines.{is_blank, lines_of, Reading, stream_of}
@@ -56,44 +56,44 @@ pub record Standing : Type 0 where
 
 -- The machine answered these bodies over an empty store, and each reply is written on its
 -- line: that is where the keeper, the clock and the sink stand.
-pub record HasServed (moments : ℕ → ℤ) (faults_before : ℕ) (before : List ℕ) (bodies : List (List ℕ)) (now : Standing) : Type 0 where
+pub record HasServed (models : List ModelInfo) (moments : ℕ → ℤ) (faults_before : ℕ) (before : List ℕ) (bodies : List (List ℕ)) (now : Standing) : Type 0 where
   pub replies : List (List ℕ)
   pub rest : ℕ → ℤ
   pub tables : Tables
   pub store : Store
-  pub run : Run moments empty_tables faults_before bodies replies rest now.faults tables
-  pub kept : Kept line_schema store tables
-  pub sound : IsSound line_schema tables
+  pub run : Run models moments empty_tables faults_before bodies replies rest now.faults tables
+  pub kept : Kept models store tables
+  pub sound : IsSound models tables
   pub kept_is : now.kept ≡ Some store
   pub coming_is : now.coming ≡ Some rest
   pub written_is : now.written ≡ Some (before ++ reply_lines replies)
 
 -- The machine answered these bodies, and the sink failed within the last reply's line.
-pub record StopsWriting (moments : ℕ → ℤ) (faults_before : ℕ) (before : List ℕ) (bodies : List (List ℕ)) (now : Standing) : Type 0 where
+pub record StopsWriting (models : List ModelInfo) (moments : ℕ → ℤ) (faults_before : ℕ) (before : List ℕ) (bodies : List (List ℕ)) (now : Standing) : Type 0 where
   pub replies : List (List ℕ)
   pub rest : ℕ → ℤ
   pub tables : Tables
   pub store : Store
   pub written : List ℕ
-  pub run : Run moments empty_tables faults_before bodies replies rest now.faults tables
-  pub kept : Kept line_schema store tables
+  pub run : Run models moments empty_tables faults_before bodies replies rest now.faults tables
+  pub kept : Kept models store tables
   pub kept_is : now.kept ≡ Some store
   pub coming_is : now.coming ≡ Some rest
   pub written_is : now.written ≡ Some (before ++ written)
   pub tells : Tells WriteFault replies written
 
 -- Wherever a session stood, it stands so after these bodies more.
-abbrev pub ServesOn : List (List ℕ) → (old new : Standing) → Type 0
-ServesOn more old new =
-    (moments : ℕ → ℤ) (faults_before : ℕ) (before : List ℕ) (bodies : List (List ℕ)) → HasServed moments faults_before before bodies old → HasServed moments faults_before before (bodies ++ more) new
+abbrev pub ServesOn : List ModelInfo → List (List ℕ) → (old new : Standing) → Type 0
+ServesOn models more old new =
+    (moments : ℕ → ℤ) (faults_before : ℕ) (before : List ℕ) (bodies : List (List ℕ)) → HasServed models moments faults_before before bodies old → HasServed models moments faults_before before (bodies ++ more) new
 
 -- Wherever a session stood, it stops so within the reply to one body more.
-abbrev pub StopsAt : List ℕ → (old new : Standing) → Type 0
-StopsAt body old new =
-    (moments : ℕ → ℤ) (faults_before : ℕ) (before : List ℕ) (bodies : List (List ℕ)) → HasServed moments faults_before before bodies old → StopsWriting moments faults_before before (bodies ++ body ∷ []) new
+abbrev pub StopsAt : List ModelInfo → List ℕ → (old new : Standing) → Type 0
+StopsAt models body old new =
+    (moments : ℕ → ℤ) (faults_before : ℕ) (before : List ℕ) (bodies : List (List ℕ)) → HasServed models moments faults_before before bodies old → StopsWriting models moments faults_before before (bodies ++ body ∷ []) new
 
 -- A session that goes on: lines were read, and those that aren't blank were served.
-pub record IsServing (moments : ℕ → ℤ) (faults_before : ℕ) (stream before : List ℕ) (reader : Reading) (left_now : Option (List ℕ)) (now : Standing) : Type 0 where
+pub record IsServing (models : List ModelInfo) (moments : ℕ → ℤ) (faults_before : ℕ) (stream before : List ℕ) (reader : Reading) (left_now : Option (List ℕ)) (now : Standing) : Type 0 where
   pub lines : List (List ℕ)
   pub read : HasRead stream reader left_now lines
-  pub served : HasServed moments faults_before before (bodies_in lines) now
+  pub served : HasServed models moments faults_before before (bodies_in lines) now

@@ -1,20 +1,45 @@
 -- The text of each reply.
-use Rattle.std.specs.Prelude.{ℕ, List, [], Result, Ok, Err}
+use Rattle.std.specs.Prelude.{ℕ, List, [], ◌∷◌, ◌++◌, codes, bytes_eq, if◌then◌else◌, Result, Ok, Err}
 use Rattle.serde_json.specs.Data.{Data, null}
+use Rattle.ob_base.specs.declared.place.PathStep.{PathStep}
+use Rattle.ob_base.specs.declared.place.PathStep.TheVariants.{Key, Item}
 use Rattle.ob_base.specs.declared.refusal.Refusal.{Refusal}
 use Rattle.ob_base.specs.declared.refusal.Refusal.TheVariants as refusal
+use Rattle.ob_rpc.specs.Envelope.{element_place}
 use Rattle.ob_rpc.specs.Reply.{Reply, result, error, reply_form}
 use Rattle.ob_orm.specs.RefusalText.{refusal_name, refusal_message}
-use Rattle.ob_orm.specs.Line.{line_schema}
+use Rattle.ob_schema.specs.declared.info.ModelInfo.{ModelInfo}
 
 -- the reply that tells of an outcome
-abbrev pub reply_of : Result Data Refusal → Reply
-reply_of (Ok json) = result json
-reply_of (Err why) = error (refusal_name why) (refusal_message line_schema why)
+abbrev pub reply_of : List ModelInfo → Result Data Refusal → Reply
+reply_of models (Ok json) = result json
+reply_of models (Err why) = error (refusal_name why) (refusal_message models why)
 
--- the id that a refusal is told by: that of the request, but none where the request is malformed
+-- a place among the arguments of a call, as a place of the body: those by position are its element 5, those by name its element 6
+abbrev pub body_place : List PathStep → List PathStep
+body_place [] = []
+body_place (Item n ∷ steps) = Item n ∷ steps
+body_place (Key name ∷ steps) = if bytes_eq name (codes "kw") then element_place 6 ++ steps else element_place 5 ++ steps
+
+-- a refusal of a call, its place told as one of the body
+abbrev pub told_refusal : Refusal → Refusal
+told_refusal (refusal.Request place) = refusal.Request (body_place place)
+told_refusal (refusal.Right m op) = refusal.Right m op
+told_refusal (refusal.FieldRight m field) = refusal.FieldRight m field
+told_refusal (refusal.Missing m id) = refusal.Missing m id
+told_refusal (refusal.Rule m op id name) = refusal.Rule m op id name
+told_refusal (refusal.Constraint b) = refusal.Constraint b
+told_refusal refusal.Keeper = refusal.Keeper
+told_refusal refusal.NoMemory = refusal.NoMemory
+
+-- the outcome of a call, a place in it told as one of the body
+abbrev pub told : Result Data Refusal → Result Data Refusal
+told (Ok json) = Ok json
+told (Err why) = Err (told_refusal why)
+
+-- the id that a refusal is told by: that of the request, but none where memory is wanting
 abbrev pub refused_id : Data → Refusal → Data
-refused_id id (refusal.Request place) = null
+refused_id id (refusal.Request place) = id
 refused_id id (refusal.Right m op) = id
 refused_id id (refusal.FieldRight m field) = id
 refused_id id (refusal.Missing m row) = id
@@ -29,17 +54,21 @@ told_id id (Ok json) = id
 told_id id (Err why) = refused_id id why
 
 -- the text of the reply to a request of this id
-abbrev pub outcome_text : Data → Result Data Refusal → List ℕ
-outcome_text id outcome = reply_form (told_id id outcome) (reply_of outcome)
+abbrev pub outcome_text : List ModelInfo → Data → Result Data Refusal → List ℕ
+outcome_text models id outcome = reply_form (told_id id outcome) (reply_of models outcome)
 
--- the reply to a body that is no request
-abbrev pub malformed_text : List ℕ
-malformed_text = outcome_text null (Err (refusal.Request []))
+-- the reply to a request that is malformed at this place
+abbrev pub malformed_text : List ModelInfo → Data → List PathStep → List ℕ
+malformed_text models id place = outcome_text models id (Err (refusal.Request place))
+
+-- the reply that tells of a result
+abbrev pub result_text : Data → Data → List ℕ
+result_text id json = reply_form id (result json)
 
 -- the fixed reply for want of memory
 abbrev pub no_memory_text : List ℕ
-no_memory_text = outcome_text null (Err refusal.NoMemory)
+no_memory_text = reply_form null (error (codes "NoMemory") (codes "no memory"))
 
 -- the reply to a request of this id that the keeper failed
 abbrev pub keeper_text : Data → List ℕ
-keeper_text id = outcome_text id (Err refusal.Keeper)
+keeper_text id = reply_form id (error (codes "Keeper") (codes "keeper fault"))

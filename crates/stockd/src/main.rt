@@ -1,8 +1,11 @@
 //! The program `stockd`: a business-object server. It runs over the host's input,
-//! output and clock, and keeps its rows in memory.
+//! output and clock, and keeps its rows in memory. The contract of `run`: its replies are
+//! those of a machine that keeps plain fields alone and evaluates each computed field from
+//! scratch, its rows are the machine's tables, and its status has a cause.
 //!
 //! Rooms: `run` has a whole run, over any objects; `session` serves the lines of the
-//! input, `lines` cuts them, `request` reads one and `answer` answers it; `output`
+//! input, `lines` cuts them, `request` reads what one asks for, `answer` answers it, and
+//! `places` says where it is wrong; `model` has the definitions that are served; `output`
 //! writes, and `ending` says how a run ends. Here the host's things are made, and
 //! nothing else stands here.
 #![tactic(auto)]
@@ -10,7 +13,9 @@
 mod answer;
 mod ending;
 mod lines;
+mod model;
 mod output;
+mod places;
 mod request;
 mod run;
 mod session;

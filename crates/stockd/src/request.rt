@@ -1,118 +1,94 @@
-//! What a body asks for: the envelope's elements, and the call that they make. The
-//! one caller and the one model that are served so far stand here.
+//! What the elements of an envelope ask for: a call of a model. The caller, the models and
+//! the methods that are served so far stand here; the first element that is wrong is told
+//! by its number.
 
-ghost use Rattle.std.specs.Prelude.{◌≡◌, ◌≢◌, ◌&&◌, false, map, option_map, IfOk, bytes_eq, codes};
-ghost use Rattle.serde_json.specs.View.{view, items_view};
-ghost use Rattle.serde_json.specs.Written.{has_float};
-ghost use Rattle.ob_rpc.specs.Seen.{seen};
-ghost use Rattle.stockd.specs.Request.{request_of, envelope_request, call_of, method_call, is_served, is_text, is_integer};
-ghost use Rattle.stockd.specs.Asked.{Gives, seen_request, seen_call};
+ghost use Rattle.std.specs.Prelude.{◌≡◌, map, option_map, codes, IfOk, IfSome, Some};
+ghost use Rattle.ob_schema.specs.Models.{model_named};
+ghost use Rattle.serde_json.specs.View.{view};
+ghost use Rattle.stockd.specs.Asked.{Finds, method_seen};
+ghost use Rattle.stockd.specs.Request.{call_of, is_caller, is_integer, method_from, served_model};
+ghost use Rattle.ob_rpc.specs.Envelope.{is_text};
 
-use ob_base::Word;
-use ob_rpc::{Envelope, EnvelopeFault, Json, envelope};
-use std::alloc::Global;
-use thiserror::Error;
+use crate::model::LINE_NAME;
+use ob_base::ModelNo;
+use ob_rpc::Json;
+use ob_schema::Schema;
 
-/// A call of the one model, with its arguments.
-#[derive(Drop)]
-pub(crate) enum MethodCall {
-    Create(Json),
-    Read(Json),
+/// The methods that models serve.
+#[derive(Clone, Copy, Debug, PartialEq, Eq)]
+pub(crate) enum Method {
+    Create,
+    Read,
 }
 
-/// A call, and the id by which its reply is told.
-#[derive(Drop)]
-pub(crate) struct Request {
-    pub(crate) id: Json,
-    pub(crate) call: MethodCall,
+/// A call of a model, with its arguments by position and, where they are there, by name.
+#[derive(Clone, Copy)]
+pub(crate) struct ModelCall<'a> {
+    pub(crate) model: ModelNo,
+    pub(crate) method: Method,
+    pub(crate) args: &'a Json,
+    pub(crate) kw: Option<&'a Json>,
 }
 
-/// Why a body is no request.
-#[derive(Clone, Copy, Debug, PartialEq, Eq, Error)]
-pub(crate) enum RequestFault {
-    #[error("the body is of another form")]
-    Malformed,
-    #[error("no memory")]
-    NoMemory,
-}
-
-/// The request that a body makes.
-pub(crate) fn request_of(alloc: Global, body: &[u8]) -> Result<Request, RequestFault>
-    ensures form { Gives seen_request result (request_of body.now) }
-    ensures plain { IfOk result (λ request. has_float (view request.id) ≡ false) }
+/// The call that elements make: database, user, key, model, method, arguments, and maybe
+/// arguments by name. Or the number of the first that is wrong.
+pub(crate) fn call_of<'a>(schema: &Schema, elements: &'a [Json]) -> Result<ModelCall<'a>, u64>
+    ensures found { Finds result (call_of schema.now (map view elements.now)) }
+    ensures model { IfOk result (λ call. model_named schema.now (codes "demo.line") ≡ Some call.model) }
 {
-    match envelope(alloc, body) {
-        Ok(envelope) => envelope_request(envelope),
-        Err(EnvelopeFault::Malformed) => Err(RequestFault::Malformed),
-        Err(EnvelopeFault::NoMemory) => Err(RequestFault::NoMemory),
+    let [db, user, key, model, method, args, named @ ..] = elements else {
+        return Err(5);
+    };
+    if !is_text(db, "stock") {
+        return Err(0);
     }
-}
-
-/// The request of an envelope of the service `object` and its method `execute_kw`.
-fn envelope_request(envelope: Envelope) -> Result<Request, RequestFault>
-    ensures form { Gives seen_request result (envelope_request (seen envelope)) }
-    ensures id { IfOk result (λ request. request.id ≡ envelope.id) }
-    // It takes no memory.
-    ensures memory { result ≢ Err RequestFault.NoMemory }
-{
-    let Envelope {
-        id,
-        service,
+    if !is_caller(user, key) {
+        return Err(1);
+    }
+    let Some(model) = served_model(schema, model) else {
+        return Err(3);
+    };
+    let Some(method) = method_from(method) else {
+        return Err(4);
+    };
+    Ok(ModelCall {
+        model,
         method,
         args,
-    } = envelope;
-    if !is_execution(&service, &method) {
-        return Err(RequestFault::Malformed);
-    }
-    match call_of(args.into_vec()) {
-        Some(call) => Ok(Request { id, call }),
-        None => Err(RequestFault::Malformed),
-    }
+        kw: named.first(),
+    })
 }
 
-/// Whether the service and its method are those by which models are called.
-fn is_execution(service: &Word, method: &Word) -> bool
-    ensures { result ≡ (bytes_eq service.now (codes "object") && bytes_eq method.now (codes "execute_kw")) }
+/// Whether this is the one caller, with its key.
+fn is_caller(user: &Json, key: &Json) -> bool
+    ensures { result ≡ is_caller (view user.now) (view key.now) }
 {
-    service.as_str() == "object" && method.as_str() == "execute_kw"
+    is_integer(user, 2) && is_text(key, "admin")
 }
 
-/// The call that six elements make: database, user, key, model, method, arguments.
-fn call_of(mut elements: Vec<Json>) -> Option<MethodCall>
-    ensures { option_map seen_call result ≡ call_of (map view elements.items) }
+/// The model of a name, where it serves calls: so far one model alone.
+fn served_model(schema: &Schema, model: &Json) -> Option<ModelNo>
+    ensures found { result ≡ served_model schema.now (view model.now) }
+    ensures named { IfSome result (λ number. model_named schema.now (codes "demo.line") ≡ Some number) }
 {
-    let args = elements.pop()?;
-    match elements.as_slice() {
-        [db, user, key, model, method] => if is_served(db, user, key, model) {
-            method_call(method, args)
-        } else {
-            None
-        },
-        _ => None,
-    }
-}
-
-/// The call of a method's name.
-fn method_call(method: &Json, args: Json) -> Option<MethodCall>
-    ensures { option_map seen_call result ≡ method_call (view method.now) (view args) }
-{
-    if is_text(method, "create") {
-        Some(MethodCall::Create(args))
-    } else if is_text(method, "read") {
-        Some(MethodCall::Read(args))
+    if is_text(model, LINE_NAME) {
+        schema.model(LINE_NAME)
     } else {
         None
     }
 }
 
-/// Whether the caller and the model are those that are served.
-fn is_served(db: &Json, user: &Json, key: &Json, model: &Json) -> bool
-    ensures { result ≡ is_served (view db.now) (view user.now) (view key.now) (view model.now) }
+/// The method of a name.
+fn method_from(method: &Json) -> Option<Method>
+    ensures { option_map method_seen result ≡ method_from (view method.now) }
 {
-    is_text(db, "stock")
-        && is_integer(user, 2)
-        && is_text(key, "admin")
-        && is_text(model, "demo.line")
+    if is_text(method, "create") {
+        Some(Method::Create)
+    } else if is_text(method, "read") {
+        Some(Method::Read)
+    } else {
+        None
+    }
 }
 
 /// Whether the value is this text.

@@ -4,16 +4,16 @@ ghost use Rattle.std.specs.Prelude.{◌≡◌, ◌≤◌, ◌↔◌, ℕ, ℤ, L
 ghost use Rattle.ob_io.specs.Cause.{Rose, HasCause};
 ghost use Rattle.ob_io.specs.Store.{Store};
 ghost use Rattle.ob_orm.specs.Kept.{OthersStay};
-ghost use Rattle.ob_orm.specs.Line.{line_schema};
+ghost use Rattle.stockd.specs.Model.{line_model};
 ghost use Rattle.stockd.specs.Words.{IsCall};
 ghost use Rattle.stockd.specs.Out.{status_of, last_line, WritesLast, IsNew, StopsOpening, RunsCall, HasCauses};
 ghost use Rattle.stockd.specs.Opening.{IsLeastOf, fault_ending, MayStop, HasReason, EndsCall};
 
 use crate::ending::Ending;
+use crate::model::{LINE, registry};
 use crate::session::serve_lines;
 use ob_base::RecId;
 use ob_io::{Clock, Door, Files, KeepFault, Keeper, Sink, Source};
-use ob_orm::{LINE, LineModel};
 use std::alloc::Global;
 
 /// Runs the program over these objects and answers its status.
@@ -36,7 +36,7 @@ pub fn run<F: Files, K: Keeper, S: Source, W: Sink, D: Door, C: Clock>(
         (keeper.new ≡ keeper.old) × (input.new ≡ input.old) × (clock.new ≡ clock.old) }
 
     // Rows of other models than the one stay, whatever the words.
-    ensures others { OthersStay line_schema (K.kept keeper.old) (K.kept keeper.new) }
+    ensures others { OthersStay line_model (K.kept keeper.old) (K.kept keeper.new) }
 
     // No run so far uses the files or the door.
     ensures unused { (_files.new ≡ _files.old) × (_door.new ≡ _door.old) }
@@ -101,13 +101,13 @@ fn call<K: Keeper, S: Source, W: Sink, C: Clock>(
         (Rose (W.faults output.old) (W.faults output.new))
         (Rose (K.faults keeper.old) (K.faults keeper.new)) result }
     ensures output_count { W.faults output.old ≤ W.faults output.new }
-    ensures others { OthersStay line_schema (K.kept keeper.old) (K.kept keeper.new) }
+    ensures others { OthersStay line_model (K.kept keeper.old) (K.kept keeper.new) }
 {
-    let Ok(model) = LineModel::build(alloc) else {
+    let Ok(schema) = registry(alloc) else {
         return Ending::NoMemory;
     };
     match open(keeper) {
-        Ok(()) => serve_lines(alloc, keeper, input, output, clock, &model),
+        Ok(()) => serve_lines(alloc, keeper, input, output, clock, &schema),
         Err(ending) => ending,
     }
 }

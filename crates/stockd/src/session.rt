@@ -10,7 +10,7 @@ ghost use Rattle.ob_io.specs.Cause.{HasCause, Rose};
 ghost use Rattle.ob_io.specs.Store.{Store};
 ghost use Rattle.ob_orm.specs.Tables.{empty_tables};
 ghost use Rattle.ob_orm.specs.Kept.{Kept, OthersStay};
-ghost use Rattle.ob_orm.specs.Line.{line_schema};
+ghost use Rattle.stockd.specs.Model.{IsLineRegistry, line_model};
 ghost use Rattle.stockd.specs.declared.lines.TheConstants.{LONGEST_INPUT};
 ghost use Rattle.stockd.specs.Lines.{is_blank};
 ghost use Rattle.stockd.specs.Out.{ServesSession, IsSessionEnding, Tells, reply_lines};
@@ -22,7 +22,7 @@ use crate::lines::{LineFault, LineReader, is_blank};
 use crate::output::write_line;
 use ob_base::{Silent, Steps};
 use ob_io::{Clock, Failed, Keeper, Sink, Source};
-use ob_orm::LineModel;
+use ob_schema::Schema;
 use std::alloc::Global;
 
 /// Serves the lines of the input to its end.
@@ -32,11 +32,12 @@ pub(crate) fn serve_lines<K: Keeper, S: Source, W: Sink, C: Clock>(
     input: &mut S,
     output: &mut W,
     clock: &mut C,
-    model: &LineModel,
+    schema: &Schema,
 ) -> Ending
+    requires { IsLineRegistry schema.now }
     // Over a new store, and objects that tell what they hold, it is a run of the machine.
     ensures session { (stream before : List ℕ) (store : Store) (moments : ℕ → ℤ) → S.left input.old ≡ Some stream → W.written output.old ≡ Some before
-        → K.kept keeper.old ≡ Some store → C.coming clock.old ≡ Some moments → Kept line_schema store empty_tables
+        → K.kept keeper.old ≡ Some store → C.coming clock.old ≡ Some moments → Kept schema.now store empty_tables
         → ServesSession moments (K.faults keeper.old) (K.faults keeper.new) result stream before (K.kept keeper.new) (C.coming clock.new) (S.left input.new) (W.written output.new) }
     ensures kind { IsSessionEnding result }
     ensures read_fault { result ≡ Ending.ReadFault → Rose (S.faults input.old) (S.faults input.new) }
@@ -44,13 +45,13 @@ pub(crate) fn serve_lines<K: Keeper, S: Source, W: Sink, C: Clock>(
     ensures input_count { S.faults input.old ≤ S.faults input.new }
     ensures output_count { W.faults output.old ≤ W.faults output.new }
     ensures keeper_count { K.faults keeper.old ≤ K.faults keeper.new }
-    ensures others { OthersStay line_schema (K.kept keeper.old) (K.kept keeper.new) }
+    ensures others { OthersStay line_model (K.kept keeper.old) (K.kept keeper.new) }
 {
     let Ok(mut reader) = LineReader::new(alloc) else {
         return Ending::NoMemory;
     };
     'lines: loop {
-        if let Some(ending) = serve_next(alloc, keeper, input, output, clock, model, &mut reader) {
+        if let Some(ending) = serve_next(alloc, keeper, input, output, clock, schema, &mut reader) {
             return ending;
         }
     }
@@ -63,15 +64,16 @@ fn serve_next<K: Keeper, S: Source, W: Sink, C: Clock>(
     input: &mut S,
     output: &mut W,
     clock: &mut C,
-    model: &LineModel,
+    schema: &Schema,
     reader: &mut LineReader,
 ) -> Option<Ending>
+    requires { IsLineRegistry schema.now }
     // A session goes on, or ends.
     ensures session { (stream before : List ℕ) (moments : ℕ → ℤ) (faults_before : ℕ)
-        → IsServing moments faults_before stream before reader.old (S.left input.old)
+        → IsServing schema.now moments faults_before stream before reader.old (S.left input.old)
         (record { faults = K.faults keeper.old; kept = K.kept keeper.old; coming = C.coming clock.old; written = W.written output.old })
         → MatchOption result
-        (IsServing moments faults_before stream before reader.new (S.left input.new)
+        (IsServing schema.now moments faults_before stream before reader.new (S.left input.new)
         (record { faults = K.faults keeper.new; kept = K.kept keeper.new; coming = C.coming clock.new; written = W.written output.new }))
         (λ why. ServesSession moments faults_before (K.faults keeper.new) why stream before (K.kept keeper.new) (C.coming clock.new) (S.left input.new) (W.written output.new)) }
     ensures kind { IfSome result IsSessionEnding }
@@ -82,13 +84,13 @@ fn serve_next<K: Keeper, S: Source, W: Sink, C: Clock>(
     ensures input_count { S.faults input.old ≤ S.faults input.new }
     ensures output_count { W.faults output.old ≤ W.faults output.new }
     ensures keeper_count { K.faults keeper.old ≤ K.faults keeper.new }
-    ensures others { OthersStay line_schema (K.kept keeper.old) (K.kept keeper.new) }
+    ensures others { OthersStay line_model (K.kept keeper.old) (K.kept keeper.new) }
 {
     let whole = match next_line(reader, input) {
         Ok(whole) => whole,
         Err(ending) => return Some(ending),
     };
-    if serve_line(alloc, keeper, output, clock, model, reader.line()).is_err() {
+    if serve_line(alloc, keeper, output, clock, schema, reader.line()).is_err() {
         return Some(Ending::WriteFault);
     }
     if whole { None } else { Some(Ending::Done) }
@@ -124,24 +126,25 @@ fn serve_line<K: Keeper, W: Sink, C: Clock>(
     keeper: &mut K,
     output: &mut W,
     clock: &mut C,
-    model: &LineModel,
+    schema: &Schema,
     line: &[u8],
 ) -> Result<(), Failed>
-    ensures ok { OnOk result (ServesOn (bodies_in (line.now ∷ []))
+    requires { IsLineRegistry schema.now }
+    ensures ok { OnOk result (ServesOn schema.now (bodies_in (line.now ∷ []))
         (record { faults = K.faults keeper.old; kept = K.kept keeper.old; coming = C.coming clock.old; written = W.written output.old })
         (record { faults = K.faults keeper.new; kept = K.kept keeper.new; coming = C.coming clock.new; written = W.written output.new })) }
-    ensures err { OnErr result (StopsAt line.now
+    ensures err { OnErr result (StopsAt schema.now line.now
         (record { faults = K.faults keeper.old; kept = K.kept keeper.old; coming = C.coming clock.old; written = W.written output.old })
         (record { faults = K.faults keeper.new; kept = K.kept keeper.new; coming = C.coming clock.new; written = W.written output.new })) }
     ensures body { OnErr result (is_blank line.now ≡ false) }
     ensures cause { HasCause (W.faults output.old) (W.faults output.new) (IsErr result) }
     ensures count { K.faults keeper.old ≤ K.faults keeper.new }
-    ensures others { OthersStay line_schema (K.kept keeper.old) (K.kept keeper.new) }
+    ensures others { OthersStay line_model (K.kept keeper.old) (K.kept keeper.new) }
 {
     if is_blank(line) {
         return Ok(());
     }
-    serve_body(alloc, keeper, output, clock, model, line)
+    serve_body(alloc, keeper, output, clock, schema, line)
 }
 
 /// Answers one body, and writes the reply on a line.
@@ -150,21 +153,22 @@ fn serve_body<K: Keeper, W: Sink, C: Clock>(
     keeper: &mut K,
     output: &mut W,
     clock: &mut C,
-    model: &LineModel,
+    schema: &Schema,
     body: &[u8],
 ) -> Result<(), Failed>
-    ensures ok { OnOk result (ServesOn (body.now ∷ [])
+    requires { IsLineRegistry schema.now }
+    ensures ok { OnOk result (ServesOn schema.now (body.now ∷ [])
         (record { faults = K.faults keeper.old; kept = K.kept keeper.old; coming = C.coming clock.old; written = W.written output.old })
         (record { faults = K.faults keeper.new; kept = K.kept keeper.new; coming = C.coming clock.new; written = W.written output.new })) }
-    ensures err { OnErr result (StopsAt body.now
+    ensures err { OnErr result (StopsAt schema.now body.now
         (record { faults = K.faults keeper.old; kept = K.kept keeper.old; coming = C.coming clock.old; written = W.written output.old })
         (record { faults = K.faults keeper.new; kept = K.kept keeper.new; coming = C.coming clock.new; written = W.written output.new })) }
     ensures cause { HasCause (W.faults output.old) (W.faults output.new) (IsErr result) }
     ensures count { K.faults keeper.old ≤ K.faults keeper.new }
-    ensures others { OthersStay line_schema (K.kept keeper.old) (K.kept keeper.new) }
+    ensures others { OthersStay line_model (K.kept keeper.old) (K.kept keeper.new) }
 {
     let mut steps = Steps::new(Silent);
-    let reply = answer(alloc, keeper, clock, model, &mut steps, body);
+    let reply = answer(alloc, keeper, clock, schema, &mut steps, body);
     write_line(output, reply.as_str())
 }
 

@@ -1,13 +1,14 @@
 //! Runs over objects in memory. The expected texts were worked out by hand from the
 //! rules of docs/CALL.md. Here are the worked requests; `causes` has each status and
-//! refusal.
+//! refusal, and `places` where a request is malformed.
 
 mod causes;
+mod places;
 
+use crate::model::LINE;
 use crate::run::run;
 use ob_base::RecId;
 use ob_io::{Keeper, MemClock, MemKeeper, MemSink, MemSource, SureDoor, SureFiles};
-use ob_orm::LINE;
 use std::alloc::Global;
 use std::test::Fail;
 
@@ -18,7 +19,7 @@ const LARGE: &str =
     "{\"method\":\"call\",\"params\":{\"service\":\"object\",\"method\":\"execute_kw\",\"args\":[\"stock\",2,\"admin\",\"demo.line\",\"create\",[{\"qty\":9223372036854775807,\"price\":2}]]},\"id\":\"big\"}";
 
 const READ: &str =
-    "{\"jsonrpc\":\"2.0\",\"method\":\"call\",\"params\":{\"service\":\"object\",\"method\":\"execute_kw\",\"args\":[\"stock\",2,\"admin\",\"demo.line\",\"read\",[[1],[\"name\",\"subtotal\"]]]},\"id\":2}";
+    "{\"jsonrpc\":\"2.0\",\"method\":\"call\",\"params\":{\"service\":\"object\",\"method\":\"execute_kw\",\"args\":[\"stock\",2,\"admin\",\"demo.line\",\"read\",[[1],[\"name\",\"subtotal\",\"create_date\"]]]},\"id\":2}";
 
 const READ_MISSING: &str =
     "{\"method\":\"call\",\"params\":{\"service\":\"object\",\"method\":\"execute_kw\",\"args\":[\"stock\",2,\"admin\",\"demo.line\",\"read\",[[9,1,8],[\"qty\"]]]},\"id\":3}";
@@ -28,7 +29,7 @@ const CREATED: &str = "{\"id\":1,\"jsonrpc\":\"2.0\",\"result\":1}\n";
 const CREATED_SECOND: &str = "{\"id\":1,\"jsonrpc\":\"2.0\",\"result\":2}\n";
 
 const TOLD: &str =
-    "{\"id\":2,\"jsonrpc\":\"2.0\",\"result\":[{\"id\":1,\"name\":\"bolt\",\"subtotal\":75}]}\n";
+    "{\"id\":2,\"jsonrpc\":\"2.0\",\"result\":[{\"create_date\":\"2023-11-14 22:13:20\",\"id\":1,\"name\":\"bolt\",\"subtotal\":75}]}\n";
 
 const OVERFLOWS: &str =
     "{\"error\":{\"code\":200,\"data\":{\"message\":\"demo.line 1 subtotal\",\"name\":\"Constraint.Overflow\"},\"message\":\"Odoo Server Error\"},\"id\":\"big\",\"jsonrpc\":\"2.0\"}\n";
@@ -45,7 +46,7 @@ const FAILED: &str =
     "{\"error\":{\"code\":200,\"data\":{\"message\":\"keeper fault\",\"name\":\"Keeper\"},\"message\":\"Odoo Server Error\"},\"id\":1,\"jsonrpc\":\"2.0\"}\n";
 
 /// Room for what any of these runs writes.
-const ROOM: usize = 4096;
+const ROOM: usize = 8_192;
 
 /// A word, the size of the input's pieces, and which calls fail.
 #[derive(Clone, Copy)]
@@ -121,12 +122,14 @@ fn run_kept(
     Ok((status, output))
 }
 
-/// The body of the row of three bolts at 25.
-const BOLTS: [u8; 63] = *b"\x01\x00\x04\
+/// The body of the row of three bolts at 25, made at 1,700,000,000.
+const BOLTS: [u8; 104] = *b"\x01\x00\x06\
+    \x0bcreate_date\x05\x00\x00\x00\x00\x65\x53\xf1\x00\
     \x04name\x03\x00\x00\x00\x04bolt\
     \x05price\x02\x00\x00\x00\x00\x00\x00\x00\x19\
     \x03qty\x02\x00\x00\x00\x00\x00\x00\x00\x03\
-    \x08subtotal\x02\x00\x00\x00\x00\x00\x00\x00\x4b";
+    \x08subtotal\x02\x00\x00\x00\x00\x00\x00\x00\x4b\
+    \x0awrite_date\x05\x00\x00\x00\x00\x65\x53\xf1\x00";
 
 #[test]
 fn replies_of_worked_requests(rt: HostRuntime) -> Result<(), Fail> {

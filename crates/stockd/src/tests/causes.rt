@@ -5,8 +5,8 @@ use super::{
     CREATE, CREATED, CREATED_SECOND, FAILED, MALFORMED, PLAIN, READ, Setting, TOLD, run_kept,
     run_over,
 };
+use crate::model::LINE;
 use ob_io::{Change, Keeper, MemKeeper};
-use ob_orm::LINE;
 use std::test::Fail;
 
 const READ_FAILED: &str =
@@ -81,7 +81,7 @@ fn each_read_of_the_input_fails(rt: HostRuntime) -> Result<(), Fail> {
 const CUT_CREATED: &str = "{\"id\":1,\"jsonrpc\":\"2.0\",\"result\":1}";
 
 const CUT_TOLD: &str =
-    "{\"id\":2,\"jsonrpc\":\"2.0\",\"result\":[{\"id\":1,\"name\":\"bolt\",\"subtotal\":75}]}";
+    "{\"id\":2,\"jsonrpc\":\"2.0\",\"result\":[{\"create_date\":\"2023-11-14 22:13:20\",\"id\":1,\"name\":\"bolt\",\"subtotal\":75}]}";
 
 const CUT_SECOND: &str = "{\"id\":1,\"jsonrpc\":\"2.0\",\"result\":2}";
 
@@ -180,52 +180,24 @@ fn bodies_that_are_no_envelope(rt: HostRuntime) -> Result<(), Fail> {
     Ok(())
 }
 
-#[test]
-fn calls_of_another_form(rt: HostRuntime) -> Result<(), Fail> {
-    let alloc = rt.alloc();
-    let calls: [&'static str; 13] = [
-        "\"create\",[{\"qty\":1.5}]]},\"id\":5}",
-        "\"create\",[{\"qty\":1e3}]]},\"id\":5}",
-        "\"create\",[{\"qty\":9223372036854775808}]]},\"id\":5}",
-        "\"create\",[{\"qty\":18446744073709551616}]]},\"id\":5}",
-        "\"create\",[{\"name\":\"\\ud800\"}]]},\"id\":5}",
-        "\"create\",[{\"name\":false}]]},\"id\":5}",
-        "\"create\",[{\"subtotal\":6}]]},\"id\":5}",
-        "\"create\",[{}]]},\"id\":1.0}",
-        "\"create\",[{}]]},\"id\":5}x",
-        "\"unlink\",[[1]]]},\"id\":5}",
-        "\"read\",[[0],[\"qty\"]]]},\"id\":5}",
-        "\"read\",[[4294967296],[\"qty\"]]]},\"id\":5}",
-        "\"read\",[[1],[]]]},\"id\":5}",
-    ];
-    for call in calls {
-        let left = run_over(alloc, &PLAIN, [HEAD, call].concat(alloc)?)?;
-        assert_eq!(rt; left.status, 0);
-        assert_eq!(rt; left.output.written(), MALFORMED.as_bytes());
-    }
-    Ok(())
-}
+/// The reply to a create of the id 5 whose quantity is wrong.
+const WRONG_QUANTITY: &str =
+    "{\"error\":{\"code\":200,\"data\":{\"message\":\"malformed at params.args.5.0.qty\",\"name\":\"Request\"},\"message\":\"Odoo Server Error\"},\"id\":5,\"jsonrpc\":\"2.0\"}\n";
 
 #[test]
-fn calls_of_another_form_leave_the_keeper_alone(rt: HostRuntime) -> Result<(), Fail> {
+fn a_malformed_call_leaves_the_keeper_alone(rt: HostRuntime) -> Result<(), Fail> {
     let alloc = rt.alloc();
-    let calls: [&'static str; 3] = [
-        "\"create\",[{\"qty\":1.5}]]},\"id\":5}",
-        "\"read\",[[0],[\"qty\"]]]},\"id\":5}",
-        "\"unlink\",[[1]]]},\"id\":5}",
-    ];
-    // The opening makes three calls of the keeper, so the create makes the fourth.
+    // The opening makes three calls of the keeper, so the good create makes the fourth.
     let setting = Setting {
         keeps: &[4],
         ..PLAIN
     };
-    for call in calls {
-        let left = run_over(alloc, &setting, [HEAD, call, "\n", CREATE].concat(alloc)?)?;
-        assert_eq!(rt;
-            left.output.written(),
-            [MALFORMED, FAILED].concat(alloc)?.as_bytes()
-        );
-    }
+    let wrong = "\"create\",[{\"qty\":1.5}]]},\"id\":5}\n";
+    let left = run_over(alloc, &setting, [HEAD, wrong, CREATE].concat(alloc)?)?;
+    assert_eq!(rt;
+        left.output.written(),
+        [WRONG_QUANTITY, FAILED].concat(alloc)?.as_bytes()
+    );
     Ok(())
 }
 
@@ -244,10 +216,14 @@ fn calls_at_the_edge_of_their_form(rt: HostRuntime) -> Result<(), Fail> {
     Ok(())
 }
 
+/// The reply to a create of the id 5 whose name is wrong.
+const WRONG_NAME: &str =
+    "{\"error\":{\"code\":200,\"data\":{\"message\":\"malformed at params.args.5.0.name\",\"name\":\"Request\"},\"message\":\"Odoo Server Error\"},\"id\":5,\"jsonrpc\":\"2.0\"}\n";
+
 #[test]
 fn names_and_nesting_at_their_limits(rt: HostRuntime) -> Result<(), Fail> {
     let alloc = rt.alloc();
-    let names: [(usize, &'static str); 2] = [(8_192, MADE), (8_193, MALFORMED)];
+    let names: [(usize, &'static str); 2] = [(8_192, MADE), (8_193, WRONG_NAME)];
     for (length, output) in names {
         let mut line = String::from_str(alloc, HEAD)?;
         line.push_str("\"create\",[{\"name\":\"")?;

@@ -1,33 +1,80 @@
-use Rattle.std.proofs.Common.{ℕ, rules}
+use Rattle.std.proofs.Common.{List, subst, ap, ◌∙◌, arith}
 use Rattle.std.proofs.lemmas.Result.{err_from_is_err_and}
-use Rattle.serde_json.specs.View.{view}
+use Rattle.std.specs.Prelude.{IfSome}
 use Rattle.ob_base.specs.declared.refusal.Refusal.{Refusal}
-use Rattle.ob_orm.specs.Create.{CreateRefuses}
-use Rattle.ob_orm.specs.Line.{line_schema}
-use Rattle.ob_orm.specs.Values.{row_of_values}
-use Rattle.ob_orm.proofs.CreateAnswer.{handed_on, subtotal_refused, refused_answer, passed_on, made_from}
-use Rattle.ob_orm.proofs.OtherModels.{others_stay}
+use Rattle.ob_base.specs.declared.value.Value.{Value}
+use Rattle.ob_io.specs.Cause.{Rose}
+use Rattle.ob_schema.specs.Models.{model_at}
+use Rattle.ob_orm.specs.CreateSteps.{AreKept, BreaksRow, changes_of, gathered}
+use Rattle.ob_orm.proofs.CreateAnswer.{handed_on, made_answer, moment_passed, passed_on, past_refused, refused_answer, refused_cause, row_passed, values_refused}
+use Rattle.ob_orm.proofs.CreateStore.{others_stay}
 use Rattle.ob_orm.proofs.creating.create.Goals as goal
 
-pub returns-in_err-subtotal-clause-answer : goal.returns-in_err-subtotal-clause-answer
-returns-in_err-subtotal-clause-answer g c =
-    let p = err_from_is_err_and c.from_residual-in_err-subtotal.result c.from_residual-in_err-subtotal.ensures.1 in
-    rw (p.1, p.2) (refused_answer (g.K.Keeper.kept c.args.keeper.now) c.in_ok-id.id (view c.args.call.now.args.now) (row_of_values c.in_ok-values.values) c.in_err-subtotal.field-0.0 _ (handed_on Refusal c.next_id.result c.in_ok-id.id _ c.in_ok-id.ensures.cases c.next_id.ensures.told) c.in_ok-values.ensures.form c.in_err-subtotal.ensures.broken)
+pub plain_values-requires-clause-given : goal.plain_values-requires-clause-given
+plain_values-requires-clause-given g c = passed_on c.args.schema.now c.args.call.now c.in_ok-given.given.items c.as_slice.result.now c.as_slice.ensures.value c.in_ok-given.ensures
 
-pub returns-in_err-subtotal-clause-causes : goal.returns-in_err-subtotal-clause-causes
-returns-in_err-subtotal-clause-causes g c =
-    let p = err_from_is_err_and c.from_residual-in_err-subtotal.result c.from_residual-in_err-subtotal.ensures.1 in
-    let args = view c.args.call.now.args.now in
-    rw (p.1, p.2) (subtotal_refused c.in_ok-id.id args (row_of_values c.in_ok-values.values) c.in_err-subtotal.field-0.0 _ (λ why. (next : ℕ) × CreateRefuses line_schema next args why) c.in_ok-values.ensures.form (λ w h. (c.in_ok-id.id, h)) c.in_err-subtotal.ensures.broken)
+pub returns-then-id-gt-MAX_ID-clause-causes : goal.returns-then-id-gt-MAX_ID-clause-causes
+returns-then-id-gt-MAX_ID-clause-causes g c =
+    let models = c.args.schema.now in
+    let call = c.args.call.now in
+    let rose = Rose (g.K.Keeper.faults c.args.keeper.now) (g.K.Keeper.faults c.next_id.new.self) in
+    let values = c.in_ok-plain.plain.items in
+    let row = row_passed models call c.in_ok-given.given.items c.as_slice.result.now values _ (moment_passed call.now c.requires.moment) c.as_slice.ensures.value c.in_ok-given.ensures c.in_ok-plain.ensures.value in
+    refused_cause models call rose c.past_limit.result c.in_ok-id.id c.requires.model
+    (past_refused models call rose c.past_limit.result c.in_ok-id.id values row (omega arith) c.past_limit.ensures)
 
-pub returns-clause-answer : goal.returns-clause-answer
-returns-clause-answer g c =
-    let changes = handed_on Refusal c.line_changes.result c.in_ok-changes.changes _ c.in_ok-changes.ensures.cases c.line_changes.ensures.changes in
-    let fits = handed_on Refusal c.line_changes.result c.in_ok-changes.changes _ c.in_ok-changes.ensures.cases c.line_changes.ensures.limits in
-    made_from (g.K.Keeper.kept c.args.keeper.now) c.in_ok-id.id (view c.args.call.now.args.now) c.in_ok-values.values c.in_ok-subtotal.subtotal c.into_line-line.result (record { json = c.from.result; changes = c.in_ok-changes.changes }) (Unit {0})
-    (handed_on Refusal c.next_id.result c.in_ok-id.id _ c.in_ok-id.ensures.cases c.next_id.ensures.told) c.in_ok-values.ensures.form c.if-id-gt-MAX_ID.false (passed_on c.in_ok-values.values c.in_ok-subtotal.subtotal c.into_line-line.result (search rules) c.into_line-line.ensures) fits c.in_ok-subtotal.ensures.value c.from.ensures changes
+pub returns-then-id-gt-MAX_ID-clause-answer : goal.returns-then-id-gt-MAX_ID-clause-answer
+returns-then-id-gt-MAX_ID-clause-answer g c =
+    let models = c.args.schema.now in
+    let call = c.args.call.now in
+    let rose = Rose (g.K.Keeper.faults c.args.keeper.now) (g.K.Keeper.faults c.next_id.new.self) in
+    let values = c.in_ok-plain.plain.items in
+    let row = row_passed models call c.in_ok-given.given.items c.as_slice.result.now values _ (moment_passed call.now c.requires.moment) c.as_slice.ensures.value c.in_ok-given.ensures c.in_ok-plain.ensures.value in
+    refused_answer (g.K.Keeper.kept c.args.keeper.now) models call rose c.past_limit.result c.in_ok-id.id
+    (handed_on Refusal c.next_id.result c.in_ok-id.id _ c.in_ok-id.ensures.cases c.next_id.ensures.told)
+    (past_refused models call rose c.past_limit.result c.in_ok-id.id values row (omega arith) c.past_limit.ensures)
 
-pub returns-clause-others : goal.returns-clause-others
-returns-clause-others g c =
-    let changes = handed_on Refusal c.line_changes.result c.in_ok-changes.changes _ c.in_ok-changes.ensures.cases c.line_changes.ensures.changes in
-    others_stay c.in_ok-id.id c.into_line-line.result c.in_ok-changes.changes changes
+pub returns-in_err-kept-clause-answer : goal.returns-in_err-kept-clause-answer
+returns-in_err-kept-clause-answer g c =
+    let p = err_from_is_err_and c.from_residual-in_err-kept.result c.from_residual-in_err-kept.ensures.1 in
+    let models = c.args.schema.now in
+    let call = c.args.call.now in
+    let rose = Rose (g.K.Keeper.faults c.args.keeper.now) (g.K.Keeper.faults c.next_id.new.self) in
+    let values = c.in_ok-plain.plain.items in
+    let why = c.in_err-kept.field-0.0 in
+    let id = c.in_ok-id.id in
+    let row = row_passed models call c.in_ok-given.given.items c.as_slice.result.now values _ (moment_passed call.now c.requires.moment) c.as_slice.ensures.value c.in_ok-given.ensures c.in_ok-plain.ensures.value in
+    let broken = subst (λ (vs : List Value). IfSome (model_at models call.model) (λ info. BreaksRow call.model info id (gathered info vs) why)) c.as_slice-2.ensures.value c.in_err-kept.ensures.kept in
+    rw (p.1, p.2) (refused_answer (g.K.Keeper.kept c.args.keeper.now) models call rose why id
+    (handed_on Refusal c.next_id.result id _ c.in_ok-id.ensures.cases c.next_id.ensures.told)
+    (values_refused models call rose why id values row broken))
+
+pub returns-in_err-kept-clause-causes : goal.returns-in_err-kept-clause-causes
+returns-in_err-kept-clause-causes g c =
+    let p = err_from_is_err_and c.from_residual-in_err-kept.result c.from_residual-in_err-kept.ensures.1 in
+    let models = c.args.schema.now in
+    let call = c.args.call.now in
+    let rose = Rose (g.K.Keeper.faults c.args.keeper.now) (g.K.Keeper.faults c.next_id.new.self) in
+    let values = c.in_ok-plain.plain.items in
+    let why = c.in_err-kept.field-0.0 in
+    let id = c.in_ok-id.id in
+    let row = row_passed models call c.in_ok-given.given.items c.as_slice.result.now values _ (moment_passed call.now c.requires.moment) c.as_slice.ensures.value c.in_ok-given.ensures c.in_ok-plain.ensures.value in
+    let broken = subst (λ (vs : List Value). IfSome (model_at models call.model) (λ info. BreaksRow call.model info id (gathered info vs) why)) c.as_slice-2.ensures.value c.in_err-kept.ensures.kept in
+    rw (p.1, p.2) (refused_cause models call rose why id c.requires.model (values_refused models call rose why id values row broken))
+
+pub returns-in-Ok-clause-answer : goal.returns-in-Ok-clause-answer
+returns-in-Ok-clause-answer g c =
+    let models = c.args.schema.now in
+    let call = c.args.call.now in
+    let rose = Rose (g.K.Keeper.faults c.args.keeper.now) (g.K.Keeper.faults c.next_id.new.self) in
+    let values = c.in_ok-plain.plain.items in
+    let id = c.in_ok-id.id in
+    let kept = c.in_ok-kept.kept in
+    let row = row_passed models call c.in_ok-given.given.items c.as_slice.result.now values _ (moment_passed call.now c.requires.moment) c.as_slice.ensures.value c.in_ok-given.ensures c.in_ok-plain.ensures.value in
+    let are = subst (λ (vs : List Value). IfSome (model_at models call.model) (λ info. AreKept info id (gathered info vs) kept)) c.as_slice-2.ensures.value c.in_ok-kept.ensures.kept in
+    made_answer (g.K.Keeper.kept c.args.keeper.now) models call rose id values kept (record { json = c.from.result; changes = c.in-Ok.changes })
+    (handed_on Refusal c.next_id.result id _ c.in_ok-id.ensures.cases c.next_id.ensures.told)
+    c.requires.served c.in_ok-plain.ensures.plain row c.if-id-gt-MAX_ID.false are c.from.ensures (c.in-Ok.ensures ∙ ap (changes_of models call.model id) c.as_slice-3.ensures)
+
+pub returns-in-Ok-clause-others : goal.returns-in-Ok-clause-others
+returns-in-Ok-clause-others g c = others_stay c.args.schema.now c.args.call.now.model c.in_ok-id.id c.as_slice-3.result.now c.in-Ok.changes c.in-Ok.ensures

@@ -1,46 +1,68 @@
-use Rattle.std.proofs.Common.{map}
-use Rattle.std.proofs.lemmas.Result.{err_from_is_err_and}
+use Rattle.std.proofs.Common.{◌≡◌, List, Option, Some, Ok, get_or, length, ap, ◌∙◌, arith}
 use Rattle.ob_io.specs.Cause.{Rose}
 use Rattle.serde_json.specs.View.{view}
-use Rattle.ob_orm.specs.Line.{line_schema}
-use Rattle.ob_orm.specs.Values.{column_of}
-use Rattle.ob_orm.proofs.ReadForms.{asked_of_once, asked_fit}
-use Rattle.ob_orm.proofs.ReadAnswers.{told_answer, told_refusal, causes_gap, told_plain}
+use Rattle.ob_schema.specs.Models.{model_at}
+use Rattle.ob_orm.specs.Answer.{result_view}
+use Rattle.ob_orm.specs.declared.arguments.Given.{Given}
+use Rattle.ob_orm.proofs.ReadAnswers.{asked_fit, asked_there, asks_in, three_given, told_answer, told_causes}
 use Rattle.ob_orm.proofs.reading.read.Goals as goal
 
-pub fetch_lines-requires : goal.fetch_lines-requires
-fetch_lines-requires g c =
-    let args = view c.args.call.now.args.now in
-    let ids = c.in_ok-asked.asked.ids.items in let columns = map column_of c.in_ok-asked.asked.columns.items in
-    rw c.as_slice.ensures.value (asked_fit line_schema args ids columns (asked_of_once line_schema args ids columns c.in_ok-asked.ensures))
+pub index-requires : goal.index-requires
+index-requires g c =
+    let call = c.args.call.now in
+    let are = rw c.read_parameters-expected.ensures at c.in_ok-given.ensures in
+    let three = three_given (model_at c.args.schema.now call.model) (view call.args.now) (view call.kw.now) c.in_ok-given.given.items c.requires.model are in
+    let e = ap length three.are in let same = c.in_ok-given.given.ok in omega arith
 
-pub returns-in_err-lines-clause-answer : goal.returns-in_err-lines-clause-answer
-returns-in_err-lines-clause-answer g c =
-    let args = view c.args.call.now.args.now in let faults = g.K.Keeper.faults in
-    let ids = c.in_ok-asked.asked.ids.items in let columns = map column_of c.in_ok-asked.asked.columns.items in
-    let asked = asked_of_once line_schema args ids columns c.in_ok-asked.ensures in
-    let told = rw c.as_slice.ensures.value at c.in_err-lines.ensures.told in
-    let p = err_from_is_err_and c.from_residual-in_err-lines.result c.from_residual-in_err-lines.ensures.1 in
-    rw (p.1, p.2) (told_refusal (g.K.Keeper.kept c.args.keeper.now) (Rose (faults c.args.keeper.now) (faults c.fetch_lines.new.keeper)) args ids columns c.in_err-lines.field-0.0 asked told)
+pub unreachable-requires : goal.unreachable-requires
+unreachable-requires g c =
+    let call = c.args.call.now in
+    let are = rw c.read_parameters-expected.ensures at c.in_ok-given.ensures in
+    let three = three_given (model_at c.args.schema.now call.model) (view call.args.now) (view call.kw.now) c.in_ok-given.given.items c.requires.model are in
+    let e : c.index.result.now ≡ Some three.first = c.index.ensures ∙ ap (λ (gs : List (Option Given)). get_or gs 0 c.index.result.now) three.are in
+    let none = c.in_default.is in cc
 
-pub returns-in_err-lines-clause-causes : goal.returns-in_err-lines-clause-causes
-returns-in_err-lines-clause-causes g c =
-    let args = view c.args.call.now.args.now in let faults = g.K.Keeper.faults in
-    let ids = c.in_ok-asked.asked.ids.items in let columns = map column_of c.in_ok-asked.asked.columns.items in
-    let asked = asked_of_once line_schema args ids columns c.in_ok-asked.ensures in
-    let missing = rw c.as_slice.ensures.value at c.in_err-lines.ensures.missing in
-    let p = err_from_is_err_and c.from_residual-in_err-lines.result c.from_residual-in_err-lines.ensures.1 in
-    rw (p.1, p.2) (causes_gap (Rose (faults c.args.keeper.now) (faults c.fetch_lines.new.keeper)) args ids columns c.in_err-lines.field-0.0 asked missing)
+pub index-requires-2 : goal.index-requires-2
+index-requires-2 g c =
+    let call = c.args.call.now in
+    let are = rw c.read_parameters-expected.ensures at c.in_ok-given.ensures in
+    let three = three_given (model_at c.args.schema.now call.model) (view call.args.now) (view call.kw.now) c.in_ok-given.given.items c.requires.model are in
+    let e = ap length three.are in let same = c.in_ok-given.given.ok in omega arith
 
-pub returns-in-Ok-clause-answer : goal.returns-in-Ok-clause-answer
-returns-in-Ok-clause-answer g c =
-    let args = view c.args.call.now.args.now in let faults = g.K.Keeper.faults in
-    let ids = c.in_ok-asked.asked.ids.items in let columns = c.in_ok-asked.asked.columns.items in
-    let asked = asked_of_once line_schema args ids (map column_of columns) c.in_ok-asked.ensures in
-    let are = rw c.as_slice.ensures.value at c.in_ok-lines.ensures.told in
-    let told = rw c.as_slice-2.ensures.value at c.in-Ok.ensures in
-    told_answer (g.K.Keeper.kept c.args.keeper.now) (Rose (faults c.args.keeper.now) (faults c.fetch_lines.new.keeper)) args columns ids c.in_ok-lines.lines.items (view c.in-Ok.json) asked are told
+pub objects_of-requires-clause-ids : goal.objects_of-requires-clause-ids
+objects_of-requires-clause-ids g c =
+    let made : c.asked_ids.result ≡ Ok c.in_ok-ids.ids = grind arith in
+    let ids_are = rw made at c.asked_ids.ensures in
+    rw c.as_slice.ensures.value (asked_fit (view c.in-Some.ids.json.now) c.in_ok-ids.ids.items ids_are)
 
-pub returns-in-Ok-clause-plain : goal.returns-in-Ok-clause-plain
-returns-in-Ok-clause-plain g c =
-    told_plain c.in_ok-asked.asked.columns.items c.in_ok-asked.asked.ids.items c.as_slice-2.result.now (view c.in-Ok.json) c.in-Ok.ensures
+pub objects_of-requires-clause-fields : goal.objects_of-requires-clause-fields
+objects_of-requires-clause-fields g c =
+    let made : c.asked_fields.result ≡ Ok c.in_ok-fields.fields = grind arith in
+    let numbers_are = rw made at c.asked_fields.ensures in
+    rw c.as_slice-2.ensures.value (asked_there (model_at c.args.schema.now c.args.call.now.model) c.index-2.result.now c.in_ok-fields.fields.items c.requires.model numbers_are)
+
+pub returns-clause-answer : goal.returns-clause-answer
+returns-clause-answer g c =
+    let call = c.args.call.now in let found = model_at c.args.schema.now call.model in
+    let are = rw c.read_parameters-expected.ensures at c.in_ok-given.ensures in
+    let ids_made : c.asked_ids.result ≡ Ok c.in_ok-ids.ids = grind arith in
+    let ids_are = rw ids_made at c.asked_ids.ensures in
+    let fields_made : c.asked_fields.result ≡ Ok c.in_ok-fields.fields = grind arith in
+    let numbers_are = rw fields_made at c.asked_fields.ensures in
+    let asks = asks_in found (view call.args.now) (view call.kw.now) c.in_ok-given.given.items c.in-Some.ids c.index-2.result.now c.in_ok-ids.ids.items c.in_ok-fields.fields.items c.requires.model are
+    (rw c.in-Some.is at c.index.ensures) c.index-2.ensures ids_are numbers_are in
+    let told = rw (c.as_slice.ensures.value, c.as_slice-2.ensures.value) at c.objects_of.ensures.told in
+    told_answer c.args.schema.now (g.K.Keeper.kept c.args.keeper.now) call (Rose (g.K.Keeper.faults c.args.keeper.now) (g.K.Keeper.faults c.objects_of.new.keeper)) c.in_ok-ids.ids.items c.in_ok-fields.fields.items (result_view c.objects_of.result) asks told
+
+pub returns-clause-causes : goal.returns-clause-causes
+returns-clause-causes g c =
+    let call = c.args.call.now in let found = model_at c.args.schema.now call.model in
+    let are = rw c.read_parameters-expected.ensures at c.in_ok-given.ensures in
+    let ids_made : c.asked_ids.result ≡ Ok c.in_ok-ids.ids = grind arith in
+    let ids_are = rw ids_made at c.asked_ids.ensures in
+    let fields_made : c.asked_fields.result ≡ Ok c.in_ok-fields.fields = grind arith in
+    let numbers_are = rw fields_made at c.asked_fields.ensures in
+    let asks = asks_in found (view call.args.now) (view call.kw.now) c.in_ok-given.given.items c.in-Some.ids c.index-2.result.now c.in_ok-ids.ids.items c.in_ok-fields.fields.items c.requires.model are
+    (rw c.in-Some.is at c.index.ensures) c.index-2.ensures ids_are numbers_are in
+    let missing = rw c.as_slice.ensures.value at c.objects_of.ensures.missing in
+    told_causes found call (Rose (g.K.Keeper.faults c.args.keeper.now) (g.K.Keeper.faults c.objects_of.new.keeper)) c.in_ok-ids.ids.items c.in_ok-fields.fields.items c.objects_of.result asks missing

@@ -1,4 +1,4 @@
-use Rattle.std.proofs.Common.{rules, ◌≡◌, Bool, true, false, cond, Option, None, refl}
+use Rattle.std.proofs.Common.{rules, ◌≡◌, Bool, true, false, cond, Option, None, refl, sym}
 use Rattle.std.specs.Str.{is_utf8}
 use Rattle.std.proofs.lemmas.Str.{is_utf8-from_IsUtf8, IsUtf8-from_is_utf8}
 use Rattle.serde_json.specs.Data.{Data}
@@ -9,8 +9,8 @@ none_of : (b : Bool) (d : Option Data) → (b ≡ true → d ≡ None) → cond 
 none_of true d h = h refl
 none_of false d h = refl
 
-pub returns-in-Ok-clause-ok : goal.returns-in-Ok-clause-ok
-returns-in-Ok-clause-ok c = rw (is_utf8-from_IsUtf8 c.args.body.now c.in-Ok.ensures.ok.0) c.in-Ok.ensures.ok.1
+pub returns-in-Ok : goal.returns-in-Ok
+returns-in-Ok c = rw (is_utf8-from_IsUtf8 c.args.body.now c.in-Ok.ensures.ok.0) (sym c.in-Ok.ensures.ok.1)
 
-pub returns-else-is_memory-clause-malformed : goal.returns-else-is_memory-clause-malformed
-returns-else-is_memory-clause-malformed c _ = none_of (is_utf8 c.args.body.now) (read c.args.body.now) (λ u. c.in-Err.ensures.err (search rules) (IsUtf8-from_is_utf8 c.args.body.now u))
+pub returns-else-is_memory : goal.returns-else-is_memory
+returns-else-is_memory c = sym (none_of (is_utf8 c.args.body.now) (read c.args.body.now) (λ u. c.in-Err.ensures.err (search rules) (IsUtf8-from_is_utf8 c.args.body.now u)))

@@ -1,7 +1,7 @@
 -- The sorted fields are those of the model.
 use Rattle.std.proofs.Common.{subst, sym}
 use Rattle.ob_schema.specs.Making.{AreFields}
-use Rattle.ob_schema.proofs.FieldOrder.{sorted_fields}
+use Rattle.ob_schema.proofs.SortedFields.{sorted_fields}
 use Rattle.ob_schema.proofs.building.fields_of.Goals as goal
 
 pub returns : goal.returns

@@ -1,12 +1,21 @@
-use Rattle.std.proofs.Common.{refl, ◌∙◌}
+use Rattle.std.proofs.Common.{◌≡◌, Ok, Err, map, sym}
 use Rattle.std.proofs.lemmas.Int.{to_z-of_z}
-use Rattle.stockd.proofs.AnswerLaws.{serves_same}
+use Rattle.serde_json.specs.View.{view}
+use Rattle.stockd.specs.Asked.{call_seen}
+use Rattle.stockd.specs.Request.{call_of}
+use Rattle.stockd.proofs.AnswerLaws.{element_serves, serves_same}
+use Rattle.stockd.proofs.ServedLine.{same_number}
 use Rattle.stockd.proofs.answer.serve.Goals as goal
 
-pub returns-in-Create-clause-served : goal.returns-in-Create-clause-served
-returns-in-Create-clause-served g c = λ store tables kept_is kept sound.
-    serves_same tables _ _ _ _ _ _ _ (c.call_at.ensures.moment ∙ to_z-of_z _ _ c.ranges.now) (rw (c.in-Create.is, c.call_at.ensures.args) refl) (c.serve_create.ensures.served store tables kept_is kept sound)
+pub serve_call-requires-clause-model : goal.serve_call-requires-clause-model
+serve_call-requires-clause-model g c = same_number c.args.schema.now c.requires.built c.in-Ok.call.model c.in-Ok.ensures.model
 
-pub returns-in-Read-clause-served : goal.returns-in-Read-clause-served
-returns-in-Read-clause-served g c = λ store tables kept_is kept sound.
-    serves_same tables _ _ _ _ _ _ _ (c.call_at-in-Read.ensures.moment ∙ to_z-of_z _ _ c.ranges.now) (rw (c.in-Read.is, c.call_at-in-Read.ensures.args) refl) (c.serve_read.ensures.served store tables kept_is kept sound)
+pub returns-in-Ok-clause-served : goal.returns-in-Ok-clause-served
+returns-in-Ok-clause-served g c = λ store tables kept_is kept sound.
+    let found : call_of c.args.schema.now (map view c.args.envelope.now.args) ≡ Ok (call_seen c.in-Ok.call) = rw (← c.as_slice.ensures) c.in-Ok.ensures.found in
+    serves_same c.args.schema.now _ _ _ _ _ _ _ _ _ (to_z-of_z _ _ c.ranges.now) (sym found) c.serve_call.ensures.served store tables kept_is kept sound
+
+pub returns-in-Err-clause-served : goal.returns-in-Err-clause-served
+returns-in-Err-clause-served g c = λ store tables kept_is kept sound.
+    let found : call_of c.args.schema.now (map view c.args.envelope.now.args) ≡ Err c.in-Err.number = rw (← c.as_slice.ensures) c.in-Err.ensures.found in
+    rw found (element_serves c.args.schema.now store tables _ _ _ c.in-Err.number _ _ (record { before_is = kept_is; kept = kept; sound = sound }) c.element_refused.ensures)

@@ -11,7 +11,7 @@ returns-in-Ok-open-clause-outcome g c = λ stream before store moments left writ
     let new : IsNew store = rw kept at opened.told in
     inr (record {
       new = new;
-      session = session_from _ _ _ _ opened.count _ _ _ _ _ _ _ (c.serve_lines.ensures.session stream before store moments left written (opened.same ∙ kept) coming (new_is_kept store new));
+      session = session_from _ _ _ _ opened.count _ _ _ _ _ _ _ (c.serve_lines.ensures.session stream before store moments left written (opened.same ∙ kept) coming (new_is_kept _ c.in-Ok.ensures.built store new));
     })
 
 pub returns-in_default-clause-others : goal.returns-in_default-clause-others

@@ -6,11 +6,11 @@ returns-clause-ok g c =
     let served = rw (← c.as_str.ensures) at c.answer-reply.ensures.served in
     let coming = rw (← c.as_str.ensures) at c.answer-reply.ensures.moments in
     on_ok c.write_line.result c.write_line.ensures.ok
-    (serves_on _ _ c.args.body.now c.as_str.result.now served c.answer-reply.ensures.count coming)
+    (serves_on _ _ _ c.args.body.now c.as_str.result.now served c.answer-reply.ensures.count coming)
 
 pub returns-clause-err : goal.returns-clause-err
 returns-clause-err g c =
     let served = rw (← c.as_str.ensures) at c.answer-reply.ensures.served in
     let coming = rw (← c.as_str.ensures) at c.answer-reply.ensures.moments in
     on_err c.write_line.result c.write_line.ensures.err
-    (stops_at _ _ c.args.body.now c.as_str.result.now served c.answer-reply.ensures.count coming)
+    (stops_at _ _ _ c.args.body.now c.as_str.result.now served c.answer-reply.ensures.count coming)

@@ -1,0 +1,176 @@
+-- What the JSON of one value gives a field of a new row.
+use Rattle.std.proofs.Common.{arith, true≢false, ◌≡◌, ◌≢◌, ℕ, ℤ, ◌++◌, ◌∷◌, [], Bool, false, cond, List, Option, Some, None, Result, Ok, Err, option_map, sym, ap, subst, ◌∙◌, Bor, string_bytes}
+use Rattle.std.specs.Prelude.{IfSome, unwrap_or}
+use Rattle.std.specs.BTreeMap.{is_at}
+use Rattle.std.specs.Cmp.Lexicographic.{slice_cmp}
+use Rattle.std.specs.Map.{lookup}
+use Rattle.std.specs.Ordering.{nat_cmp}
+use Rattle.std.proofs.lemmas.Int.{ints}
+use Rattle.serde_json.specs.Data.{Data, Members}
+use Rattle.serde_json.specs.Find.{get_member}
+use Rattle.serde_json.specs.View.{view, members_view}
+use Rattle.serde_json.specs.declared.value.Value.{Value as Json}
+use Rattle.serde_json.proofs.Views.{Entry, view_of_ref, view-lookup}
+use Rattle.ob_base.specs.declared.place.PathStep.{PathStep}
+use Rattle.ob_base.specs.declared.place.PathStep.TheVariants.{Key}
+use Rattle.ob_base.specs.declared.refusal.Refusal.{Refusal}
+use Rattle.ob_base.specs.declared.refusal.Refusal.TheVariants as refusal
+use Rattle.ob_base.specs.declared.value.Value.{Value}
+use Rattle.ob_base.specs.declared.value.Value.TheVariants as value
+use Rattle.ob_codec.specs.Commands.{orders_of}
+use Rattle.ob_codec.specs.Input.{Given, Order, orders, plain}
+use Rattle.ob_codec.specs.JsonForm.{empty_value, given_from, value_from}
+use Rattle.ob_codec.specs.Steps.{◌>>=◌}
+use Rattle.ob_codec.specs.declared.fault.CodecFault.{CodecFault}
+use Rattle.ob_codec.specs.declared.fault.CodecFault.TheVariants as codec
+use Rattle.ob_schema.specs.Fields.{Holds}
+use Rattle.ob_schema.specs.Types.{is_list}
+use Rattle.ob_schema.specs.Values.{IsValueOf}
+use Rattle.ob_schema.specs.declared.field_type.Choice.{Choice}
+use Rattle.ob_schema.specs.declared.field_type.FieldType.{FieldType}
+use Rattle.ob_schema.specs.declared.field_type.FieldType.TheVariants as type
+use Rattle.ob_schema.specs.declared.info.FieldInfo.{FieldInfo}
+use Rattle.ob_orm.specs.Create.{given_value, is_stamp, new_value, placed}
+use Rattle.ob_orm.specs.CreateSteps.{IsFaultAt, IsGivable}
+use Rattle.ob_orm.specs.Parameters.{Gives, IsMalformedAt}
+use Rattle.ob_orm.proofs.CreateFields.{told, tell}
+
+-- ---- a value, where the field is no list
+
+-- what was given by what was read
+abbrev plainly : Result Value CodecFault → Result Given CodecFault
+plainly r = r >>= λ v. Ok (plain v)
+
+-- a field that is no list is given a value
+given_plainly : (t : FieldType) (choices : List Choice) (d : Data) → is_list t ≡ false → given_from t choices d ≡ plainly (value_from t choices d)
+unfolding given_from
+given_plainly t choices d no_list = ap (λ (b : Bool). cond b (orders_of d >>= λ os. Ok (orders os)) (plainly (value_from t choices d))) no_list
+
+-- which was read
+plainly-plain : (r : Result Value CodecFault) (v : Value) → plainly r ≡ Ok (plain v) → r ≡ Ok v
+plainly-plain (Err e) v is = absurd cc
+plainly-plain (Ok w) v is = (let same : w ≡ v = cc in ap Ok same)
+
+-- or whose fault is told
+plainly-fault : (r : Result Value CodecFault) (e : CodecFault) → plainly r ≡ Err e → r ≡ Err e
+plainly-fault (Ok v) e is = absurd cc
+plainly-fault (Err f) e is = (let same : f ≡ e = cc in ap Err same)
+
+-- and never commands
+plainly-orders : (r : Result Value CodecFault) (os : List Order) → plainly r ≡ Ok (orders os) → ⊥
+plainly-orders (Err e) os is = cc
+plainly-orders (Ok w) os is = cc
+
+-- what is told of the JSON of a field
+abbrev pub GivenFrom : Option FieldInfo → Data → Result Given CodecFault → Type 0
+GivenFrom o d r = IfSome o (λ info. given_from info.field_type info.selection d ≡ r)
+
+abbrev pub NoList : Option FieldInfo → Type 0
+NoList o = IfSome o (λ field. is_list field.field_type ≡ false)
+
+-- commands are given to lists alone
+pub no_commands : (o : Option FieldInfo) (f : FieldInfo) (d : Data) (os : List Order) → o ≡ Some f → NoList o → GivenFrom o d (Ok (orders os)) → ⊥
+no_commands o f d os is no_list given =
+    let flat : is_list f.field_type ≡ false = told o f (λ field. is_list field.field_type ≡ false) is no_list in
+    let from = told o f (λ info. given_from info.field_type info.selection d ≡ Ok (orders os)) is given in
+    plainly-orders (value_from f.field_type f.selection d) os (sym (given_plainly f.field_type f.selection d flat) ∙ from)
+
+-- a value as it was read
+pub value_read : (o : Option FieldInfo) (f : FieldInfo) (d : Data) (place : FieldInfo → List PathStep) (v : Value) → o ≡ Some f → NoList o → GivenFrom o d (Ok (plain v))
+    → IfSome o (λ field. Gives (λ w. w) (Ok v) (placed (place field) (value_from field.field_type field.selection d)))
+value_read o f d place v is no_list given =
+    let flat : is_list f.field_type ≡ false = told o f (λ field. is_list field.field_type ≡ false) is no_list in
+    let from = told o f (λ info. given_from info.field_type info.selection d ≡ Ok (plain v)) is given in
+    tell o f (λ field. placed (place field) (value_from field.field_type field.selection d) ≡ Ok v) is
+    (ap (placed (place f)) (plainly-plain (value_from f.field_type f.selection d) v (sym (given_plainly f.field_type f.selection d flat) ∙ from)))
+
+-- what tells a place gives it
+pub Gives-malformed : {A B : Type 0} (of : A → B) (place : List PathStep) (why : Refusal) (meant : Result B (List PathStep)) → IsMalformedAt place why → meant ≡ Err place → Gives of (Err why) meant
+Gives-malformed of place (refusal.Request told) meant at is = is ∙ ap Err (sym at)
+Gives-malformed of place (refusal.Right m op) meant at is = absurd at
+Gives-malformed of place (refusal.FieldRight m field) meant at is = absurd at
+Gives-malformed of place (refusal.Missing m id) meant at is = absurd at
+Gives-malformed of place (refusal.Rule m op id name) meant at is = absurd at
+Gives-malformed of place (refusal.Constraint b) meant at is = absurd at
+Gives-malformed of place refusal.Keeper meant at is = absurd at
+Gives-malformed of place refusal.NoMemory meant at is = tt
+
+-- want of memory gives anything
+pub Gives-no_memory : {A B : Type 0} (of : A → B) (why : Refusal) (meant : Result B (List PathStep)) → why ≡ refusal.NoMemory → Gives of (Err why) meant
+Gives-no_memory {A = A} of why meant is = subst (λ (w : Refusal). Gives of (Err w) meant) (sym is) tt
+
+-- a fault of the value is one at its place
+fault_gives : (place : List PathStep) (fault : CodecFault) (why : Refusal) (r : Result Value CodecFault) → IsFaultAt place fault why → (fault ≢ codec.NoMemory → r ≡ Err fault) → Gives (λ w. w) (Err why) (placed place r)
+fault_gives place (codec.Shape below) why r at is = Gives-malformed (λ w. w) (place ++ below) why (placed place r) at (ap (placed place) (is (λ e. cc)))
+fault_gives place (codec.Range below) why r at is = Gives-malformed (λ w. w) (place ++ below) why (placed place r) at (ap (placed place) (is (λ e. cc)))
+fault_gives place (codec.Unknown below) why r at is = Gives-malformed (λ w. w) (place ++ below) why (placed place r) at (ap (placed place) (is (λ e. cc)))
+fault_gives place codec.NoMemory why r at is = Gives-no_memory (λ w. w) why (placed place r) at
+
+-- a value that wasn't read
+pub value_refused : (o : Option FieldInfo) (f : FieldInfo) (d : Data) (place : FieldInfo → List PathStep) (fault : CodecFault) (why : Refusal) → o ≡ Some f → NoList o → (fault ≢ codec.NoMemory → GivenFrom o d (Err fault)) → IsFaultAt (place f) fault why
+    → IfSome o (λ field. Gives (λ w. w) (Err why) (placed (place field) (value_from field.field_type field.selection d)))
+value_refused o f d place fault why is no_list given at =
+    let flat : is_list f.field_type ≡ false = told o f (λ field. is_list field.field_type ≡ false) is no_list in
+    tell o f (λ field. Gives (λ w. w) (Err why) (placed (place field) (value_from field.field_type field.selection d))) is
+    (fault_gives (place f) fault why (value_from f.field_type f.selection d) at (λ apart. plainly-fault (value_from f.field_type f.selection d) fault
+    (sym (given_plainly f.field_type f.selection d flat) ∙ told o f (λ info. given_from info.field_type info.selection d ≡ Err fault) is (given apart))))
+
+-- ---- the value of a field of a new row
+
+-- what a look-up in the map answers, which is a member of the object
+abbrev pub FoundAt : List ℕ → List Entry → Option (Bor Json) → Type 0
+FoundAt name es r = option_map (λ x. x.now) r ≡ lookup (is_at (λ k. slice_cmp nat_cmp name (string_bytes k))) es
+
+-- as its data
+found : (name : List ℕ) (es : List Entry) (r : Option (Bor Json)) → FoundAt name es r → option_map (λ x. view x.now) r ≡ get_member name (members_view es)
+found name es r e = view_of_ref r ∙ ap (option_map view) e ∙ view-lookup name es
+
+-- the value of a field that is no stamp
+no_stamp : (now : ℤ) (place : List PathStep) (ms : Members) (f : FieldInfo) → is_stamp f.name ≡ false → new_value now place ms f ≡ given_value (place ++ Key f.name ∷ []) f (get_member f.name ms)
+no_stamp now place ms f is = ap (λ (b : Bool). cond b (Ok (value.Moment now)) (given_value (place ++ Key f.name ∷ []) f (get_member f.name ms))) is
+
+-- what a look-up by its name found
+member_of : (f : FieldInfo) (name : List ℕ) (es : List Entry) (r : Option (Bor Json)) → name ≡ f.name → FoundAt name es r → get_member f.name (members_view es) ≡ option_map (λ x. view x.now) r
+member_of f name es r same at = sym (found name es r at ∙ ap (λ (n : List ℕ). get_member n (members_view es)) same)
+
+-- as what the object gives it is read
+pub new_given : (o : Option FieldInfo) (f : FieldInfo) (now : ℤ) (place : List PathStep) (es : List Entry) (name : List ℕ) (x : Bor Json) (r : Result Value Refusal) → o ≡ Some f → name ≡ f.name → is_stamp name ≡ false → FoundAt name es (Some x)
+    → IfSome o (λ field. Gives (λ w. w) r (placed (place ++ Key field.name ∷ []) (value_from field.field_type field.selection (view x.now))))
+    → IfSome o (λ field. Gives (λ w. w) r (new_value now place (members_view es) field))
+new_given o f now place es name x r is same stamp at given =
+    let own = told o f (λ field. Gives (λ w. w) r (placed (place ++ Key field.name ∷ []) (value_from field.field_type field.selection (view x.now)))) is given in
+    let meant : new_value now place (members_view es) f ≡ placed (place ++ Key f.name ∷ []) (value_from f.field_type f.selection (view x.now)) =
+    no_stamp now place (members_view es) f (ap is_stamp (sym same) ∙ stamp) ∙ ap (given_value (place ++ Key f.name ∷ []) f) (member_of f name es (Some x) same at) in
+    tell o f (λ field. Gives (λ w. w) r (new_value now place (members_view es) field)) is (subst (λ (m : Result Value (List PathStep)). Gives (λ w. w) r m) (sym meant) own)
+
+-- its default where the object gives it nothing
+pub new_default : (o : Option FieldInfo) (f : FieldInfo) (now : ℤ) (place : List PathStep) (es : List Entry) (name : List ℕ) (v : Value) → o ≡ Some f → name ≡ f.name → is_stamp name ≡ false → FoundAt name es None
+    → v ≡ unwrap_or f.default (empty_value f.field_type) → IfSome o (λ field. Gives (λ w. w) (Ok v) (new_value now place (members_view es) field))
+new_default o f now place es name v is same stamp at default =
+    tell o f (λ field. new_value now place (members_view es) field ≡ Ok v) is
+    (no_stamp now place (members_view es) f (ap is_stamp (sym same) ∙ stamp) ∙ ap (given_value (place ++ Key f.name ∷ []) f) (member_of f name es None same at) ∙ ap Ok (sym default))
+
+-- ---- defaults
+
+-- what stands for nothing is a value of the type
+empty_holds : (t : FieldType) (choices : List Choice) → is_list t ≡ false → IsValueOf t choices (empty_value t)
+empty_holds type.Boolean choices e = tt
+empty_holds type.Integer choices e = grind (arith, ints)
+empty_holds type.Char choices e = tt
+empty_holds type.Text choices e = tt
+empty_holds type.Date choices e = tt
+empty_holds type.Datetime choices e = tt
+empty_holds type.Selection choices e = tt
+empty_holds type.Many2one choices e = tt
+empty_holds type.One2many choices e = absurd (true≢false e)
+empty_holds type.Many2many choices e = absurd (true≢false e)
+
+default_or_empty : (f : FieldInfo) (default : Option Value) → IfSome default (Holds f) → Holds f (empty_value f.field_type) → Holds f (unwrap_or default (empty_value f.field_type))
+default_or_empty f None fits empty = empty
+default_or_empty f (Some v) fits empty = fits
+
+-- a field may hold its default
+pub default_holds : (o : Option FieldInfo) (f : FieldInfo) (v : Value) → o ≡ Some f → IfSome o IsGivable → v ≡ unwrap_or f.default (empty_value f.field_type) → IfSome o (λ field. Holds field v)
+default_holds o f v is givable default =
+    let own = told o f IsGivable is givable in
+    tell o f (λ field. Holds field v) is (subst (Holds f) (sym default) (default_or_empty f f.default own.default (empty_holds f.field_type f.selection own.no_list)))

@@ -1,9 +1,0 @@
-use Rattle.std.proofs.Common.{arith}
-use Rattle.ob_orm.proofs.KeptFields.{text_found, text_refused}
-use Rattle.ob_orm.proofs.kept_reading.text_of.Goals as goal
-
-pub returns-in-Ok : goal.returns-in-Ok
-returns-in-Ok c = rw c.in-Ok.ensures.cases.0 (text_found c.args.bytes.now c.in_ok-len.len c.in_ok-len.rest.now c.in_ok-text.text.now c.in_ok-text.rest.now c.in_ok-len.ensures c.in_ok-text.ensures (omega arith) c.in-Ok.ensures.cases.1)
-
-pub returns-in-Err : goal.returns-in-Err
-returns-in-Err c = text_refused c.args.bytes.now c.in_ok-len.len c.in_ok-len.rest.now c.in_ok-text.text.now c.in_ok-text.rest.now c.in_ok-len.ensures c.in_ok-text.ensures c.in-Err.ensures.cases.0

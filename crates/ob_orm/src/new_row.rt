@@ -1,0 +1,219 @@
+//! The plain values of a new row: what the object gives, defaults, and the moments of its
+//! making. They stand by the numbers of the model's fields; what isn't plain is unset here.
+
+ghost use Rattle.std.specs.Prelude.{◌≡◌, ◌∷◌, ◌++◌, [], IfOk, IfSome, OnOk, Ok, false, map, option_map, unwrap_or};
+ghost use Rattle.serde_json.specs.Data.{Data};
+ghost use Rattle.serde_json.specs.View.{members_view, view};
+ghost use Rattle.ob_base.specs.Times.{IsMoment};
+ghost use Rattle.ob_base.specs.declared.place.PathStep.TheVariants.{Key};
+ghost use Rattle.ob_codec.specs.JsonForm.{empty_value, value_from};
+ghost use Rattle.ob_schema.specs.Fields.{Holds, plain_columns};
+ghost use Rattle.ob_schema.specs.Models.{HasField, HasModel, IsModel, field_at, model_at};
+ghost use Rattle.ob_schema.specs.Types.{is_list};
+ghost use Rattle.ob_orm.specs.Arguments.{arguments_of};
+ghost use Rattle.ob_orm.specs.Create.{create_expects, is_stamp, new_row, new_value, placed, row_from};
+ghost use Rattle.ob_orm.specs.CreateSteps.{ArePlain, IsFaultAt, IsGivable, TakesValue, gathered};
+ghost use Rattle.ob_orm.specs.Parameters.{Gives, given_of, spot_place};
+ghost use Rattle.ob_orm.specs.Served.{IsServed};
+
+use crate::arguments::Given;
+use crate::call::Json;
+use crate::places::{Spot, malformed_value};
+use ob_base::{FieldNo, ModelNo, NoMemory, Refusal, Value};
+use ob_codec::{CodecFault, Input, from_json};
+use ob_schema::{FieldInfo, FieldType, Schema};
+use serde_json::Map;
+use std::alloc::Global;
+
+/// What a create gives a row: the moment of its making, and values by name.
+#[derive(Drop)]
+struct NewRow<'a> {
+    now: i64,
+    spot: Spot<'a>,
+    members: &'a Map<String, Json>,
+}
+
+/// The plain values of a row that is made at a moment of the one argument.
+pub(crate) fn plain_values(
+    alloc: Global,
+    schema: &Schema,
+    model: ModelNo,
+    now: i64,
+    given: &[Option<Given<'_>>],
+) -> Result<Vec<Value>, Refusal>
+    requires model { HasModel schema.now model }
+    requires served { IfSome (model_at schema.now model) IsServed }
+    requires moment { IsMoment now }
+    requires given { IfSome (model_at schema.now model) (λ info. (args kw : Data)
+        × (arguments_of info create_expects args kw ≡ Ok (map (option_map given_of) given.now))) }
+    ensures value { IfSome (model_at schema.now model)
+        (λ info. Gives (λ values. gathered info values.items) result
+        (row_from info now (map (option_map given_of) given.now))) }
+    ensures plain { IfOk result (λ values. IfSome (model_at schema.now model)
+        (λ info. ArePlain info values.items)) }
+    ensures valid { OnOk result (IfSome (model_at schema.now model) IsModel) }
+{
+    let Some(values) = &given[0] else {
+        unreachable!();
+    };
+    let Some(members) = values.json.as_object() else {
+        unreachable!();
+    };
+    let row = NewRow {
+        now,
+        spot: values.spot,
+        members,
+    };
+    all_values(alloc, schema, model, &row)
+}
+
+/// A value for each field, by number.
+fn all_values(
+    alloc: Global,
+    schema: &Schema,
+    model: ModelNo,
+    row: &NewRow<'_>,
+) -> Result<Vec<Value>, Refusal>
+    requires model { HasModel schema.now model }
+    requires served { IfSome (model_at schema.now model) IsServed }
+    requires moment { IsMoment row.now.now }
+    ensures value { IfSome (model_at schema.now model)
+        (λ info. Gives (λ values. gathered info values.items) result
+        (new_row row.entry.now.now (spot_place row.entry.now.spot)
+        (members_view row.entry.now.members.now.entries) (plain_columns info))) }
+    ensures plain { IfOk result (λ values. IfSome (model_at schema.now model)
+        (λ info. ArePlain info values.items)) }
+    ensures valid { OnOk result (IfSome (model_at schema.now model) IsModel) }
+{
+    let mut values = Vec::new(alloc);
+    let count = schema.model_info(model).fields.len();
+    for index in 0..count {
+        let number = FieldNo(index as u16 + 1);
+        let value = value_at(alloc, schema, model, number, row)?;
+        let Ok(()) = values.push(value) else {
+            return Err(Refusal::NoMemory);
+        };
+    }
+    Ok(values)
+}
+
+/// The value of a field: unset where calls give it none.
+fn value_at(
+    alloc: Global,
+    schema: &Schema,
+    model: ModelNo,
+    number: FieldNo,
+    row: &NewRow<'_>,
+) -> Result<Value, Refusal>
+    requires field { HasField schema.now model number }
+    requires givable { IfSome (field_at schema.now model number) IsGivable }
+    requires moment { IsMoment row.now.now }
+    ensures { IfSome (field_at schema.now model number) (λ field. TakesValue field
+        (new_value row.entry.now.now (spot_place row.entry.now.spot)
+        (members_view row.entry.now.members.now.entries) field) result) }
+{
+    if schema.info(model, number).is_plain_kept() {
+        new_value(alloc, schema, model, number, row)
+    } else {
+        Ok(Value::Nil)
+    }
+}
+
+/// The value of a plain field.
+fn new_value(
+    alloc: Global,
+    schema: &Schema,
+    model: ModelNo,
+    number: FieldNo,
+    row: &NewRow<'_>,
+) -> Result<Value, Refusal>
+    requires field { HasField schema.now model number }
+    requires givable { IfSome (field_at schema.now model number) IsGivable }
+    requires moment { IsMoment row.now.now }
+    ensures value { IfSome (field_at schema.now model number)
+        (λ field. Gives (λ value. value) result (new_value row.entry.now.now (spot_place row.entry.now.spot)
+        (members_view row.entry.now.members.now.entries) field)) }
+    ensures holds { IfOk result (λ value. IfSome (field_at schema.now model number)
+        (λ field. Holds field value)) }
+{
+    let field = schema.info(model, number);
+    let name = field.name.as_str();
+    if is_stamp(name) {
+        return Ok(Value::Moment(row.now));
+    }
+    match row.members.get(name) {
+        Some(json) => given_value(alloc, schema, model, number, row.spot, json),
+        None => match default_value(alloc, field) {
+            Ok(value) => Ok(value),
+            Err(NoMemory) => Err(Refusal::NoMemory),
+        },
+    }
+}
+
+/// Whether a field holds the moment at which a row was made or last changed.
+fn is_stamp(name: &str) -> bool
+    ensures { result ≡ is_stamp name.now }
+{
+    name == "create_date" || name == "write_date"
+}
+
+/// The value that JSON gives a field.
+fn given_value(
+    alloc: Global,
+    schema: &Schema,
+    model: ModelNo,
+    number: FieldNo,
+    spot: Spot<'_>,
+    json: &Json,
+) -> Result<Value, Refusal>
+    requires field { HasField schema.now model number }
+    requires no_list { IfSome (field_at schema.now model number)
+        (λ field. is_list field.field_type ≡ false) }
+    ensures value { IfSome (field_at schema.now model number)
+        (λ field. Gives (λ value. value) result
+        (placed (spot_place spot.entry ++ Key field.name ∷ [])
+        (value_from field.field_type field.selection (view json.now)))) }
+    ensures holds { IfOk result (λ value. IfSome (field_at schema.now model number)
+        (λ field. Holds field value)) }
+{
+    let name = schema.info(model, number).name.as_str();
+    match from_json(alloc, schema, model, number, json) {
+        Ok(Input::Plain(value)) => Ok(value),
+        Ok(Input::Commands(_)) => unreachable!(),
+        Err(fault) => Err(fault_refusal(alloc, spot, name, &fault)),
+    }
+}
+
+/// The refusal of a value that isn't read, at the place of the fault.
+fn fault_refusal(alloc: Global, spot: Spot<'_>, name: &str, fault: &CodecFault) -> Refusal
+    ensures { IsFaultAt (spot_place spot.entry ++ Key name.now ∷ []) fault.now result }
+{
+    match fault {
+        CodecFault::Shape(place) | CodecFault::Range(place) | CodecFault::Unknown(place) => {
+            malformed_value(alloc, spot, name, place)
+        }
+        CodecFault::NoMemory => Refusal::NoMemory,
+    }
+}
+
+/// The value of a field that isn't given: its default, else what stands for nothing.
+fn default_value(alloc: Global, field: &FieldInfo) -> Result<Value, NoMemory>
+    ensures { IfOk result
+        (λ value. value ≡ unwrap_or field.now.default (empty_value field.now.field_type)) }
+{
+    match &field.default {
+        Some(value) => value.try_clone(alloc),
+        None => Ok(empty_value(field.field_type)),
+    }
+}
+
+/// What stands for nothing in a field: false, 0, else unset.
+fn empty_value(field_type: FieldType) -> Value
+    ensures { result ≡ empty_value field_type }
+{
+    match field_type {
+        FieldType::Boolean => Value::Bool(false),
+        FieldType::Integer => Value::Int(0),
+        _ => Value::Nil,
+    }
+}

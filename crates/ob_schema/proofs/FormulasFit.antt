@@ -1,0 +1,87 @@
+-- The formulas of faultless definitions fit their fields.
+use Rattle.std.proofs.Common.{◌≡◌, ℕ, suc, ◌||◌, inl, inr, Bool, true, false, cond, List, [], ◌∷◌, Option, Some, is_some, Result, IfOk, refl, sym, ap, subst, ◌∙◌, arith}
+use Rattle.std.specs.Prelude.{All, Any, Contains, codes, option_and_then}
+use Rattle.std.specs.List.{AllZip}
+use Rattle.std.proofs.lemmas.Bool.{false≢true}
+use Rattle.std.proofs.lemmas.List.Elements.{All-cons, All-nil}
+use Rattle.ob_expr.specs.declared.checker.TypeFault.{TypeFault}
+use Rattle.ob_expr.specs.Checking.{IsWellKinded, TypedTree, kind_of, typed_tree_of}
+use Rattle.ob_schema.specs.declared.definition.FieldDef.{FieldDef}
+use Rattle.ob_schema.specs.declared.definition.ModelDef.{ModelDef}
+use Rattle.ob_schema.specs.declared.field_type.FieldType.{FieldType}
+use Rattle.ob_schema.specs.declared.field_type.FieldType.TheVariants as type
+use Rattle.ob_schema.specs.declared.info.FieldInfo.{FieldInfo}
+use Rattle.ob_schema.specs.declared.info.Formula.{Formula}
+use Rattle.ob_schema.specs.declared.info.Origin.{Origin}
+use Rattle.ob_schema.specs.declared.info.Origin.TheVariants as origin
+use Rattle.ob_schema.specs.declared.wrong.Wrong.TheVariants as wrong
+use Rattle.ob_schema.specs.Built.{IsFieldOf, IsFormula, IsOrigin, automatic_infos, id_info, moment_info}
+use Rattle.ob_schema.specs.Definitions.{is_computed}
+use Rattle.ob_schema.specs.Faults.{IsFaultless}
+use Rattle.ob_schema.specs.Formulas.{computed_numbers, fields_read, found_in, kind_of_field, model_number}
+use Rattle.ob_schema.specs.Keys.{computed_fits, is_selection, plain_fits}
+use Rattle.ob_schema.specs.Models.{IsFormulaIn, IsOriginIn}
+use Rattle.ob_schema.specs.Types.{is_list, is_relation}
+use Rattle.ob_schema.proofs.Clean.{clean_field, sound_fits}
+use Rattle.ob_schema.proofs.Defaults.{IsBare, computed_bare, own_fits}
+use Rattle.ob_schema.proofs.FormulaKinds.{kind_from_not_other, names_no_rows, well_kinded}
+use Rattle.ob_schema.proofs.Operands.{AreReadable, operands, same_kind}
+
+not_list : (t : FieldType) → is_relation t ≡ false → is_list t ≡ false
+not_list type.Boolean e = refl
+not_list type.Integer e = refl
+not_list type.Char e = refl
+not_list type.Text e = refl
+not_list type.Date e = refl
+not_list type.Datetime e = refl
+not_list type.Selection e = refl
+not_list type.Many2one e = refl
+not_list type.One2many e = absurd (false≢true (sym e))
+not_list type.Many2many e = absurd (false≢true (sym e))
+
+-- the keys of a field with an expression are those of a computed field
+computed_keys : (defs : List ModelDef) (def : ModelDef) (f : FieldDef) (text : List ℕ) → IsFaultless defs → Contains defs def → Contains def.fields f → f.compute ≡ Some text → IsBare f
+computed_keys defs def f text faultless among declared given =
+    let computed : is_computed f ≡ true = ap (λ (o : Option (List ℕ)). is_some o || is_some f.related) given in
+    computed_bare f (ap (λ (b : Bool). cond b (computed_fits f) (plain_fits f)) (sym computed) ∙ own_fits f (sound_fits defs def f faultless among declared))
+
+-- a declared field's formula is one of its model
+formula_in : (defs : List ModelDef) (def : ModelDef) (fields : List FieldInfo) (f : FieldDef) (info : FieldInfo) (formula : Formula) → IsFaultless defs → Contains defs def → Contains def.fields f → AreReadable defs def fields → IsFieldOf defs def f info → IsFormula defs def f formula → IsFormulaIn fields info formula
+formula_in defs def fields f info formula faultless among declared are of is =
+    let typed = typed_tree_of formula.typed in
+    let has = is.typed in
+    let clean = clean_field defs def f faultless among declared in
+    let keys = computed_keys defs def f has.has_tree.text faultless among declared has.has_tree.expression.given in
+    let kind : kind_of_field defs f ≡ Some (kind_of typed) = kind_from_not_other (kind_of_field defs f) (kind_of typed) (λ other. clean wrong.Kind (inr (inr (typed, has, other)))) in
+    let plain = names_no_rows f.field_type (option_and_then (model_number defs) f.relation) (kind_of typed) keys.relation kind in
+    let kinded : IsWellKinded typed = subst (λ (r : Result TypedTree TypeFault). IfOk r IsWellKinded) has.checked (well_kinded (found_in defs def) has.tree) in
+    let apart = λ (some : Any (Contains (computed_numbers def)) (fields_read typed)). clean wrong.Path (inl (typed, has, (some.0, some.1, some.2, some.3, inr some.4))) in
+    record {
+      kinded = kinded;
+      operands = operands defs def fields has.tree typed are has.checked apart kinded plain;
+      kind = same_kind defs def f info of ∙ kind;
+      no_list = ap is_list of.field_type ∙ not_list f.field_type keys.relation;
+      no_selection = ap is_selection of.field_type ∙ keys.selection;
+    }
+
+origin_in : (defs : List ModelDef) (def : ModelDef) (fields : List FieldInfo) (f : FieldDef) (info : FieldInfo) (o : Origin) → IsFaultless defs → Contains defs def → Contains def.fields f → AreReadable defs def fields → IsFieldOf defs def f info → IsOrigin defs def f o → IsOriginIn fields info o
+origin_in defs def fields f info origin.Id faultless among declared are of is = absurd is
+origin_in defs def fields f info origin.Plain faultless among declared are of is = tt
+origin_in defs def fields f info (origin.Computed formula) faultless among declared are of is = formula_in defs def fields f info formula faultless among declared are of is
+
+-- the formula of each declared field fits
+pub declared_origins : (defs : List ModelDef) (def : ModelDef) (fields : List FieldInfo) (fs : List FieldDef) (infos : List FieldInfo) → IsFaultless defs → Contains defs def → ((f : FieldDef) → Contains fs f → Contains def.fields f) → AreReadable defs def fields → AllZip (IsFieldOf defs def) fs infos → All (λ (i : FieldInfo). IsOriginIn fields i i.origin) infos
+declared_origins defs def fields [] [] faultless among into are zip = All-nil (λ (i : FieldInfo). IsOriginIn fields i i.origin)
+declared_origins defs def fields [] (i ∷ infos) faultless among into are zip = absurd zip
+declared_origins defs def fields (f ∷ fs) [] faultless among into are zip = absurd zip
+declared_origins defs def fields (f ∷ fs) (i ∷ infos) faultless among into are zip =
+    All-cons (λ (x : FieldInfo). IsOriginIn fields x x.origin) i infos
+    (origin_in defs def fields f i i.origin faultless among (into f (0, omega arith, refl)) are zip.0 zip.0.origin)
+    (declared_origins defs def fields fs infos faultless among (λ g (k, low, at). into g (suc k, omega arith, at)) are zip.1)
+
+-- what holds of the three automatic fields holds of each
+pub each_automatic : (P : FieldInfo → Type 0) → P (moment_info (codes "create_date")) → P id_info → P (moment_info (codes "write_date")) → All P automatic_infos
+each_automatic P created id written =
+    All-cons P (moment_info (codes "create_date")) (id_info ∷ moment_info (codes "write_date") ∷ []) created
+    (All-cons P id_info (moment_info (codes "write_date") ∷ []) id
+    (All-cons P (moment_info (codes "write_date")) [] written (All-nil P)))

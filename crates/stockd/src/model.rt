@@ -1,0 +1,95 @@
+//! The registry that is served: so far the one model `demo.line`, a name, a quantity, a
+//! price, and their product, which is kept. A further model gets its definition here, and
+//! in specs/Model.
+
+ghost use Rattle.std.specs.Prelude.{◌≡◌, IfOk};
+ghost use Rattle.ob_schema.specs.declared.field_type.FieldType.{FieldType};
+ghost use Rattle.stockd.specs.Model.{IsLineRegistry, line_def, plain_field, subtotal_field};
+
+use ob_base::{ModelNo, NoMemory, Sequence, Word};
+use ob_schema::{FieldDef, FieldType, ModelDef, Schema, SchemaFault};
+use std::alloc::Global;
+
+/// The name of the one model.
+pub(crate) const LINE_NAME: &str = "demo.line";
+
+/// The number of the one model.
+pub(crate) const LINE: ModelNo = ModelNo(1);
+
+/// The registry of the one model.
+pub(crate) fn registry(alloc: Global) -> Result<Schema, NoMemory>
+    ensures { IfOk result IsLineRegistry }
+{
+    let definitions = [line_def(alloc)?];
+    match Schema::build(alloc, &definitions) {
+        Ok(schema) => Ok(schema),
+        Err(SchemaFault::NoMemory) => Err(NoMemory),
+        // Nothing stands against the definition.
+        Err(_) => unreachable!(),
+    }
+}
+
+/// The definition of the one model.
+fn line_def(alloc: Global) -> Result<ModelDef, NoMemory>
+    ensures { IfOk result (λ def. def ≡ line_def) }
+{
+    let mut fields = Sequence::new(alloc);
+    fields.push(plain_field(alloc, "name", FieldType::Char)?)?;
+    fields.push(plain_field(alloc, "qty", FieldType::Integer)?)?;
+    fields.push(plain_field(alloc, "price", FieldType::Integer)?)?;
+    fields.push(subtotal_field(alloc)?)?;
+    Ok(ModelDef {
+        name: Some(Word::from_text(alloc, LINE_NAME)?),
+        inherit: None,
+        inherits: Sequence::new(alloc),
+        order: None,
+        parent: None,
+        unique: Sequence::new(alloc),
+        checks: Sequence::new(alloc),
+        locked: None,
+        managed: None,
+        fields,
+    })
+}
+
+/// The product of the quantity and the price.
+fn subtotal_field(alloc: Global) -> Result<FieldDef, NoMemory>
+    ensures { IfOk result (λ field. field ≡ subtotal_field) }
+{
+    let mut depends = Sequence::new(alloc);
+    depends.push(Word::from_text(alloc, "qty")?)?;
+    depends.push(Word::from_text(alloc, "price")?)?;
+    Ok(FieldDef {
+        compute: Some(Word::from_text(alloc, "qty * price")?),
+        depends: Some(depends),
+        store: Some(true),
+        ..plain_field(alloc, "subtotal", FieldType::Integer)?
+    })
+}
+
+/// A field with no key but its type.
+fn plain_field(alloc: Global, name: &str, field_type: FieldType) -> Result<FieldDef, NoMemory>
+    ensures { IfOk result (λ field. field ≡ plain_field name.now field_type) }
+{
+    Ok(FieldDef {
+        name: Word::from_text(alloc, name)?,
+        field_type,
+        string: None,
+        required: None,
+        default: None,
+        compute: None,
+        depends: None,
+        store: None,
+        recursive: None,
+        related: None,
+        relation: None,
+        inverse: None,
+        mirror: None,
+        ondelete: None,
+        selection: None,
+        groups: None,
+        managed: None,
+        fixed: None,
+        secret: None,
+    })
+}

@@ -1,0 +1,60 @@
+//! Places of a body: those of an envelope's elements, and those of a call's arguments, which
+//! stand in its elements 5 (by position) and 6 (by name).
+
+ghost use Rattle.std.specs.Prelude.{◌≡◌, ◌++◌, ◌∷◌, [], IfOk, OnOk};
+ghost use Rattle.ob_base.specs.declared.place.PathStep.TheVariants.{Key};
+ghost use Rattle.ob_rpc.specs.Envelope.{element_place};
+ghost use Rattle.stockd.specs.Texts.{body_place};
+
+use ob_base::{NoMemory, PathStep, Place, Word};
+use std::alloc::Global;
+
+/// The place of an element of the arguments of an envelope.
+pub(crate) fn element_place(alloc: Global, number: u64) -> Result<Place, NoMemory>
+    ensures { IfOk result (λ place. place ≡ element_place number) }
+{
+    let mut place = Place::whole(alloc);
+    push_key(alloc, &mut place, "params")?;
+    push_key(alloc, &mut place, "args")?;
+    place.push(PathStep::Item(number))?;
+    Ok(place)
+}
+
+/// A place among the arguments of a call as a place of the body.
+pub(crate) fn body_place(alloc: Global, place: &Place) -> Result<Place, NoMemory>
+    ensures { IfOk result (λ told. told ≡ body_place place.now) }
+{
+    let [PathStep::Key(name), below @ ..] = place.steps() else {
+        return place_of(alloc, Place::whole(alloc), place.steps());
+    };
+    let number = if name.as_str() == "kw" { 6 } else { 5 };
+    place_of(alloc, element_place(alloc, number)?, below)
+}
+
+/// The place below a place.
+fn place_of(alloc: Global, above: Place, below: &[PathStep]) -> Result<Place, NoMemory>
+    ensures { IfOk result (λ place. place ≡ above ++ below.now) }
+{
+    let mut place = above;
+    for step in below {
+        place.push(same_step(alloc, step)?)?;
+    }
+    Ok(place)
+}
+
+/// A copy of a step.
+fn same_step(alloc: Global, step: &PathStep) -> Result<PathStep, NoMemory>
+    ensures { IfOk result (λ copy. copy ≡ step.now) }
+{
+    match step {
+        PathStep::Key(name) => Ok(PathStep::Key(name.try_clone(alloc)?)),
+        PathStep::Item(number) => Ok(PathStep::Item(*number)),
+    }
+}
+
+/// Goes on to a key.
+fn push_key(alloc: Global, place: &mut Place, name: &str) -> Result<(), NoMemory>
+    ensures { OnOk result (place.new ≡ place.old ++ Key name.now ∷ []) }
+{
+    place.push(PathStep::Key(Word::from_text(alloc, name)?))
+}

@@ -1,0 +1,22 @@
+#!/usr/bin/env bash
+# Compares the program with an independent machine of the same rules, over random streams of
+# requests: tools/compare.sh [SEEDS [COUNT]]. Needs the machine in the folder that ORACLE names
+# (by default ../shared/oracle beside the repository) and a built program; where the machine
+# isn't there nothing is compared, and the status is 0. Prints how many streams differ, for
+# each kind of stream; the status is 1 where one does.
+set -u
+cd "$(dirname "$0")/.." || exit 1
+oracle=${ORACLE:-../shared/oracle}
+seeds=${1:-1-8}
+count=${2:-60}
+if [ ! -f "$oracle/compare.py" ]; then
+    echo "no machine to compare with in $oracle: skipped"
+    exit 0
+fi
+status=0
+for profile in mixed hostile; do
+    echo "$profile: seeds $seeds, $count requests each"
+    python3 "$oracle/compare.py" --stage 2 --mask --seeds "$seeds" --count "$count" \
+        --profile "$profile" --jobs 2 -- ./stockd || status=1
+done
+exit $status
