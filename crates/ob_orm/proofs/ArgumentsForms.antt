@@ -6,6 +6,7 @@ use Rattle.std.specs.List.{position}
 use Rattle.std.specs.Prelude.{is_some, not, if◌then◌else◌}
 use Rattle.std.specs.Map.{keys_of}
 use Rattle.serde_json.specs.Data.{Data, array, object}
+use Rattle.serde_json.specs.Find.{as_str}
 use Rattle.serde_json.specs.View.{view, items_view, members_view}
 use Rattle.serde_json.specs.declared.value.Value.{Value, Array, Object}
 use Rattle.serde_json.proofs.Views.{Entry, view-Array, view-Object}
@@ -14,7 +15,7 @@ use Rattle.ob_base.specs.declared.place.PathStep.TheVariants.{Key, Item}
 use Rattle.ob_base.specs.declared.id.ModelNo.{ModelNo}
 use Rattle.ob_schema.specs.Models.{model_at}
 use Rattle.ob_schema.specs.declared.info.ModelInfo.{ModelInfo}
-use Rattle.ob_orm.specs.Arguments.{entries, listed, fields_fault, first_item, first_key, number_from}
+use Rattle.ob_orm.specs.Arguments.{entries, listed, fields_fault, first_item, first_key, names_fault, number_from, or_else}
 
 -- whether a value is the name of a field
 abbrev pub names_one : ModelInfo → Data → Bool
@@ -90,9 +91,21 @@ none_refused test vs e = ap (option_map (item_at 0)) e ∙ sym (first_item-posit
 
 -- a list of names of fields, item by item
 pub fields_of_items : (models : List ModelInfo) (model : ModelNo) (r : Option (List PathStep)) (json : Value) (items : List Value) (v : Vec Value Global) → json ≡ Array v → items ≡ v.items
-    → IfSome (model_at models model) (λ info. r ≡ first_item (names_one info) 0 (map view items))
+    → IfSome (model_at models model) (λ info. r ≡ names_fault info (map view items))
     → IfSome (model_at models model) (λ info. r ≡ fields_fault info (view json))
 fields_of_items models model r json items v is same h =
-    let f : (info : ModelInfo) → r ≡ first_item (names_one info) 0 (map view items) → r ≡ fields_fault info (view json) =
-    λ info e. e ∙ items_are (first_item (names_one info) 0) items v same ∙ sym (ap (fields_fault info) (array_is json v is)) in
-    IfSome_then (model_at models model) {P = λ info. r ≡ first_item (names_one info) 0 (map view items)} {Q = λ info. r ≡ fields_fault info (view json)} h f
+    let f : (info : ModelInfo) → r ≡ names_fault info (map view items) → r ≡ fields_fault info (view json) =
+    λ info e. e ∙ items_are (names_fault info) items v same ∙ sym (ap (fields_fault info) (array_is json v is)) in
+    IfSome_then (model_at models model) {P = λ info. r ≡ names_fault info (map view items)} {Q = λ info. r ≡ fields_fault info (view json)} h f
+
+-- an item that is no text is told before one that names no field
+pub no_text_first : (models : List ModelInfo) (model : ModelNo) (place : List PathStep) (ds : List Data) → Some place ≡ first_item (λ d. is_some (as_str d)) 0 ds
+    → IfSome (model_at models model) (λ info. Some place ≡ names_fault info ds)
+no_text_first models model place ds found = IfSome-each (model_at models model) (λ info. ap (λ o. or_else o (first_item (names_one info) 0 ds)) found)
+
+-- where all items are texts the first that names no field is told
+pub unknown_next : (models : List ModelInfo) (model : ModelNo) (r : Option (List PathStep)) (ds : List Data) → None ≡ first_item (λ d. is_some (as_str d)) 0 ds
+    → IfSome (model_at models model) (λ info. r ≡ first_item (names_one info) 0 ds)
+    → IfSome (model_at models model) (λ info. r ≡ names_fault info ds)
+unknown_next models model r ds none h =
+    IfSome_then (model_at models model) {P = λ info. r ≡ first_item (names_one info) 0 ds} {Q = λ info. r ≡ names_fault info ds} h (λ info e. e ∙ ap (λ o. or_else o (first_item (names_one info) 0 ds)) none)

@@ -75,13 +75,22 @@ ids_fault (string text) = Some []
 ids_fault (array items) = first_item (λ d. is_some (id_from d)) 0 (listed items)
 ids_fault (object _) = Some []
 
--- a list of names of fields
+-- one place, or else another
+abbrev pub or_else : Option (List PathStep) → Option (List PathStep) → Option (List PathStep)
+or_else None other = other
+or_else (Some place) other = Some place
+
+-- the place of the first item that is no text, or else of the first that names no field
+abbrev pub names_fault : ModelInfo → List Data → Option (List PathStep)
+names_fault info ds = or_else (first_item (λ d. is_some (as_str d)) 0 ds) (first_item (λ d. is_some (number_from info d)) 0 ds)
+
+-- a list of texts, each the name of a field
 abbrev pub fields_fault : ModelInfo → Data → Option (List PathStep)
 fields_fault info null = Some []
 fields_fault info (boolean b) = Some []
 fields_fault info (number n) = Some []
 fields_fault info (string text) = Some []
-fields_fault info (array items) = first_item (λ d. is_some (number_from info d)) 0 (listed items)
+fields_fault info (array items) = names_fault info (listed items)
 fields_fault info (object _) = Some []
 
 -- the place below an argument where it breaks its form

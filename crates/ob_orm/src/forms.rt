@@ -2,9 +2,10 @@
 //! here, and its meaning in specs/Arguments.
 
 ghost use Rattle.std.specs.Prelude.{◌≡◌, IfSome, is_some, map, option_map};
+ghost use Rattle.serde_json.specs.Find.{as_str};
 ghost use Rattle.serde_json.specs.View.{view, members_view};
 ghost use Rattle.ob_schema.specs.Models.{HasModel, model_at};
-ghost use Rattle.ob_orm.specs.Arguments.{entries, first_item, first_key, form_fault, fields_fault, id_from, ids_fault, is_given, number_from, values_fault};
+ghost use Rattle.ob_orm.specs.Arguments.{entries, first_item, first_key, form_fault, fields_fault, id_from, ids_fault, is_given, names_fault, number_from, values_fault};
 ghost use Rattle.ob_orm.specs.Parameters.{below_steps};
 
 use crate::call::Json;
@@ -122,16 +123,38 @@ pub(crate) fn id_of(json: &Json) -> Option<u64>
     }
 }
 
-/// Where a list has something else than the name of a field, or there is no list.
+/// Where a list has something else than a text, or else than the name of a field; or there is
+/// no list.
 fn fields_fault<'a>(schema: &Schema, model: ModelNo, json: &'a Json) -> Option<Below<'a>>
     requires { HasModel schema.now model }
     ensures { IfSome (model_at schema.now model)
         (λ info. option_map below_steps result ≡ fields_fault info (view json.now)) }
 {
     match json {
-        Json::Array(items) => first_unknown(schema, model, items.as_slice()),
+        Json::Array(items) => wrong_name(schema, model, items.as_slice()),
         _ => Some(Below::Whole),
     }
+}
+
+/// The first item that is no text, or else the first that names no field.
+fn wrong_name<'a>(schema: &Schema, model: ModelNo, items: &'a [Json]) -> Option<Below<'a>>
+    requires { HasModel schema.now model }
+    ensures { IfSome (model_at schema.now model)
+        (λ info. option_map below_steps result ≡ names_fault info (map view items.now)) }
+{
+    match first_no_text(items) {
+        Some(below) => Some(below),
+        None => first_unknown(schema, model, items),
+    }
+}
+
+/// The first item that is no text.
+fn first_no_text(items: &[Json]) -> Option<Below<'_>>
+    ensures { option_map below_steps result
+        ≡ first_item (λ d. is_some (as_str d)) 0 (map view items.now) }
+{
+    let number = items.iter().position(|item| item.as_str().is_none())?;
+    Some(Below::Item(number))
 }
 
 /// The first item that names no field.

@@ -173,6 +173,11 @@ fn each_argument_of_a_call(rt: HostRuntime) -> Result<(), Fail> {
             (HEAD, "\"read\",[[1],[\"qty\",\"x\"]]", "params.args.5.1.1"),
             (
                 HEAD,
+                "\"read\",[[1],[\"x\",\"qty\",5]]",
+                "params.args.5.1.2",
+            ),
+            (
+                HEAD,
                 "\"read\",[[1],[]],{\"fields\":[]}",
                 "params.args.6.fields",
             ),
