@@ -16,26 +16,13 @@ mkdir -p "$work/crates/codec_figures/src" "$work/crates/codec_figures/proofs"
 cd "$work/crates/codec_figures"
 echo "pub mod Named" >proofs/Lib.antt
 cat >proofs/Named.antt <<'LEMMAS'
--- What the figures take from the look-ups.
-use Rattle.std.specs.Prelude.{◌≡◌, ℕ, List, Option, Some, None, IfSome}
-use Rattle.ob_base.specs.declared.id.FieldNo.{FieldNo}
+-- What the figures take from the values that are read.
+use Rattle.std.specs.Prelude.{Option, Some, None, IfSome}
 use Rattle.ob_base.specs.declared.value.Value.{Value}
 use Rattle.ob_codec.specs.Held.{GivesHeld}
 use Rattle.ob_codec.specs.declared.input.Input.TheVariants as input
 use Rattle.ob_schema.specs.Fields.{Holds}
 use Rattle.ob_schema.specs.declared.info.FieldInfo.{FieldInfo}
-use Rattle.ob_base.specs.declared.id.ModelNo.{ModelNo}
-use Rattle.ob_schema.specs.Models.{HasField, HasModel, field_named, model_at, model_named}
-use Rattle.ob_schema.specs.declared.info.ModelInfo.{ModelInfo}
-use Rattle.ob_schema.proofs.ModelNames.{HasField-named, HasModel-named}
-
--- A model that was found by its name is there.
-pub has_model : (models : List ModelInfo) (name : List ℕ) (model : ModelNo) → model_named models name ≡ Some model → HasModel models model
-has_model = HasModel-named
-
--- A field that was found by its name is there.
-pub has_field : (models : List ModelInfo) (model : ModelNo) (name : List ℕ) (found : Option FieldNo) (field : FieldNo) → IfSome (model_at models model) (λ info. found ≡ field_named info.fields name) → found ≡ Some field → HasModel models model → HasField models model field
-has_field = HasField-named
 
 -- What JSON gives a field is a value that the field may hold.
 pub held : (field : Option FieldInfo) (v : Value) → GivesHeld field (input.Plain v) → IfSome field (λ info. Holds info v)
@@ -113,7 +100,6 @@ fn schema(alloc: Global) -> Option<Schema> {
     Schema::build(alloc, defs.as_slice()).ok()
 }
 
-#[tactic(auto, using(crate::proofs::Named::has_model))]
 fn model_of(schema: &Schema) -> Option<ModelNo>
     ensures { IfSome result (HasModel schema.now) }
 {
@@ -141,7 +127,6 @@ fn write(alloc: Global, schema: &Schema, model: ModelNo, count: u32) -> Option<u
     Some(total)
 }
 
-#[tactic(auto, using(crate::proofs::Named::has_field))]
 fn field_of(schema: &Schema, model: ModelNo, name: &str) -> Option<FieldNo>
     requires { HasModel schema.now model }
     ensures { IfSome result (HasField schema.now model) }
