@@ -122,7 +122,7 @@ fn each_element_of_a_call(rt: HostRuntime) -> Result<(), Fail> {
 }
 
 #[test]
-fn each_argument_of_a_call(rt: HostRuntime) -> Result<(), Fail> {
+fn each_argument_of_a_create(rt: HostRuntime) -> Result<(), Fail> {
     let alloc = rt.alloc();
     let told = places(
         alloc,
@@ -168,6 +168,18 @@ fn each_argument_of_a_call(rt: HostRuntime) -> Result<(), Fail> {
                 "\"create\",[{\"qty\":1.5}],{\"context\":5}",
                 "params.args.6.context",
             ),
+        ],
+    )?;
+    assert!(rt; told);
+    Ok(())
+}
+
+#[test]
+fn each_argument_of_a_read(rt: HostRuntime) -> Result<(), Fail> {
+    let alloc = rt.alloc();
+    let told = places(
+        alloc,
+        &[
             (HEAD, "\"read\",[[1,4294967296]]", "params.args.5.0.1"),
             (HEAD, "\"read\",[0,5]", "params.args.5.0"),
             (HEAD, "\"read\",[[1],[\"qty\",\"x\"]]", "params.args.5.1.1"),
