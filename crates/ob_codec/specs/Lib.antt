@@ -1,9 +1,12 @@
+pub mod Chain
+pub mod CommandForms
 pub mod Commands
 pub mod Held
 pub mod Input
 pub mod JsonForm
 pub mod KeptForm
 pub mod KeptReading
+pub mod Limits
 pub mod RowForm
 pub mod RowReading
 pub mod Steps

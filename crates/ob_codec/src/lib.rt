@@ -30,5 +30,5 @@ mod scalars;
 
 pub use fault::{CodecFault, RowFault};
 pub use input::{Command, Input, Json};
-pub use json::{from_json, reads_back, to_json};
+pub use json::{command_forms, from_json, one_json, reads_back, to_json, type_and_limits};
 pub use kept::{one_body, one_row, row_bytes, row_of};
