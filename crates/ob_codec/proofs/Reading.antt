@@ -9,7 +9,7 @@ use Rattle.serde_json.specs.declared.value.Value.{Value as Json, Array}
 use Rattle.serde_json.proofs.Views.{view-Array}
 use Rattle.ob_codec.specs.Commands.{clear_from, id_of_json, ids_of, ignored, listed, order_at, order_from, orders_of}
 use Rattle.ob_codec.specs.Input.{clear}
-use Rattle.ob_codec.specs.Chain.{◌>>=◌}
+use Rattle.ob_base.specs.Chain.{◌>>=◌}
 use Rattle.ob_codec.specs.Steps.{each_from}
 use Rattle.ob_codec.specs.declared.fault.CodecFault.{CodecFault}
 

@@ -20,7 +20,7 @@ use Rattle.ob_schema.specs.declared.field_type.FieldType.{FieldType}
 use Rattle.ob_schema.specs.declared.field_type.FieldType.TheVariants as type
 use Rattle.ob_codec.specs.Commands.{id_of_number}
 use Rattle.ob_codec.specs.JsonForm.{IsJsonOf, integer_of, key_of, number_value, spelled, text_of, text_value, true_value, value_from}
-use Rattle.ob_codec.specs.Chain.{◌>>=◌}
+use Rattle.ob_base.specs.Chain.{◌>>=◌}
 use Rattle.ob_codec.specs.declared.fault.CodecFault.{CodecFault}
 use Rattle.ob_codec.specs.declared.fault.CodecFault.TheVariants as fault
 use Rattle.ob_codec.proofs.Keys.{key_found}

@@ -3,8 +3,8 @@
 -- CommandForms.
 use Rattle.std.specs.Prelude.{ℕ, ◌==◌, ◌&&◌, nat_le, nat_lt, List, [], ◌∷◌, length, drop, slice_get, if◌then◌else◌, Bool, true, false, Result, Ok, Err, ⊤}
 use Rattle.std.specs.Option.{option_map_or}
-use Rattle.ob_codec.specs.Chain.{◌>>=◌}
-use Rattle.ob_codec.specs.Limits.{max_id}
+use Rattle.ob_base.specs.Chain.{◌>>=◌}
+use Rattle.ob_base.specs.Limits.{max_id}
 use Rattle.ob_base.specs.declared.id.RecId.{RecId}
 use Rattle.ob_codec.specs.declared.fault.CodecFault.{CodecFault}
 use Rattle.ob_codec.specs.declared.fault.CodecFault.TheVariants as fault

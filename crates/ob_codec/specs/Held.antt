@@ -6,7 +6,7 @@ use Rattle.ob_base.specs.Times.{IsDay, IsMoment}
 use Rattle.ob_base.specs.declared.value.Value.{Value}
 use Rattle.ob_base.specs.declared.value.Value.TheVariants as value
 use Rattle.ob_codec.specs.CommandForms.{IsObject}
-use Rattle.ob_codec.specs.Limits.{max_targets}
+use Rattle.ob_base.specs.Limits.{max_targets}
 use Rattle.ob_codec.specs.declared.input.Command.{Command}
 use Rattle.ob_codec.specs.declared.input.Command.TheVariants as command
 use Rattle.ob_codec.specs.declared.input.Input.{Input}

@@ -2,8 +2,8 @@
 use Rattle.std.specs.Prelude.{◌≡◌, ℕ, nat_le, ◌^◌, ◌-◌, List, [], length, map, ℤ, pos, if◌then◌else◌, true, false, Option, Some, None, Result, Ok, Err}
 use Rattle.std.specs.List.{list_any}
 use Rattle.std.specs.Str.{bytes_eq}
-use Rattle.ob_codec.specs.Chain.{◌>>=◌}
-use Rattle.ob_codec.specs.Limits.{max_char_bytes, max_text_bytes}
+use Rattle.ob_base.specs.Chain.{◌>>=◌}
+use Rattle.ob_base.specs.Limits.{max_char_bytes, max_text_bytes}
 use Rattle.ob_base.specs.declared.value.Value.{Value}
 use Rattle.ob_base.specs.declared.value.Value.TheVariants as value
 use Rattle.ob_codec.specs.CommandForms.{id_json, list_json}

@@ -1,4 +1,3 @@
-pub mod Chain
 pub mod CommandForms
 pub mod Commands
 pub mod Held
@@ -6,7 +5,6 @@ pub mod Input
 pub mod JsonForm
 pub mod KeptForm
 pub mod KeptReading
-pub mod Limits
 pub mod RowForm
 pub mod RowReading
 pub mod Steps

@@ -2,7 +2,7 @@
 use Rattle.std.specs.Prelude.{◌≡◌, ◌≢◌, ℕ, ◌+◌, List, [], ◌∷◌, map, Result, Ok, Err}
 use Rattle.ob_base.specs.declared.place.PathStep.{PathStep}
 use Rattle.ob_base.specs.declared.place.PathStep.TheVariants.{Item}
-use Rattle.ob_codec.specs.Chain.{◌>>=◌}
+use Rattle.ob_base.specs.Chain.{◌>>=◌}
 use Rattle.ob_codec.specs.declared.fault.CodecFault.{CodecFault}
 use Rattle.ob_codec.specs.declared.fault.CodecFault.TheVariants.{NoMemory}
 use Rattle.serde_json.specs.Data.{Data}

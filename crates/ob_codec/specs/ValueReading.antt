@@ -3,7 +3,7 @@ use Rattle.std.specs.Prelude.{ℕ, zero, suc, ℤ, pos, negsuc, List, [], ◌∷
 use Rattle.std.specs.Int.{w32, w64, cast_signed}
 use Rattle.std.specs.List.{list_any}
 use Rattle.std.specs.Str.{bytes_eq}
-use Rattle.ob_codec.specs.Limits.{max_char_bytes, max_id, max_targets, max_text_bytes}
+use Rattle.ob_base.specs.Limits.{max_char_bytes, max_id, max_targets, max_text_bytes}
 use Rattle.ob_base.specs.declared.id.RecId.{RecId}
 use Rattle.ob_base.specs.declared.value.Value.{Value}
 use Rattle.ob_base.specs.declared.value.Value.TheVariants as value

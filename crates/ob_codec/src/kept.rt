@@ -56,15 +56,15 @@ pub fn row_of(
     row_of_fields(alloc, schema.fields(model), bytes)
 }
 
-/// No two lists of values of the same fields have one body, whatever the fields are: each
-/// value has one form, and no form two values.
+/// Lists of values of the same fields that have one body are equal, whatever the fields
+/// are.
 pub fn one_row()
     ensures { (fields : List FieldInfo) (a b : List Value) →
         HoldAll fields a → HoldAll fields b → row_form fields a ≡ row_form fields b → a ≡ b }
 {}
 
-/// No body has two lists of fields, whatever their names and the kinds of their values: so
-/// no body of one model is a body of another, unless the two keep the same fields.
+/// Lists of named values that have one body are equal, whatever the names and the values
+/// are: so a body tells which fields its row has.
 pub fn one_body()
     ensures { (a b : List Field) → AreFields a → AreFields b → body_form a ≡ body_form b → a ≡ b }
 {}

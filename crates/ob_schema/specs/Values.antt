@@ -3,6 +3,7 @@ use Rattle.std.specs.Prelude.{◌≤◌, ℕ, List, length, map, All, Contains, 
 use Rattle.std.specs.Int.{w64}
 use Rattle.std.specs.Str.{IsUtf8}
 use Rattle.ob_base.specs.Ids.{IsId}
+use Rattle.ob_base.specs.Limits.{max_targets}
 use Rattle.ob_base.specs.Rising.{IsRising}
 use Rattle.ob_base.specs.Times.{IsDay, IsMoment}
 use Rattle.ob_base.specs.declared.id.RecId.{RecId}
@@ -48,5 +49,5 @@ IsValueOf type.Selection choices (value.Word text) = IsKey choices text
 IsValueOf type.Many2one choices value.Nil = ⊤
 IsValueOf type.Many2one choices (value.Ref id) = IsId id
 IsValueOf type.One2many choices (value.Refs ids) = IsTargets ids
-IsValueOf type.Many2many choices (value.Refs ids) = IsTargets ids × (length ids ≤ 65536)
+IsValueOf type.Many2many choices (value.Refs ids) = IsTargets ids × (length ids ≤ max_targets)
 IsValueOf _ _ _ = ⊥
