@@ -1,12 +1,13 @@
 -- The id by which an answer is told has no float in it, whatever the body is.
-use Rattle.std.proofs.Common.{◌≡◌, false, List, ℕ, Option, None, Some, Result, Ok, Err, length, codes, refl, subst, ap}
+use Rattle.std.proofs.Common.{◌≡◌, false, List, ℕ, Option, None, Some, Result, Ok, Err, codes, refl, subst, ap}
 use Rattle.serde_json.specs.Data.{unsigned, negative, float, Data, null, boolean, number, string, array, object, Items, Members}
+use Rattle.serde_json.specs.Events.{items_len}
 use Rattle.serde_json.specs.Find.{get_member}
 use Rattle.serde_json.specs.Written.{has_float}
 use Rattle.ob_rpc.proofs.Parts.{service_of, method_at, args_of, no_service, no_method, no_args, wrong_count, all_asked, id_at, version_at, call_at, params_at, no_id, no_version, no_call, no_params, all_but_asked}
 use Rattle.ob_rpc.specs.Envelope as spec
-use Rattle.ob_rpc.specs.Envelope.{Fault, Arity, given_id, listed, wrong_element, asked_in, envelope_in}
-use Rattle.ob_rpc.specs.Seen.{Gives, answer_id}
+use Rattle.ob_rpc.specs.Envelope.{Fault, Arity, given_id, wrong_element, asked_in, envelope_in}
+use Rattle.ob_rpc.specs.Seen.{EnvelopeIs, answer_id}
 use Rattle.ob_rpc.specs.declared.request.Envelope.{Envelope}
 use Rattle.ob_rpc.specs.declared.request.EnvFault.{EnvFault}
 use Rattle.ob_rpc.specs.declared.request.EnvFault.TheVariants.{At, NoMemory}
@@ -19,7 +20,7 @@ told_id (Err f) = f.id
 -- ---- what is told after the id was read is told by that id
 
 by_count : (id : Data) (params : Members) {service : List ℕ} {method : List ℕ × Arity} {items : Items} → service_of params ≡ Some service → method_at service params ≡ Some method → args_of params ≡ Some items
-    → (wrong : Option ℕ) → wrong_element method.1 (length (listed items)) ≡ wrong → told_id (asked_in id params) ≡ id
+    → (wrong : Option ℕ) → wrong_element method.1 (items_len items) ≡ wrong → told_id (asked_in id params) ≡ id
 by_count id params at_service at_method at_args None e = ap told_id (all_asked id params at_service at_method at_args e)
 by_count id params at_service at_method at_args (Some n) e = ap told_id (wrong_count id params at_service at_method at_args e)
 
@@ -79,7 +80,7 @@ pub envelope_in-plain : (body : Members) → has_float (told_id (envelope_in bod
 envelope_in-plain body = by_id body (id_at body) refl (given_plain (get_member (codes "id") body))
 
 -- an answer that gives what was sought is told by the same id
-pub answer_plain : (answer : Result Envelope EnvFault) (sought : Result spec.Envelope Fault) → has_float (told_id sought) ≡ false → Gives answer sought → has_float (answer_id answer) ≡ false
+pub answer_plain : (answer : Result Envelope EnvFault) (sought : Result spec.Envelope Fault) → has_float (told_id sought) ≡ false → EnvelopeIs answer sought → has_float (answer_id answer) ≡ false
 answer_plain (Ok e) sought plain gives = subst (λ (s : Result spec.Envelope Fault). has_float (told_id s) ≡ false) gives plain
 answer_plain (Err (At place id)) sought plain gives = subst (λ (s : Result spec.Envelope Fault). has_float (told_id s) ≡ false) gives plain
 answer_plain (Err NoMemory) sought plain gives = refl

@@ -1,14 +1,14 @@
 -- A part that is wrong is told as the first fault, and parts that are right make an envelope.
-use Rattle.std.proofs.Common.{◌≡◌, List, [], ◌∷◌, ℕ, false, true≢false, Option, None, Some, Result, Ok, Err, length, codes, map, option_and_then, refl, sym, ap, ◌∙◌, rules}
-use Rattle.std.proofs.lemmas.List.{length-map}
+use Rattle.std.proofs.Common.{◌≡◌, suc, List, [], ◌∷◌, ℕ, false, true≢false, Option, None, Some, Result, Ok, Err, length, codes, map, option_and_then, refl, sym, ap, ◌∙◌, rules}
 use Rattle.std.proofs.lemmas.Slice.Eq.{bytes_eq-Decides}
 use Rattle.std.specs.Str.{bytes_eq}
 use Rattle.ob_base.specs.declared.place.PathStep.TheVariants.{Key}
 use Rattle.serde_json.specs.Data.{Data, null, Items, Members}
+use Rattle.serde_json.specs.Events.{items_len}
 use Rattle.serde_json.specs.Find.{get_member, as_array, as_object}
-use Rattle.serde_json.specs.View.{view, items_of, items_view}
+use Rattle.serde_json.specs.View.{view, items_view}
 use Rattle.serde_json.specs.declared.value.Value.{Value, Null, the_lemmas}
-use Rattle.ob_rpc.specs.Envelope.{Envelope, Fault, Arity, given_id, version_of, text_for, is_service, method_of, listed, wrong_element, element_place, asked_in, envelope_in}
+use Rattle.ob_rpc.specs.Envelope.{Envelope, Fault, Arity, given_id, version_of, text_for, is_service, method_of, wrong_element, element_place, asked_in, envelope_in}
 
 -- two keys that compare as different are different
 pub keys_differ : (one other : List ℕ) → bytes_eq one other ≡ false → one ≡ other → ⊥
@@ -18,13 +18,10 @@ keys_differ one other apart same = absurd (true≢false (sym ((bytes_eq-Decides 
 abbrev pub told : List (List ℕ) → Data → Result Envelope Fault
 told keys id = Err (record { place = map Key keys; id = id })
 
--- the items of a list's values are its elements
-pub listed-items_of : (ds : List Data) → listed (items_of ds) ≡ ds
-listed-items_of [] = refl
-listed-items_of (d ∷ ds) = ap (λ es. d ∷ es) (listed-items_of ds)
-
-pub count_of : (vs : List Value) → length (listed (items_view vs)) ≡ length vs
-count_of vs = ap length (listed-items_of (map view vs)) ∙ length-map vs view
+-- a list's values are as many items
+pub items_len-view : (vs : List Value) → items_len (items_view vs) ≡ length vs
+items_len-view [] = refl
+items_len-view (v ∷ vs) = ap suc (items_len-view vs)
 
 pub view-Null : view Null ≡ null
 view-Null = search (rules, the_lemmas)
@@ -56,14 +53,14 @@ unfolding asked_in
 no_args id params at_service at_method none = rw (at_service, at_method, none) refl
 
 pub wrong_count : (id : Data) (params : Members) {service : List ℕ} {method : List ℕ × Arity} {items : Items} {number : ℕ} → service_of params ≡ Some service → method_at service params ≡ Some method → args_of params ≡ Some items
-    → wrong_element method.1 (length (listed items)) ≡ Some number
+    → wrong_element method.1 (items_len items) ≡ Some number
     → asked_in id params ≡ Err (record { place = element_place number; id = id })
 unfolding asked_in
 wrong_count id params at_service at_method at_args wrong = rw (at_service, at_method, at_args, wrong) refl
 
 pub all_asked : (id : Data) (params : Members) {service : List ℕ} {method : List ℕ × Arity} {items : Items} → service_of params ≡ Some service → method_at service params ≡ Some method → args_of params ≡ Some items
-    → wrong_element method.1 (length (listed items)) ≡ None
-    → asked_in id params ≡ Ok (record { id = id; service = service; method = method.0; args = listed items })
+    → wrong_element method.1 (items_len items) ≡ None
+    → asked_in id params ≡ Ok (record { id = id; service = service; method = method.0; args = items })
 unfolding asked_in
 all_asked id params at_service at_method at_args none = rw (at_service, at_method, at_args, none) refl
 

@@ -1,10 +1,11 @@
 -- What a request's body is, and what its envelope holds; or the first place that is wrong.
-use Rattle.std.specs.Prelude.{ℕ, ◌&&◌, nat_lt, List, [], ◌∷◌, length, codes, Bool, true, false, not, if◌then◌else◌, Option, Some, None, option_map, option_and_then, Result, Ok, Err}
+use Rattle.std.specs.Prelude.{ℕ, ◌&&◌, nat_lt, List, [], ◌∷◌, codes, Bool, true, false, not, if◌then◌else◌, Option, Some, None, option_map, option_and_then, Result, Ok, Err}
 use Rattle.std.specs.Option.{option_map_or}
 use Rattle.std.specs.Str.{is_utf8, bytes_eq}
 use Rattle.ob_base.specs.declared.place.PathStep.{PathStep}
 use Rattle.ob_base.specs.declared.place.PathStep.TheVariants.{Key, Item}
-use Rattle.serde_json.specs.Data.{Data, null, boolean, number, string, array, object, Items, no_items, item, Members}
+use Rattle.serde_json.specs.Data.{Data, null, number, string, Items, Members}
+use Rattle.serde_json.specs.Events.{items_len}
 use Rattle.serde_json.specs.Read.{read}
 use Rattle.serde_json.specs.Find.{get_member, as_str, as_array, as_object, is_float}
 
@@ -13,7 +14,7 @@ pub record Envelope : Type 0 where
   pub id : Data
   pub service : List ℕ
   pub method : List ℕ
-  pub args : List Data
+  pub args : Items
 
 -- the first place that is wrong, and the id by which that is told: null where none was read
 pub record Fault : Type 0 where
@@ -38,11 +39,9 @@ json_of body = if is_utf8 body then read body else None
 -- an integer, a text or null
 abbrev pub is_id : Data → Bool
 is_id null = true
-is_id (boolean b) = false
 is_id (number n) = not (is_float n)
 is_id (string s) = true
-is_id (array ds) = false
-is_id (object ms) = false
+is_id _ = false
 
 -- the id that a request gives; without one it is null
 abbrev pub given_id : Option Data → Option Data
@@ -80,11 +79,6 @@ arity_of service method = if is_service service && bytes_eq (codes "execute_kw")
 abbrev pub method_of : List ℕ → Option Data → Option (List ℕ × Arity)
 method_of service given = option_and_then (λ method. option_map (λ arity. (method, arity)) (arity_of service method)) (text_for (λ _. true) given)
 
--- the items of a JSON list
-abbrev pub listed : Items → List Data
-listed no_items = []
-listed (item d items) = d ∷ listed items
-
 -- the place of an element of the arguments
 abbrev pub element_place : ℕ → List PathStep
 element_place n = Key (codes "params") ∷ Key (codes "args") ∷ Item n ∷ []
@@ -94,13 +88,13 @@ abbrev pub wrong_element : Arity → ℕ → Option ℕ
 wrong_element arity count = if nat_lt count arity.least then Some count else (if nat_lt arity.most count then Some arity.most else None)
 
 -- the elements, where there is no wrong one
-abbrev pub without_wrong : List Data → Data → Option ℕ → Result (List Data) Fault
+abbrev pub without_wrong : Items → Data → Option ℕ → Result Items Fault
 without_wrong elements id None = Ok elements
 without_wrong elements id (Some n) = Err (record { place = element_place n; id = id })
 
 -- the elements, of which there are enough and not too many
-abbrev pub counted : Arity → Data → List Data → Result (List Data) Fault
-counted arity id elements = without_wrong elements id (wrong_element arity (length elements))
+abbrev pub counted : Arity → Data → Items → Result Items Fault
+counted arity id elements = without_wrong elements id (wrong_element arity (items_len elements))
 
 -- the envelope of an id and the members of the params
 unfoldable pub asked_in : Data → Members → Result Envelope Fault
@@ -108,7 +102,7 @@ asked_in id params = do
   service ← there (Key (codes "params") ∷ Key (codes "service") ∷ []) id (text_for is_service (get_member (codes "service") params))
   method ← there (Key (codes "params") ∷ Key (codes "method") ∷ []) id (method_of service (get_member (codes "method") params))
   items ← there (Key (codes "params") ∷ Key (codes "args") ∷ []) id (option_and_then as_array (get_member (codes "args") params))
-  elements ← counted method.1 id (listed items)
+  elements ← counted method.1 id items
   Ok (record { id = id; service = service; method = method.0; args = elements })
 
 -- the envelope in the members of a body

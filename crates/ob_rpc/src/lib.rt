@@ -15,7 +15,7 @@ mod request;
 mod tests;
 
 pub use read::envelope;
-pub use reply::{Outcome, no_memory_reply, replies_are_lines, reply_text};
+pub use reply::{Outcome, no_memory_reply, reply_forms_are_lines, reply_text};
 pub use request::{EnvFault, Envelope};
 
 /// Any JSON value.

@@ -3,7 +3,7 @@
 //! `read_body` and `read_params` ask for the parts is the order in which faults are
 //! told. Parts are moved out of the parsed body and never copied, for a body is large.
 
-ghost use Rattle.std.specs.Prelude.{◌≡◌, ◌≢◌, ℕ, List, false, true, map, IfOk, IfErr, option_map, option_and_then};
+ghost use Rattle.std.specs.Prelude.{◌≡◌, ◌≢◌, ◌≤◌, ℕ, List, false, true, length, map, IfOk, IfErr, IfSome, IfNone, option_map, option_and_then};
 ghost use Rattle.ob_base.specs.declared.place.PathStep.TheVariants.{Key};
 ghost use Rattle.serde_json.specs.Find.{get_member, as_object, as_array};
 ghost use Rattle.serde_json.specs.View.{view, members_view, items_view};
@@ -11,7 +11,7 @@ ghost use Rattle.serde_json.specs.Written.{has_float};
 ghost use Rattle.ob_rpc.specs.Envelope as spec;
 ghost use Rattle.ob_rpc.specs.Envelope.{json_of, text_for, element_place, asked_in, envelope_in};
 ghost use Rattle.std.specs.Str.{bytes_eq};
-ghost use Rattle.ob_rpc.specs.Seen.{seen, seen_arity, answer_id, FaultsAt, Gives};
+ghost use Rattle.ob_rpc.specs.Seen.{seen, seen_arity, answer_id, FaultIs, EnvelopeIs};
 
 use crate::Json;
 use crate::request::{EnvFault, Envelope};
@@ -37,7 +37,9 @@ struct Arity {
 /// that is too much. `EnvFault::NoMemory` comes where an allocation fails.
 pub fn envelope(alloc: Global, body: &[u8]) -> Result<Envelope, EnvFault>
     ensures ok { IfOk result (λ e. spec.envelope_of body.now ≡ Ok (seen e)) }
-    ensures fault { IfErr result (λ f. FaultsAt f (spec.envelope_of body.now)) }
+    ensures fault { IfErr result (λ f. FaultIs f (spec.envelope_of body.now)) }
+    // `execute_kw`, so far the one method, takes six or seven elements.
+    ensures elements { IfOk result (λ e. (6 ≤ length e.args) × (length e.args ≤ 7)) }
     ensures id { has_float (answer_id result) ≡ false }
 {
     let Some(members) = members_of(value_of(alloc, body)?) else {
@@ -48,7 +50,8 @@ pub fn envelope(alloc: Global, body: &[u8]) -> Result<Envelope, EnvFault>
 
 /// The envelope in the members of a body.
 fn read_body(alloc: Global, mut body: Map<String, Json>) -> Result<Envelope, EnvFault>
-    ensures { Gives result (envelope_in (members_view body.entries)) }
+    ensures envelope { EnvelopeIs result (envelope_in (members_view body.entries)) }
+    ensures elements { IfOk result (λ e. (6 ≤ length e.args) × (length e.args ≤ 7)) }
 {
     let Some(id) = id_of(take(&mut body, "id")) else {
         return Err(fault_at(alloc, &["id"], Json::Null));
@@ -67,7 +70,8 @@ fn read_body(alloc: Global, mut body: Map<String, Json>) -> Result<Envelope, Env
 
 /// The envelope of an id and the members of `params`.
 fn read_params(alloc: Global, id: Json, mut params: Map<String, Json>) -> Result<Envelope, EnvFault>
-    ensures { Gives result (asked_in (view id) (members_view params.entries)) }
+    ensures envelope { EnvelopeIs result (asked_in (view id) (members_view params.entries)) }
+    ensures elements { IfOk result (λ e. (6 ≤ length e.args) × (length e.args ≤ 7)) }
 {
     let Some(service) = text_equal(take(&mut params, "service"), "object") else {
         return Err(fault_at(alloc, &["params", "service"], id));
@@ -175,7 +179,8 @@ fn text_of(given: Option<Json>) -> Option<Word>
 
 /// The method that a service has, and how many elements it takes.
 fn method_of(service: &str, given: Option<Json>) -> Option<(Word, Arity)>
-    ensures { option_map (λ m. (m.0, seen_arity m.1)) result ≡ spec.method_of service.now (option_map view given) }
+    ensures found { option_map (λ m. (m.0, seen_arity m.1)) result ≡ spec.method_of service.now (option_map view given) }
+    ensures elements { IfSome result (λ m. (m.1.least ≡ 6) × (m.1.most ≡ 7)) }
 {
     let method = text_of(given)?;
     let arity = arity_of(service, method.as_str())?;
@@ -183,7 +188,8 @@ fn method_of(service: &str, given: Option<Json>) -> Option<(Word, Arity)>
 }
 
 fn arity_of(service: &str, method: &str) -> Option<Arity>
-    ensures { option_map seen_arity result ≡ spec.arity_of service.now method.now }
+    ensures found { option_map seen_arity result ≡ spec.arity_of service.now method.now }
+    ensures elements { IfSome result (λ arity. (arity.least ≡ 6) × (arity.most ≡ 7)) }
 {
     if "object" == service && "execute_kw" == method {
         Some(Arity { least: 6, most: 7 })
@@ -203,7 +209,8 @@ fn list_of(given: Option<Json>) -> Option<Sequence<Json>>
 
 /// The number of the first element that is missing, or that is one too many.
 fn wrong_element(arity: Arity, count: usize) -> Option<usize>
-    ensures { result ≡ spec.wrong_element (seen_arity arity) count }
+    ensures wrong { result ≡ spec.wrong_element (seen_arity arity) count }
+    ensures none { IfNone result ((arity.least ≤ count) × (count ≤ arity.most)) }
 {
     if count < arity.least {
         Some(count)
@@ -216,7 +223,7 @@ fn wrong_element(arity: Arity, count: usize) -> Option<usize>
 
 /// The fault at a path of keys, by the id.
 fn fault_at(alloc: Global, keys: &[&str], id: Json) -> EnvFault
-    ensures { FaultsAt result (Err (record { place = map (λ key. Key key.now) keys.now; id = view id })) }
+    ensures { FaultIs result (Err (record { place = map (λ key. Key key.now) keys.now; id = view id })) }
 {
     match place_of(alloc, keys) {
         Ok(place) => EnvFault::At(place, id),
@@ -226,7 +233,7 @@ fn fault_at(alloc: Global, keys: &[&str], id: Json) -> EnvFault
 
 /// The fault at an element of the arguments, by the id.
 fn fault_at_element(alloc: Global, number: usize, id: Json) -> EnvFault
-    ensures { FaultsAt result (Err (record { place = element_place number; id = view id })) }
+    ensures { FaultIs result (Err (record { place = element_place number; id = view id })) }
 {
     match place_of_element(alloc, number) {
         Ok(place) => EnvFault::At(place, id),

@@ -43,8 +43,9 @@ pub fn no_memory_reply() -> &'static str
     NO_MEMORY_REPLY
 }
 
-/// No reply has a line feed in it, whatever its texts have.
-pub fn replies_are_lines()
+/// The stated text of a reply has no line feed in it, whatever its texts have. So a reply
+/// in which nothing is a float is one line.
+pub fn reply_forms_are_lines()
     ensures { (id : Data) (reply : Reply) → IsOneLine (reply_form id reply) }
 {}
 
