@@ -7,14 +7,14 @@ use Rattle.std.proofs.lemmas.List.Sums.{prefix_len_passes, prefix_len_stops}
 use Rattle.std.proofs.lemmas.Str.{IsCharBoundary-after_ascii, IsCharBoundary-before_ascii}
 use Rattle.std.specs.List.{prefix_len, slice_range}
 use Rattle.std.specs.Str.{IsCharBoundary, IsUtf8}
-use Rattle.ob_expr.specs.Lexemes.{is_blank, is_name_byte, run_lexeme, byte_lexemes, lexemes_from}
+use Rattle.ob_expr.specs.Lexemes.{is_separator, is_name_byte, run_lexeme, byte_lexemes, lexemes_from}
 
 -- no name byte is a blank
-pub blank_in_no_name : (b : ℕ) → is_blank b ≡ true → is_name_byte b ≡ false
-unfolding is_blank is_name_byte
+pub blank_in_no_name : (b : ℕ) → is_separator b ≡ true → is_name_byte b ≡ false
+unfolding is_separator is_name_byte
 blank_in_no_name b blank = grind (arith, nat_tests)
 
-pub byte_lexemes-blank : (b at : ℕ) → is_blank b ≡ true → byte_lexemes b at ≡ []
+pub byte_lexemes-blank : (b at : ℕ) → is_separator b ≡ true → byte_lexemes b at ≡ []
 unfolding byte_lexemes
 byte_lexemes-blank b at blank = rw blank refl
 
@@ -36,17 +36,18 @@ lexemes_from-in_run at (b ∷ bytes) (suc n) len =
     rw (some.0, sum) (lexemes_from-in_run (at + 1) bytes n some.1)
 
 -- blanks at the front give nothing
-pub lexemes_from-blanks : (at : ℕ) (bytes : List ℕ) (n : ℕ) → prefix_len is_blank bytes ≡ n → lexemes_from false at bytes ≡ lexemes_from false (at + n) (drop n bytes)
+pub lexemes_from-blanks : (at : ℕ) (bytes : List ℕ) (n : ℕ) → prefix_len is_separator bytes ≡ n → lexemes_from false at bytes ≡ lexemes_from false (at + n) (drop n bytes)
 lexemes_from-blanks at [] zero len = refl
 lexemes_from-blanks at [] (suc n) len = refl
 lexemes_from-blanks at (b ∷ bytes) zero len = rw add-zero refl
 lexemes_from-blanks at (b ∷ bytes) (suc n) len =
-    let some = prefix_len-some is_blank b bytes n len in
+    let some = prefix_len-some is_separator b bytes n len in
     let sum : at + suc n ≡ at + 1 + n = omega arith in
     rw (blank_in_no_name b some.0, byte_lexemes-blank b at some.0, sum) (lexemes_from-blanks (at + 1) bytes n some.1)
 
 -- a run of name bytes at the front gives its token
-pub lexemes_from-run : (at : ℕ) (bytes : List ℕ) (n : ℕ) → prefix_len is_name_byte bytes ≡ n → 0 < n → lexemes_from false at bytes ≡ run_lexeme (take n bytes) at ∷ lexemes_from false (at + n) (drop n bytes)
+pub lexemes_from-run : (at : ℕ) (bytes : List ℕ) (n : ℕ) → prefix_len is_name_byte bytes ≡ n → 0 < n
+    → lexemes_from false at bytes ≡ run_lexeme (take n bytes) at ∷ lexemes_from false (at + n) (drop n bytes)
 lexemes_from-run at bytes zero len some = absurd (omega arith)
 lexemes_from-run at [] (suc n) len some = absurd (cc)
 lexemes_from-run at (b ∷ bytes) (suc n) len _ =
@@ -62,19 +63,20 @@ pub take-rest : (text : List ℕ) (at : ℕ) → take (length text - at) (drop a
 take-rest text at = rw (← length-drop at text) (take-length (drop at text))
 
 -- what a text gives from an offset on, by the blanks and the run that stand there
-pub lexemes_from-blanks_at : (text : List ℕ) (at n : ℕ) → n ≡ prefix_len is_blank (drop at text) → lexemes_from false at (drop at text) ≡ lexemes_from false (at + n) (drop (at + n) text)
+pub lexemes_from-blanks_at : (text : List ℕ) (at n : ℕ) → n ≡ prefix_len is_separator (drop at text) → lexemes_from false at (drop at text) ≡ lexemes_from false (at + n) (drop (at + n) text)
 lexemes_from-blanks_at text at n len = rw (← drop-drop n at text) (lexemes_from-blanks at (drop at text) n (sym len))
 
-pub lexemes_from-run_at : (text : List ℕ) (at n : ℕ) → n ≡ prefix_len is_name_byte (drop at text) → 0 < n → lexemes_from false at (drop at text) ≡ run_lexeme (slice_range text at (at + n)) at ∷ lexemes_from false (at + n) (drop (at + n) text)
+pub lexemes_from-run_at : (text : List ℕ) (at n : ℕ) → n ≡ prefix_len is_name_byte (drop at text) → 0 < n
+    → lexemes_from false at (drop at text) ≡ run_lexeme (slice_range text at (at + n)) at ∷ lexemes_from false (at + n) (drop (at + n) text)
 lexemes_from-run_at text at n len some =
     let size : at + n - at ≡ n = omega arith in
     rw (← drop-drop n at text, size) (lexemes_from-run at (drop at text) n (sym len) some)
 
 -- behind the blanks stands no blank
-pub is_blank-behind : (text : List ℕ) (at n : ℕ) → n ≡ prefix_len is_blank (drop at text) → at + n < length text → is_blank (get_or text (at + n) 0) ≡ false
-is_blank-behind text at n len inside =
-    let within : prefix_len is_blank (drop at text) < length (drop at text) = omega (arith, length-drop at text) in
-    rw (sym (get_or-drop at text n 0), len) (prefix_len_stops is_blank (drop at text) 0 within)
+pub is_separator-behind : (text : List ℕ) (at n : ℕ) → n ≡ prefix_len is_separator (drop at text) → at + n < length text → is_separator (get_or text (at + n) 0) ≡ false
+is_separator-behind text at n len inside =
+    let within : prefix_len is_separator (drop at text) < length (drop at text) = omega (arith, length-drop at text) in
+    rw (sym (get_or-drop at text n 0), len) (prefix_len_stops is_separator (drop at text) 0 within)
 
 name_byte_is_ascii : (b : ℕ) → is_name_byte b ≡ true → b < 128
 unfolding is_name_byte

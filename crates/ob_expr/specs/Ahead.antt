@@ -1,4 +1,4 @@
--- What contracts see of a lexer.
+-- What contracts see of a lexer. It stays as it is, whatever tokens there are.
 use Rattle.std.specs.Prelude.{ℕ, List}
 use Rattle.ob_expr.specs.Lexemes.{Lexeme}
 

@@ -1,4 +1,4 @@
--- Which fields and kinds a tree has in a scope.
+-- Which fields and kinds a tree has in a scope. A form of the tree that is added has its kinds here.
 use Rattle.std.specs.Prelude.{◌≡◌, ◌&&◌, ⊤, ℕ, List, Bool, true, false, Option, Some, None, is_none, Result, Ok, Err, if◌then◌else◌}
 use Rattle.ob_base.specs.declared.id.FieldNo.{FieldNo}
 use Rattle.ob_expr.specs.declared.checker.Found.{Found}
@@ -25,13 +25,8 @@ kind_of (field number k) = k
 kind_of (times left right) = kind.Int
 
 abbrev pub is_int : Kind → Bool
-is_int kind.Bool = false
 is_int kind.Int = true
-is_int kind.Word = false
-is_int kind.Day = false
-is_int kind.Moment = false
-is_int (kind.Ref model) = false
-is_int (kind.Refs model) = false
+is_int _ = false
 
 -- each product is of two integers
 abbrev pub IsWellKinded : TypedTree → Type 0

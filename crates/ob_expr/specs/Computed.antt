@@ -1,4 +1,4 @@
--- What contracts see of a value that was evaluated for a cell.
+-- What contracts see of a value that was evaluated for a cell (`Fresh`).
 use Rattle.ob_base.specs.declared.id.Cell.{Cell}
 use Rattle.ob_base.specs.declared.value.Value.{Value}
 

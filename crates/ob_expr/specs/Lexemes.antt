@@ -1,4 +1,4 @@
--- A text as tokens.
+-- A text as tokens. A token that is added to the language has its constructor and its bytes here.
 use Rattle.std.specs.Prelude.{ℕ, ◌+◌, ◌++◌, ◌==◌, ◌&&◌, ◌||◌, nat_le, not, List, [], ◌∷◌, codes, Bool, true, false, if◌then◌else◌}
 use Rattle.std.specs.List.{list_any, take_while}
 use Rattle.std.specs.Str.{bytes_eq}
@@ -23,8 +23,8 @@ offset_of (star at) = at
 offset_of (other at) = at
 
 -- a space, a tab or a line feed
-unfoldable pub is_blank : ℕ → Bool
-is_blank b = (b == 32) || (b == 9) || (b == 10)
+unfoldable pub is_separator : ℕ → Bool
+is_separator b = (b == 32) || (b == 9) || (b == 10)
 
 -- a small letter
 abbrev pub is_letter : ℕ → Bool
@@ -48,12 +48,15 @@ run_lexeme run at = if begins_with_letter run && not (is_reserved run) then name
 
 -- what a byte that is in no name gives
 unfoldable pub byte_lexemes : ℕ → ℕ → List Lexeme
-byte_lexemes b at = if is_blank b then [] else ((if b == 42 then star at else other at) ∷ [])
+byte_lexemes b at = if is_separator b then [] else ((if b == 42 then star at else other at) ∷ [])
 
 -- the tokens of what stands from an offset on; right after a name byte, the rest of its run is told already
 abbrev pub lexemes_from : Bool → ℕ → List ℕ → List Lexeme
 lexemes_from after_name_byte at [] = []
-lexemes_from after_name_byte at (b ∷ bytes) = if is_name_byte b then ((if after_name_byte then [] else (run_lexeme (take_while is_name_byte (b ∷ bytes)) at ∷ [])) ++ lexemes_from true (at + 1) bytes) else (byte_lexemes b at ++ lexemes_from false (at + 1) bytes)
+lexemes_from after_name_byte at (b ∷ bytes) =
+    if is_name_byte b
+    then ((if after_name_byte then [] else (run_lexeme (take_while is_name_byte (b ∷ bytes)) at ∷ [])) ++ lexemes_from true (at + 1) bytes)
+    else (byte_lexemes b at ++ lexemes_from false (at + 1) bytes)
 
 -- the tokens of a text
 abbrev pub lexemes : List ℕ → List Lexeme

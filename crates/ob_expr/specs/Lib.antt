@@ -4,5 +4,6 @@ pub mod Grammar
 pub mod Parsing
 pub mod Checking
 pub mod Meaning
+pub mod Reads
 pub mod Computed
 pub mod Outcome

@@ -1,4 +1,4 @@
--- What a checked expression means.
+-- What a checked expression means. A form of the tree that is added has its value here.
 use Rattle.std.specs.Prelude.{◌&&◌, ◌-◌, ◌^◌, ⊤, ℤ, ◌*ℤ◌, pos, negsuc, int_le, Result, Ok, Err, if◌then◌else◌}
 use Rattle.ob_base.specs.declared.id.Cell.{Cell}
 use Rattle.ob_base.specs.declared.id.FieldNo.{FieldNo}
@@ -9,7 +9,7 @@ use Rattle.ob_expr.specs.declared.checker.Kind.{Kind}
 use Rattle.ob_expr.specs.declared.checker.Kind.TheVariants as kind
 use Rattle.ob_expr.specs.Checking.{TypedTree, field, times, EachField}
 
--- a value of the kind; all but a Bool and an Int may be unset
+-- a value of the kind; all but a Bool, an Int and a list may be unset: the empty list stands for nothing
 abbrev pub HasKind : Kind → Value → Type 0
 HasKind kind.Bool (value.Bool b) = ⊤
 HasKind kind.Int (value.Int n) = ⊤
@@ -21,25 +21,20 @@ HasKind kind.Moment value.Nil = ⊤
 HasKind kind.Moment (value.Moment n) = ⊤
 HasKind (kind.Ref model) value.Nil = ⊤
 HasKind (kind.Ref model) (value.Ref id) = ⊤
-HasKind (kind.Refs model) value.Nil = ⊤
 HasKind (kind.Refs model) (value.Refs ids) = ⊤
 HasKind _ _ = ⊥
 
 -- the cell of a field in the row of another cell
-abbrev pub cell_of : Cell → FieldNo → Cell
-cell_of cell number = record cell { field = number }
+abbrev pub cell_in_row : Cell → FieldNo → Cell
+cell_in_row cell number = record cell { field = number }
 
 -- what the fields of a cell's row hold
-abbrev pub row_of : (Cell → Value) → Cell → FieldNo → Value
-row_of value_of cell number = value_of (cell_of cell number)
+abbrev pub held_in_row : (Cell → Value) → Cell → FieldNo → Value
+held_in_row value_of cell number = value_of (cell_in_row cell number)
 
 -- each field of the tree holds a value of its kind
 abbrev pub HoldsKinds : (FieldNo → Value) → TypedTree → Type 0
 HoldsKinds held = EachField (λ number k. HasKind k (held number))
-
--- the cell of each field of the tree may be read
-abbrev pub MayRead : (Cell → Type 0) → Cell → TypedTree → Type 0
-MayRead can_read cell = EachField (λ number k. can_read (cell_of cell number))
 
 -- why an expression has no value
 pub data ValueFault : Type 0 where

@@ -1,4 +1,4 @@
--- The tree of a list of tokens, or the first fault, read from the front.
+-- The tree of a list of tokens, or the first fault, read from the front: a word between the parser and the grammar, for this crate alone.
 use Rattle.std.specs.Prelude.{ℕ, List, [], ◌∷◌, Result, Ok, Err, nat_lt, if◌then◌else◌}
 use Rattle.ob_expr.specs.declared.parser.ExprFault.{ExprFault}
 use Rattle.ob_expr.specs.declared.parser.ExprFault.TheVariants.{At, TooDeep}

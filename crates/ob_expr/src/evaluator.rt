@@ -1,16 +1,19 @@
 //! Evaluation of a checked expression over cells that are there already. Each
-//! evaluation is one step of the counter. A new form of the tree gets its value
-//! here, and in `specs/Meaning`.
+//! evaluation is one step of the counter, and a part is read only where the parts
+//! before it have a value. A new form of the tree gets its value here and in
+//! `specs/Meaning`, what it may read in `specs/Reads`, and a fault of its own in
+//! `specs/Outcome`.
 
-ghost use Rattle.std.specs.Prelude.{◌≡◌, IfOk, IfErr, Ok};
+ghost use Rattle.std.specs.Prelude.{◌≡◌, Bool, IfOk, IfErr, IsTrue, Ok, OnOk};
 ghost use Rattle.ob_base.specs.Tally.{ticked};
 ghost use Rattle.ob_base.specs.ValueOrder.{number_of};
 ghost use Rattle.ob_base.specs.declared.id.Cell.{Cell};
 ghost use Rattle.ob_base.specs.declared.value.Value.{Value};
 ghost use Rattle.ob_expr.specs.declared.checker.Kind.TheVariants.{Int as an_integer};
 ghost use Rattle.ob_expr.specs.Checking.{IsWellKinded, TypedTree, kind_of, typed_tree_of};
-ghost use Rattle.ob_expr.specs.Meaning.{HasKind, HoldsKinds, MayRead, meaning, row_of};
-ghost use Rattle.ob_expr.specs.Outcome.{Tells};
+ghost use Rattle.ob_expr.specs.Meaning.{HasKind, HoldsKinds, held_in_row, meaning};
+ghost use Rattle.ob_expr.specs.Outcome.{IsEvalFault};
+ghost use Rattle.ob_expr.specs.Reads.{MayRead, MeansValue};
 
 use crate::checker::Typed;
 use ob_base::{Cell, Ledger, Steps, Value};
@@ -18,12 +21,16 @@ use std::alloc::Global;
 use std::marker::Model;
 use thiserror::Error;
 
-/// The cells that an expression may read.
+/// The cells that an expression reads. What a cell holds is there already: reading it
+/// evaluates nothing.
 pub trait Reads {
     type Fault;
 
-    /// What each cell holds.
+    /// What each cell holds, where it has a value.
     ghost value_of: { Self → Cell → Value };
+
+    /// Whether a cell has a value: that it has one is known once it is read.
+    ghost has_value: { Self → Cell → Bool };
 
     /// The cells that may be read.
     ghost can_read: { Self → Cell → Type 0 };
@@ -35,8 +42,10 @@ pub trait Reads {
     fn value(&mut self, cell: Cell) -> Result<Value, Self::Fault>
         requires { can_read self.old cell }
         ensures value { IfOk result (λ value. value ≡ value_of self.old cell) }
+        ensures there { OnOk result (IsTrue (has_value self.old cell)) }
         ensures failed { IfErr result (has_failed self.new) }
         ensures kept { value_of self.new ≡ value_of self.old }
+        ensures same { has_value self.new ≡ has_value self.old }
         ensures readable { (c : Cell) → can_read self.old c → can_read self.new c };
 }
 
@@ -105,20 +114,24 @@ pub fn eval<R: Reads, L: Ledger>(
     steps: &mut Steps<L>,
 ) -> Result<Fresh, EvalFault<R::Fault>>
     requires kinded { IsWellKinded (typed_tree_of typed.now) }
-    requires readable { MayRead (R.can_read reads.old) cell (typed_tree_of typed.now) }
-    requires held { HoldsKinds (row_of (R.value_of reads.old) cell) (typed_tree_of typed.now) }
+    requires readable { MayRead (R.has_value reads.old) (R.value_of reads.old) cell
+        (R.can_read reads.old) (typed_tree_of typed.now) }
+    requires held { HoldsKinds (held_in_row (R.value_of reads.old) cell) (typed_tree_of typed.now) }
 
     ensures cell { IfOk result (λ fresh. fresh.cell ≡ cell) }
     ensures value { IfOk result
-        (λ fresh. meaning (typed_tree_of typed.now) (row_of (R.value_of reads.old) cell)
+        (λ fresh. meaning (typed_tree_of typed.now) (held_in_row (R.value_of reads.old) cell)
         ≡ Ok fresh.value) }
     ensures kind { IfOk result (λ fresh. HasKind (kind_of (typed_tree_of typed.now)) fresh.value) }
+    ensures there { OnOk result
+        (MeansValue (R.has_value reads.old) (R.value_of reads.old) cell (typed_tree_of typed.now)) }
     ensures fault { IfErr result
-        (Tells (R.has_failed reads.new)
-        (meaning (typed_tree_of typed.now) (row_of (R.value_of reads.old) cell))) }
+        (IsEvalFault (R.has_failed reads.new)
+        (meaning (typed_tree_of typed.now) (held_in_row (R.value_of reads.old) cell))) }
 
     ensures ticked { steps.new ≡ ticked L.noted steps.old }
     ensures kept { R.value_of reads.new ≡ R.value_of reads.old }
+    ensures same { R.has_value reads.new ≡ R.has_value reads.old }
     ensures readable { (c : Cell) → R.can_read reads.old c → R.can_read reads.new c }
 {
     steps.tick();
@@ -133,25 +146,29 @@ fn value_in_row<R: Reads>(
     reads: &mut R,
 ) -> Result<Value, EvalFault<R::Fault>>
     requires kinded { IsWellKinded (typed_tree_of typed.now) }
-    requires readable { MayRead (R.can_read reads.old) cell (typed_tree_of typed.now) }
-    requires held { HoldsKinds (row_of (R.value_of reads.old) cell) (typed_tree_of typed.now) }
+    requires readable { MayRead (R.has_value reads.old) (R.value_of reads.old) cell
+        (R.can_read reads.old) (typed_tree_of typed.now) }
+    requires held { HoldsKinds (held_in_row (R.value_of reads.old) cell) (typed_tree_of typed.now) }
 
     ensures value { IfOk result
-        (λ value. meaning (typed_tree_of typed.now) (row_of (R.value_of reads.old) cell)
+        (λ value. meaning (typed_tree_of typed.now) (held_in_row (R.value_of reads.old) cell)
         ≡ Ok value) }
     ensures kind { IfOk result (HasKind (kind_of (typed_tree_of typed.now))) }
+    ensures there { OnOk result
+        (MeansValue (R.has_value reads.old) (R.value_of reads.old) cell (typed_tree_of typed.now)) }
     ensures fault { IfErr result
-        (Tells (R.has_failed reads.new)
-        (meaning (typed_tree_of typed.now) (row_of (R.value_of reads.old) cell))) }
+        (IsEvalFault (R.has_failed reads.new)
+        (meaning (typed_tree_of typed.now) (held_in_row (R.value_of reads.old) cell))) }
 
     ensures kept { R.value_of reads.new ≡ R.value_of reads.old }
+    ensures same { R.has_value reads.new ≡ R.has_value reads.old }
     ensures readable { (c : Cell) → R.can_read reads.old c → R.can_read reads.new c }
     ensures still_readable { (tree : TypedTree)
-        → MayRead (R.can_read reads.old) cell tree
-        → MayRead (R.can_read reads.new) cell tree }
+        → MayRead (R.has_value reads.old) (R.value_of reads.old) cell (R.can_read reads.old) tree
+        → MayRead (R.has_value reads.new) (R.value_of reads.new) cell (R.can_read reads.new) tree }
     ensures still_held { (tree : TypedTree)
-        → HoldsKinds (row_of (R.value_of reads.old) cell) tree
-        → HoldsKinds (row_of (R.value_of reads.new) cell) tree }
+        → HoldsKinds (held_in_row (R.value_of reads.old) cell) tree
+        → HoldsKinds (held_in_row (R.value_of reads.new) cell) tree }
 {
     match typed {
         Typed::Field(field, _) => {

@@ -3,9 +3,9 @@
 
 ghost use Rattle.std.specs.Prelude.{◌≡◌, ◌∷◌, [], ◌<◌, ◌≤◌, MatchOption, drop, false, slice_index, length};
 ghost use Rattle.std.specs.List.{prefix_len};
-ghost use Rattle.ob_expr.specs.Lexemes.{begins_with_letter, byte_lexemes, is_blank, is_letter, is_name_byte, is_reserved, lexeme_of, lexemes, lexemes_from, offset_of, run_lexeme};
+ghost use Rattle.ob_base.specs.Limits.{max_expression_bytes};
+ghost use Rattle.ob_expr.specs.Lexemes.{begins_with_letter, byte_lexemes, is_separator, is_letter, is_name_byte, is_reserved, lexeme_of, lexemes, lexemes_from, offset_of, run_lexeme};
 
-use ob_base::limits::MAX_EXPRESSION_BYTES;
 use std::marker::Model;
 
 /// A token, and its offset in the text.
@@ -37,7 +37,7 @@ pub struct Lexer<'a> {
 
 impl<'a> Model for Lexer<'a> {
     ghost use Rattle.std.specs.Prelude.{◌≤◌, drop, false, length};
-    ghost use Rattle.ob_base.specs.declared.limits.TheConstants.{MAX_EXPRESSION_BYTES};
+    ghost use Rattle.ob_base.specs.Limits.{max_expression_bytes};
     ghost use Rattle.ob_expr.specs.Lexemes.{lexemes_from};
     ghost use Rattle.ob_expr.specs.Ahead.{Ahead};
 
@@ -45,13 +45,13 @@ impl<'a> Model for Lexer<'a> {
 
     ghost view = { λ l. record { tokens = lexemes_from false l.at (drop l.at l.text.now); end = length l.text.now } };
 
-    ghost invariant = { λ l. (l.at ≤ length l.text.now) × (length l.text.now ≤ MAX_EXPRESSION_BYTES) };
+    ghost invariant = { λ l. (l.at ≤ length l.text.now) × (length l.text.now ≤ max_expression_bytes) };
 }
 
 impl<'a> Lexer<'a> {
     /// Before the first token.
     pub fn new(text: &'a str) -> Lexer<'a>
-        requires { length text.now ≤ MAX_EXPRESSION_BYTES }
+        requires { length text.now ≤ max_expression_bytes }
         ensures tokens { result.tokens ≡ lexemes text.now }
         ensures end { result.end ≡ length text.now }
     {
@@ -85,9 +85,9 @@ impl<'a> Lexer<'a> {
 
 /// The token that begins at an offset, and the offset behind it.
 fn token_at(text: &str, start: usize) -> (Token<'_>, usize)
-    requires short { length text.now ≤ MAX_EXPRESSION_BYTES }
+    requires short { length text.now ≤ max_expression_bytes }
     requires inside { start < length text.now }
-    requires begins { is_blank (slice_index text.now start) ≡ false }
+    requires begins { is_separator (slice_index text.now start) ≡ false }
     ensures token { lexemes_from false start (drop start text.now)
         ≡ lexeme_of result.0 ∷ lexemes_from false result.1 (drop result.1 text.now) }
     ensures within { result.1 ≤ length text.now }
@@ -115,9 +115,9 @@ fn word(run: &str, at: u32) -> Token<'_>
 }
 
 /// The token of a byte that is in no name.
-#[tactic(auto, unfolding(crate::specs::Lexemes::byte_lexemes, crate::specs::Lexemes::is_blank))]
+#[tactic(auto, unfolding(crate::specs::Lexemes::byte_lexemes, crate::specs::Lexemes::is_separator))]
 fn sign(byte: u8, at: u32) -> Token<'static>
-    requires { is_blank byte ≡ false }
+    requires { is_separator byte ≡ false }
     ensures { lexeme_of result ∷ [] ≡ byte_lexemes byte at }
 {
     if byte == b'*' {
@@ -129,10 +129,10 @@ fn sign(byte: u8, at: u32) -> Token<'static>
 
 /// How many blanks stand at the front.
 fn blank_len(bytes: &[u8]) -> usize
-    ensures len { result ≡ prefix_len is_blank bytes.now }
+    ensures len { result ≡ prefix_len is_separator bytes.now }
     ensures within { result ≤ length bytes.now }
 {
-    bytes.iter().take_while(|b| is_blank(**b)).count()
+    bytes.iter().take_while(|b| is_separator(**b)).count()
 }
 
 /// How many bytes of a name stand at the front.
@@ -143,9 +143,9 @@ fn run_len(bytes: &[u8]) -> usize
     bytes.iter().take_while(|b| is_name_byte(**b)).count()
 }
 
-#[tactic(auto, unfolding(crate::specs::Lexemes::is_blank))]
-fn is_blank(byte: u8) -> bool
-    ensures { result ≡ is_blank byte }
+#[tactic(auto, unfolding(crate::specs::Lexemes::is_separator))]
+fn is_separator(byte: u8) -> bool
+    ensures { result ≡ is_separator byte }
 {
     matches!(byte, b' ' | b'\t' | b'\n')
 }

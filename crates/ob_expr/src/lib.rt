@@ -17,7 +17,7 @@ mod syntax;
 
 pub use checker::{Found, Kind, Scope, TypeFault, Typed, check};
 pub use evaluator::{EvalFault, Fresh, Reads, eval};
-pub use parser::{ExprFault, parse};
+pub use parser::{ExprFault, one_tree, parse};
 pub use syntax::Expr;
 
 #[cfg(test)]

@@ -1,15 +1,16 @@
 //! Reading a tree from a text. A new form of the language gets its rule here, and in
 //! `specs/Grammar`.
 
-ghost use Rattle.std.specs.Prelude.{ℕ, ◌≡◌, ◌≢◌, ◌≤◌, IfOk, IfErr, IsErrOf, MatchResult, Ok, Err, length};
+ghost use Rattle.std.specs.Prelude.{ℕ, List, ◌≡◌, ◌≢◌, ◌≤◌, IfOk, IfErr, IsErrOf, MatchResult, Ok, Err, length};
+ghost use Rattle.ob_base.specs.Limits.{max_expression_bytes, max_expression_depth};
 ghost use Rattle.ob_expr.specs.declared.parser.ExprFault.TheVariants.{NoMemory as no_memory};
-ghost use Rattle.ob_expr.specs.Grammar.{IsFirstFault, IsFirstTooDeep, Spells, Tree, depth, tree_of};
-ghost use Rattle.ob_expr.specs.Lexemes.{lexemes};
+ghost use Rattle.ob_expr.specs.Grammar.{IsFirstFault, IsFirstTooDeep, SpellAtMostOneTree, Spells, Tree, depth, tree_of};
+ghost use Rattle.ob_expr.specs.Lexemes.{Lexeme, lexemes};
 ghost use Rattle.ob_expr.specs.Parsing.{first_name, parsed};
 
 use crate::lexeme::{Lexer, Token};
 use crate::syntax::Expr;
-use ob_base::limits::{MAX_EXPRESSION_BYTES, MAX_EXPRESSION_DEPTH};
+use ob_base::limits::MAX_EXPRESSION_DEPTH;
 use ob_base::{NoMemory, Word};
 use std::alloc::{AllocFailed, Global};
 use thiserror::Error;
@@ -45,12 +46,12 @@ impl<T: Drop> From<AllocFailed<T>> for ExprFault {
 
 /// Reads the expression that a text spells.
 pub fn parse(alloc: Global, text: &str) -> Result<Expr, ExprFault>
-    requires { length text.now ≤ MAX_EXPRESSION_BYTES }
+    requires { length text.now ≤ max_expression_bytes }
 
     ensures spelled { IfOk result (λ expr. Spells (tree_of expr) (lexemes text.now)) }
-    ensures shallow { IfOk result (λ expr. depth (tree_of expr) ≤ MAX_EXPRESSION_DEPTH) }
+    ensures shallow { IfOk result (λ expr. depth (tree_of expr) ≤ max_expression_depth) }
     ensures complete { (tree : Tree) → Spells tree (lexemes text.now)
-        → depth tree ≤ MAX_EXPRESSION_DEPTH
+        → depth tree ≤ max_expression_depth
         → MatchResult result (λ expr. tree_of expr ≡ tree)
         (λ fault. fault ≡ ExprFault.NoMemory) }
 
@@ -62,14 +63,19 @@ pub fn parse(alloc: Global, text: &str) -> Result<Expr, ExprFault>
     read_product(alloc, Lexer::new(text))
 }
 
+/// No tokens spell two expressions, however deep they nest: so a text spells at most one.
+pub fn one_tree()
+    ensures { (tokens : List Lexeme) → SpellAtMostOneTree tokens }
+{}
+
 /// Reads names with stars between them, to the end of the text.
 fn read_product(alloc: Global, mut lexer: Lexer<'_>) -> Result<Expr, ExprFault>
     ensures tree { IfOk result
-        (λ expr. parsed MAX_EXPRESSION_DEPTH lexer.entry.end lexer.entry.tokens
+        (λ expr. parsed max_expression_depth lexer.entry.end lexer.entry.tokens
         ≡ Ok (tree_of expr)) }
     ensures fault { IfErr result
         (λ fault. fault ≢ ExprFault.NoMemory
-        → parsed MAX_EXPRESSION_DEPTH lexer.entry.end lexer.entry.tokens ≡ Err fault) }
+        → parsed max_expression_depth lexer.entry.end lexer.entry.tokens ≡ Err fault) }
 {
     let mut product = read_name(alloc, &mut lexer)?;
     let mut depth = 1;

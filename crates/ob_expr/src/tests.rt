@@ -2,6 +2,7 @@
 //! where. The offsets are counted by hand.
 
 ghost use Rattle.std.specs.Prelude.{◌≡◌, ◌≤◌, length};
+ghost use Rattle.ob_base.specs.Limits.{max_expression_bytes};
 
 use crate::{
     EvalFault, ExprFault, Found, Fresh, Kind, Reads, Scope, TypeFault, check, eval, parse,
@@ -31,7 +32,12 @@ impl Scope for Fields {
     ghost use Rattle.std.specs.Prelude.{codes, Some, None, if◌then◌else◌};
     ghost use Rattle.std.specs.Str.{bytes_eq};
 
-    ghost finds = { λ fields _ name. if bytes_eq name (codes "qty") then Some (record { via = fields.via; field = record { 0 = 1 }; kind = fields.kind; usable = fields.usable }) else (if bytes_eq name (codes "price") then Some (record { via = fields.via; field = record { 0 = 2 }; kind = fields.kind; usable = fields.usable }) else None) };
+    ghost finds = { λ fields _ name.
+        if bytes_eq name (codes "qty")
+        then Some (record { via = fields.via; field = record { 0 = 1 }; kind = fields.kind; usable = fields.usable })
+        else (if bytes_eq name (codes "price")
+        then Some (record { via = fields.via; field = record { 0 = 2 }; kind = fields.kind; usable = fields.usable })
+        else None) };
 
     fn field(&self, _model: ModelNo, name: &str) -> Option<Found> {
         let field = match name {
@@ -57,12 +63,14 @@ struct Row {
 }
 
 impl Reads for Row {
-    ghost use Rattle.std.specs.Prelude.{◌≡◌, ◌==◌, true, if◌then◌else◌};
+    ghost use Rattle.std.specs.Prelude.{◌≡◌, ◌==◌, ◌||◌, not, true, if◌then◌else◌};
     ghost use Rattle.ob_base.specs.declared.value.Value.TheVariants.{Int};
 
     type Fault = ();
 
     ghost value_of = { λ row cell. Int (if cell.field.0 == 1 then row.qty else row.price) };
+
+    ghost has_value = { λ row cell. (cell.field.0 == 1) || not row.price_is_lost };
 
     ghost can_read = { λ _ _. Unit {0} };
 
@@ -85,7 +93,7 @@ fn outcome(
     text: &str,
     row: &mut Row,
 ) -> Result<(Result<Fresh, EvalFault<()>>, u64), Fail>
-    requires { length text.now ≤ MAX_EXPRESSION_BYTES }
+    requires { length text.now ≤ max_expression_bytes }
 {
     let expr = parse(alloc, text)?;
     let fields = Fields {
@@ -109,7 +117,7 @@ fn fault_of(alloc: Global, text: &str) -> Option<ExprFault> {
 
 /// The fault of a text over fields, if it has one.
 fn type_fault_of(alloc: Global, text: &str, fields: &Fields) -> Result<Option<TypeFault>, Fail>
-    requires { length text.now ≤ MAX_EXPRESSION_BYTES }
+    requires { length text.now ≤ max_expression_bytes }
 {
     let expr = parse(alloc, text)?;
     Ok(check(alloc, &expr, fields, MODEL).err())
