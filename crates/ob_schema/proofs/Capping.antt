@@ -6,6 +6,7 @@ use Rattle.std.specs.Cmp.Lexicographic.{slice_cmp}
 use Rattle.std.specs.Ordering.{nat_cmp, is_lt}
 use Rattle.std.proofs.lemmas.List.{length-map}
 use Rattle.std.proofs.lemmas.List.Sums.{count_by-le-length}
+use Rattle.ob_base.specs.Limits.{max_fields}
 use Rattle.ob_base.specs.declared.id.FieldNo.{FieldNo}
 use Rattle.ob_expr.specs.declared.checker.Found.{Found}
 use Rattle.ob_expr.specs.declared.checker.Kind.{Kind}
@@ -18,7 +19,7 @@ use Rattle.ob_schema.specs.declared.definition.FieldDef.{FieldDef}
 use Rattle.ob_schema.specs.declared.definition.ModelDef.{ModelDef}
 use Rattle.ob_schema.specs.Capped.{capped_field, capped_found, capped_kind, capped_outcome, capped_tree}
 use Rattle.ob_schema.specs.Formulas.{fields_read, found_in, is_usable, kind_of_field, names_of, number_of}
-use Rattle.ob_schema.specs.Definitions.{field_def}
+use Rattle.ob_schema.specs.Definitions.{field_count, field_def}
 
 -- a capped kind is an integer as before
 is_int-capped_kind : (k : Kind) → is_int (capped_kind k) ≡ is_int k
@@ -106,7 +107,7 @@ each_tree P find each (named bytes at) = each_name P (find bytes) at (each bytes
 each_tree P find each (product left right) = each_product P (first_of left) (typed_of find left) (typed_of find right) (each_tree P find each left) (each_tree P find each right)
 
 -- a model with few fields has low numbers
-pub number_of-low : (def : ModelDef) (name : List ℕ) → length def.fields ≤ 253 → (number_of def name).0 ≤ 65535
+pub number_of-low : (def : ModelDef) (name : List ℕ) → field_count def ≤ max_fields → (number_of def name).0 ≤ 65535
 unfolding number_of
 number_of-low def name few =
     let names = names_of def in
@@ -116,7 +117,9 @@ number_of-low def name few =
     omega arith
 
 -- what a name stands for has a property that moments have, and each kind of a field
-each_found : (P : FieldNo → Kind → Type 0) (c : Bool) (number : FieldNo) (usable : FieldDef → Bool) (kinds : FieldDef → Option Kind) (own : Option FieldDef) → P number kind.Moment → ((f : FieldDef) → IfSome (kinds f) (P number)) → IfSome (cond c (Some (record { via = None; field = number; kind = kind.Moment; usable = true })) (option_and_then (λ f. option_map (λ k. let found : Found = record { via = None; field = number; kind = k; usable = usable f } in found) (kinds f)) own)) (λ f. P f.field f.kind)
+each_found : (P : FieldNo → Kind → Type 0) (c : Bool) (number : FieldNo) (usable : FieldDef → Bool) (kinds : FieldDef → Option Kind) (own : Option FieldDef) → P number kind.Moment
+    → ((f : FieldDef) → IfSome (kinds f) (P number))
+    → IfSome (cond c (Some (record { via = None; field = number; kind = kind.Moment; usable = true })) (option_and_then (λ f. option_map (λ k. let found : Found = record { via = None; field = number; kind = k; usable = usable f } in found) (kinds f)) own)) (λ f. P f.field f.kind)
 each_found P true number usable kinds own first each = first
 each_found P false number usable kinds None first each = tt
 each_found P false number usable kinds (Some f) first each = of_kind (kinds f) (each f)
@@ -125,12 +128,14 @@ each_found P false number usable kinds (Some f) first each = of_kind (kinds f) (
     of_kind None h = tt
     of_kind (Some k) h = h
 
-pub found_in-each : (P : FieldNo → Kind → Type 0) (defs : List ModelDef) (def : ModelDef) (name : List ℕ) → P (number_of def name) kind.Moment → ((f : FieldDef) → IfSome (kind_of_field defs f) (P (number_of def name))) → IfSome (found_in defs def name) (λ f. P f.field f.kind)
+pub found_in-each : (P : FieldNo → Kind → Type 0) (defs : List ModelDef) (def : ModelDef) (name : List ℕ) → P (number_of def name) kind.Moment
+    → ((f : FieldDef) → IfSome (kind_of_field defs f) (P (number_of def name))) → IfSome (found_in defs def name) (λ f. P f.field f.kind)
 found_in-each P defs def name first each = each_found P (bytes_eq name (codes "create_date") || bytes_eq name (codes "write_date")) (number_of def name) is_usable (kind_of_field defs) (field_def def name) first each
 
 always : {P : Type 0} (o : Option Kind) → P → IfSome o (λ k. P)
 always None p = tt
 always (Some k) p = p
 
-pub low_tree : (defs : List ModelDef) (def : ModelDef) → length def.fields ≤ 253 → (tree : Tree) → IfOk (typed_of (found_in defs def) tree) IsLow
-low_tree defs def few tree = each_tree (λ number k. number.0 ≤ 65535) (found_in defs def) (λ name. found_in-each (λ number k. number.0 ≤ 65535) defs def name (number_of-low def name few) (λ f. always (kind_of_field defs f) (number_of-low def name few))) tree
+pub low_tree : (defs : List ModelDef) (def : ModelDef) → field_count def ≤ max_fields → (tree : Tree) → IfOk (typed_of (found_in defs def) tree) IsLow
+low_tree defs def few tree =
+    each_tree (λ number k. number.0 ≤ 65535) (found_in defs def) (λ name. found_in-each (λ number k. number.0 ≤ 65535) defs def name (number_of-low def name few) (λ f. always (kind_of_field defs f) (number_of-low def name few))) tree

@@ -2,9 +2,6 @@
 use Rattle.std.proofs.Common.{◌≡◌, ℕ, ◌+◌, ◌<◌, List, [], ◌∷◌, ◌++◌, map, length, take, get_or, append_assoc, refl, sym, ap, subst, ◌∙◌, arith}
 use Rattle.std.specs.List.{AllZip}
 use Rattle.std.proofs.lemmas.List.{map-append, take_more}
-use Rattle.ob_schema.specs.declared.definition.ModelDef.{ModelDef}
-use Rattle.ob_schema.specs.declared.info.ModelInfo.{ModelInfo}
-use Rattle.ob_schema.specs.Built.{AreModelsOf, IsModelOf}
 
 -- the next front of a list
 pub next_front : {X : Type 0} (xs : List X) (i : ℕ) (x : X) → i < length xs → x ≡ get_or xs i x → take i xs ++ x ∷ [] ≡ take (i + 1) xs
@@ -19,7 +16,8 @@ pub value_more : {X Y : Type 0} (g : X → Y) (xs : List X) (i : ℕ) (x : X) (y
 value_more {X} {Y} g xs i x y ys within is e same = ap (λ (l : List Y). l ++ y ∷ []) e ∙ ap (λ (z : Y). map g (take i xs) ++ z ∷ []) same ∙ sym (map-append g (take i xs) (x ∷ [])) ∙ ap (map g) (next_front xs i x within is)
 
 -- the view of the next value
-pub view_more : {X Y Z : Type 0} (view : Z → Y) (g : X → Y) (xs : List X) (i : ℕ) (x : X) (z : Z) (zs : List Z) → i < length xs → x ≡ get_or xs i x → map view zs ≡ map g (take i xs) → view z ≡ g x → map view (zs ++ z ∷ []) ≡ map g (take (i + 1) xs)
+pub view_more : {X Y Z : Type 0} (view : Z → Y) (g : X → Y) (xs : List X) (i : ℕ) (x : X) (z : Z) (zs : List Z) → i < length xs → x ≡ get_or xs i x → map view zs ≡ map g (take i xs) → view z ≡ g x
+    → map view (zs ++ z ∷ []) ≡ map g (take (i + 1) xs)
 view_more view g xs i x z zs within is e same = map-append view zs (z ∷ []) ∙ value_more g xs i x (view z) (map view zs) within is e same
 
 -- one more place of two lists
@@ -38,13 +36,7 @@ zip_length R [] (y ∷ ys) all = absurd all
 zip_length R (x ∷ xs) [] all = absurd all
 zip_length R (x ∷ xs) (y ∷ ys) all = let rest = zip_length R xs ys all.1 in omega arith
 
--- models, place by place
-pub models_of_zip : (defs own : List ModelDef) (models : List ModelInfo) → AllZip (IsModelOf defs) own models → AreModelsOf defs own models
-models_of_zip defs [] [] all = tt
-models_of_zip defs [] (model ∷ models) all = absurd all
-models_of_zip defs (def ∷ own) [] all = absurd all
-models_of_zip defs (def ∷ own) (model ∷ models) all = (all.0, models_of_zip defs own models all.1)
-
+-- a map after a map
 pub map_map : {A B C : Type 0} (f : A → B) (g : B → C) (xs : List A) → map (λ x. g (f x)) xs ≡ map g (map f xs)
 map_map f g [] = refl
 map_map f g (x ∷ xs) = ap (λ l. g (f x) ∷ l) (map_map f g xs)

@@ -14,7 +14,7 @@ use Rattle.ob_schema.specs.declared.field_type.Choice.{Choice}
 use Rattle.ob_schema.specs.declared.field_type.FieldType.{FieldType}
 use Rattle.ob_schema.specs.declared.field_type.FieldType.TheVariants as type
 use Rattle.ob_schema.specs.Definitions.{is_computed, is_set}
-use Rattle.ob_schema.specs.Keys.{computed_fits, default_fits, fits, has_key, is_constant, is_selection, ondelete_fits, plain_fits, relation_fits}
+use Rattle.ob_schema.specs.Keys.{computed_fits, default_fits, fits, has_choice_key, is_constant, is_selection, ondelete_fits, plain_fits, relation_fits}
 use Rattle.ob_schema.specs.Making.{IsNative}
 use Rattle.ob_schema.specs.Types.{is_relation}
 use Rattle.ob_schema.specs.Values.{IsValueOf, keys_of}
@@ -23,7 +23,7 @@ within : (n limit : ℕ) → nat_le n limit ≡ true → n ≤ limit
 within n limit e = grind (arith, nat_tests)
 
 -- a text that is a key is declared
-declared_key : (choices : Option (List Choice)) (text : List ℕ) → has_key choices text ≡ true → Contains (keys_of (unwrap_or choices [])) text
+declared_key : (choices : Option (List Choice)) (text : List ℕ) → has_choice_key choices text ≡ true → Contains (keys_of (unwrap_or choices [])) text
 declared_key None text e = absurd (false≢true e)
 declared_key (Some own) text e =
     let found = Any-from_list_any (bytes_eq text) (keys_of own) e in
@@ -46,7 +46,7 @@ constant_held type.Datetime choices (value.Moment n) fit native =
     let both = and_parts (int_le (negsuc 62135596799) n) (int_le n (pos 253402300799)) fit in
     record { low = above (negsuc 62135596799) n both.0; high = above n (pos 253402300799) both.1 }
 constant_held type.Selection choices (value.Word text) fit native =
-    let both = and_parts (nat_le (length text) 8192) (has_key choices text) fit in
+    let both = and_parts (nat_le (length text) 8192) (has_choice_key choices text) fit in
     record { short = within (length text) 8192 both.0; declared = declared_key choices text both.1 }
 constant_held _ _ _ fit native = absurd (false≢true fit)
 

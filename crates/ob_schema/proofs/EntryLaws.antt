@@ -8,7 +8,7 @@ use Rattle.std.proofs.lemmas.Option.{get_or_from_slice_get, slice_get-get_or}
 use Rattle.std.proofs.lemmas.Slice.Eq.{bytes_eq-Decides}
 use Rattle.ob_schema.specs.declared.definition.ModelDef.{ModelDef}
 use Rattle.ob_schema.specs.declared.orders.OrderEntry.{OrderEntry}
-use Rattle.ob_schema.specs.Definitions.{is_text}
+use Rattle.ob_schema.specs.Definitions.{is_given_text}
 use Rattle.ob_schema.specs.declared.definition.FieldDef.{FieldDef}
 use Rattle.ob_schema.specs.Faults.{HasTerm, HasWrongKeys, IsNamedBefore}
 use Rattle.ob_schema.specs.Names.{is_field_name}
@@ -21,7 +21,8 @@ list_any-terms test [] = refl
 list_any-terms test (e ∷ entries) = ap (λ (b : Bool). test e.name.now || b) (list_any-terms test entries)
 
 -- a test of the entries that are read is one of the terms
-pub has_term : (test : List ℕ → Bool) (given : Option (List ℕ)) (entries : List OrderEntry) (r : Bool) → (text : List ℕ) × (given ≡ Some text) × (order_terms text ≡ Some (terms_of entries)) → r ≡ list_any (λ (e : OrderEntry). test e.name.now) entries → IsTrue r ↔ HasTerm test given
+pub has_term : (test : List ℕ → Bool) (given : Option (List ℕ)) (entries : List OrderEntry) (r : Bool) → (text : List ℕ) × (given ≡ Some text) × (order_terms text ≡ Some (terms_of entries))
+    → r ≡ list_any (λ (e : OrderEntry). test e.name.now) entries → IsTrue r ↔ HasTerm test given
 has_term test given entries r (text, is, terms) e = (
   (λ h. (text, terms_of entries, is, terms, list_any-terms test entries ∙ sym e ∙ h)),
   λ (own, all, h, k, passes).
@@ -41,18 +42,19 @@ no_term_read test given (own, is, none) (text, terms, h, k, passes) =
 
 -- ---- an earlier name
 
-pub named_by : (given : Option (List ℕ)) (name : List ℕ) → is_text given name ≡ true → given ≡ Some name
+pub named_by : (given : Option (List ℕ)) (name : List ℕ) → is_given_text given name ≡ true → given ≡ Some name
 named_by None name e = absurd (false≢true e)
 named_by (Some own) name e = ap (λ (n : List ℕ). Some n) ((bytes_eq-Decides own name).0 e)
 
-pub is_text-same : (given : Option (List ℕ)) (name : List ℕ) → given ≡ Some name → is_text given name ≡ true
-is_text-same None name e = absurd (cc)
-is_text-same (Some own) name e = (bytes_eq-Decides own name).1 (cc)
+pub is_given_text-same : (given : Option (List ℕ)) (name : List ℕ) → given ≡ Some name → is_given_text given name ≡ true
+is_given_text-same None name e = absurd (cc)
+is_given_text-same (Some own) name e = (bytes_eq-Decides own name).1 (cc)
 
-pub named_before : (defs front : List ModelDef) (n : ℕ) (def : ModelDef) (name own : List ℕ) (r : Bool) → n ≤ length defs → def.name ≡ Some name → own ≡ name → front ≡ take n defs → r ≡ list_any (λ (other : ModelDef). is_text other.name own) front → IsTrue r ↔ IsNamedBefore defs n def
+pub named_before : (defs front : List ModelDef) (n : ℕ) (def : ModelDef) (name own : List ℕ) (r : Bool) → n ≤ length defs → def.name ≡ Some name → own ≡ name → front ≡ take n defs
+    → r ≡ list_any (λ (other : ModelDef). is_given_text other.name own) front → IsTrue r ↔ IsNamedBefore defs n def
 named_before defs front n def name own r within is same whole e =
-    let test = λ (other : ModelDef). is_text other.name name in
-    let by : r ≡ list_any test (take n defs) = e ∙ ap (λ (m : List ℕ). list_any (λ (other : ModelDef). is_text other.name m) front) same ∙ ap (list_any test) whole in
+    let test = λ (other : ModelDef). is_given_text other.name name in
+    let by : r ≡ list_any test (take n defs) = e ∙ ap (λ (m : List ℕ). list_any (λ (other : ModelDef). is_given_text other.name m) front) same ∙ ap (list_any test) whole in
     let count : length (take n defs) ≡ n = length-take n defs ∙ omega arith in (
       (λ h.
           let found = Any-from_list_any test (take n defs) (sym by ∙ h) in
@@ -64,7 +66,7 @@ named_before defs front n def name own r within is same whole e =
       λ (k, low, other, at, mine, own_is, its).
           let same_name : mine ≡ name = let p : ◌≡◌ {A = Option (List ℕ)} (Some mine) (Some name) = sym own_is ∙ is in cc in
           let here : get_or (take n defs) k other ≡ other = get_or-take n defs k other low ∙ get_or_from_slice_get defs k other other at in
-          by ∙ list_any-from_Any test (take n defs) (k, other, omega arith, here, is_text-same other.name name (its ∙ ap (λ (m : List ℕ). Some m) same_name)),
+          by ∙ list_any-from_Any test (take n defs) (k, other, omega arith, here, is_given_text-same other.name name (its ∙ ap (λ (m : List ℕ). Some m) same_name)),
     )
 
 pub unnamed_before : (defs : List ModelDef) (n : ℕ) (def : ModelDef) → def.name ≡ None → IsNamedBefore defs n def → ⊥
@@ -79,7 +81,8 @@ pub none_true : (P : Type 0) → (P → ⊥) → IsTrue false ↔ P
 none_true P none = (λ e. absurd (false≢true e), λ p. absurd (none p))
 
 -- the order of terms is of another form, or has a term that is refused
-pub wrong_order : (test : List ℕ → Bool) (given : Option (List ℕ)) (entries : List OrderEntry) (r : Bool) → (text : List ℕ) × (given ≡ Some text) × (order_terms text ≡ Some (terms_of entries)) → r ≡ list_any (λ (e : OrderEntry). test e.name.now) entries → IsTrue r ↔ (IsSomeAnd given (λ text. order_terms text ≡ None) ⊎ HasTerm test given)
+pub wrong_order : (test : List ℕ → Bool) (given : Option (List ℕ)) (entries : List OrderEntry) (r : Bool) → (text : List ℕ) × (given ≡ Some text) × (order_terms text ≡ Some (terms_of entries))
+    → r ≡ list_any (λ (e : OrderEntry). test e.name.now) entries → IsTrue r ↔ (IsSomeAnd given (λ text. order_terms text ≡ None) ⊎ HasTerm test given)
 wrong_order test given entries r read e =
     let term = has_term test given entries r read e in (
       (λ h. inr (term.0 h)),
@@ -101,6 +104,6 @@ pub either_then : {A B : Type 0} (a : Bool) → a ≡ true → IsTrue a ↔ A �
 either_then a e first = ((λ h. inl (first.0 e)), λ h. refl)
 
 -- a field without a name has a wrong key
-pub named_few : {X : Type 0} (count : ℕ) (f : FieldDef) → (count ≤ 253) ⊎ (f.name ≡ []) → (HasWrongKeys f ⊎ X → ⊥) → count ≤ 253
-named_few count f (inl few) none = few
-named_few count f (inr unnamed) none = absurd (none (inl (inl (ap is_field_name unnamed))))
+pub named_few : {P X : Type 0} (f : FieldDef) → P ⊎ (f.name ≡ []) → (HasWrongKeys f ⊎ X → ⊥) → P
+named_few f (inl few) none = few
+named_few f (inr unnamed) none = absurd (none (inl (inl (ap is_field_name unnamed))))

@@ -21,7 +21,7 @@ use Rattle.ob_schema.specs.declared.definition.FieldDef.{FieldDef}
 use Rattle.ob_schema.specs.declared.definition.ModelDef.{ModelDef}
 use Rattle.ob_schema.specs.declared.info.FieldInfo.{FieldInfo}
 use Rattle.ob_schema.specs.declared.wrong.Wrong.TheVariants as wrong
-use Rattle.ob_schema.specs.Built.{IsFieldOf, automatic_infos, id_info, moment_info}
+use Rattle.ob_schema.specs.Built.{IsFieldIn, IsFieldOf, automatic_infos, id_info, moment_info}
 use Rattle.ob_schema.specs.Definitions.{is_automatic}
 use Rattle.ob_schema.specs.Faults.{IsFaultless}
 use Rattle.ob_schema.specs.Making.{AreUnsorted}
@@ -87,7 +87,9 @@ bytes_eq-flip a b e = (bytes_eq-Decides b a).1 (sym ((bytes_eq-Decides a b).0 e)
 
 -- an automatic name is counted at most once among the automatic ones, and no declared field has it
 automatic_count : (x : List ℕ) → count_by (named x) automatic_infos ≤ 1
-automatic_count x = three (bytes_eq (codes "create_date") x) (bytes_eq (codes "id") x) (bytes_eq (codes "write_date") x) (λ a b. apart (codes "create_date") (codes "id") a b (λ e. cc)) (λ a b. apart (codes "create_date") (codes "write_date") a b (λ e. cc)) (λ a b. apart (codes "id") (codes "write_date") a b (λ e. cc))
+automatic_count x =
+    three (bytes_eq (codes "create_date") x) (bytes_eq (codes "id") x) (bytes_eq (codes "write_date") x) (λ a b. apart (codes "create_date") (codes "id") a b (λ e. cc))
+    (λ a b. apart (codes "create_date") (codes "write_date") a b (λ e. cc)) (λ a b. apart (codes "id") (codes "write_date") a b (λ e. cc))
   where
     apart : (m n : List ℕ) → bytes_eq m x ≡ true → bytes_eq n x ≡ true → (m ≡ n → ⊥) → ⊥
     apart m n a b other = other ((bytes_eq-Decides m x).0 a ∙ sym ((bytes_eq-Decides n x).0 b))
@@ -111,7 +113,9 @@ is_automatic-counted x some = by (bytes_eq (codes "create_date") x) (bytes_eq (c
     by : (a b c : Bool) → bytes_eq (codes "create_date") x ≡ a → bytes_eq (codes "id") x ≡ b → bytes_eq (codes "write_date") x ≡ c → 0 < 0 + cond a 1 0 + cond b 1 0 + cond c 1 0 → is_automatic x ≡ true
     by true b c e f g h = ap (λ (t : Bool). t || (bytes_eq x (codes "id") || (bytes_eq x (codes "write_date") || false))) (bytes_eq-flip (codes "create_date") x e)
     by false true c e f g h = ap (λ (t : Bool). bytes_eq x (codes "create_date") || (t || (bytes_eq x (codes "write_date") || false))) (bytes_eq-flip (codes "id") x f) ∙ or_true (bytes_eq x (codes "create_date"))
-    by false false true e f g h = ap (λ (t : Bool). bytes_eq x (codes "create_date") || (bytes_eq x (codes "id") || (t || false))) (bytes_eq-flip (codes "write_date") x g) ∙ ap (λ (t : Bool). bytes_eq x (codes "create_date") || t) (or_true (bytes_eq x (codes "id"))) ∙ or_true (bytes_eq x (codes "create_date"))
+    by false false true e f g h =
+        ap (λ (t : Bool). bytes_eq x (codes "create_date") || (bytes_eq x (codes "id") || (t || false))) (bytes_eq-flip (codes "write_date") x g)
+        ∙ ap (λ (t : Bool). bytes_eq x (codes "create_date") || t) (or_true (bytes_eq x (codes "id"))) ∙ or_true (bytes_eq x (codes "create_date"))
     by false false false e f g h = absurd (omega arith)
 
 -- a name stands once among the declared fields, and never where it is automatic
@@ -190,7 +194,8 @@ low n e = grind (arith, nat_tests)
 short_name : (name : List ℕ) → is_field_name name ≡ true → length name ≤ 64
 short_name name e = low (length name) (last (begins_with_letter name && list_all is_name_byte name) (nat_le (length name) 64) e)
 
-pub declared_short : (defs : List ModelDef) (def : ModelDef) (fs : List FieldDef) (infos : List FieldInfo) → ((f : FieldDef) → Contains fs f → is_field_name f.name ≡ true) → AllZip (IsFieldOf defs def) fs infos → All (λ (i : FieldInfo). length i.name ≤ 64) infos
+pub declared_short : (defs : List ModelDef) (def : ModelDef) (fs : List FieldDef) (infos : List FieldInfo) → ((f : FieldDef) → Contains fs f → is_field_name f.name ≡ true)
+    → AllZip (IsFieldOf defs def) fs infos → All (λ (i : FieldInfo). length i.name ≤ 64) infos
 declared_short defs def [] [] each all = All-nil (λ (i : FieldInfo). length i.name ≤ 64)
 declared_short defs def [] (i ∷ infos) each all = absurd all
 declared_short defs def (f ∷ fs) [] each all = absurd all
@@ -212,7 +217,8 @@ field_name_by true h = refl
 field_name_by false h = absurd (h refl)
 
 -- each declared field has its info
-pub declared_any : (defs : List ModelDef) (def : ModelDef) (all : List FieldInfo) (fs : List FieldDef) (infos : List FieldInfo) → ((i : FieldInfo) → Contains infos i → Contains all i) → AllZip (IsFieldOf defs def) fs infos → All (λ f. Any (IsFieldOf defs def f) all) fs
+pub declared_any : (defs : List ModelDef) (def : ModelDef) (all : List FieldInfo) (fs : List FieldDef) (infos : List FieldInfo) → ((i : FieldInfo) → Contains infos i → Contains all i)
+    → AllZip (IsFieldOf defs def) fs infos → All (λ f. Any (IsFieldOf defs def f) all) fs
 declared_any defs def all [] [] into zip = All-nil (λ f. Any (IsFieldOf defs def f) all)
 declared_any defs def all [] (i ∷ infos) into zip = absurd zip
 declared_any defs def all (f ∷ fs) [] into zip = absurd zip
@@ -220,3 +226,13 @@ declared_any defs def all (f ∷ fs) (i ∷ infos) into zip =
     let here = into i (0, omega arith, refl) in
     All-cons (λ g. Any (IsFieldOf defs def g) all) f fs (here.0, i, here.1, here.2, zip.0)
     (declared_any defs def all fs infos (λ j (k, low, at). into j (suc k, omega arith, at)) zip.1)
+
+-- and each such info is that of a declared field
+pub declared_only : (defs : List ModelDef) (def : ModelDef) (fs : List FieldDef) (infos : List FieldInfo) → ((f : FieldDef) → Contains fs f → Contains def.fields f)
+    → AllZip (IsFieldOf defs def) fs infos → All (IsFieldIn defs def) infos
+declared_only defs def [] [] into zip = All-nil (IsFieldIn defs def)
+declared_only defs def [] (i ∷ infos) into zip = absurd zip
+declared_only defs def (f ∷ fs) [] into zip = absurd zip
+declared_only defs def (f ∷ fs) (i ∷ infos) into zip =
+    let here = into f (0, omega arith, refl) in
+    All-cons (IsFieldIn defs def) i infos (inl (here.0, f, here.1, here.2, zip.0)) (declared_only defs def fs infos (λ g (k, low, at). into g (suc k, omega arith, at)) zip.1)

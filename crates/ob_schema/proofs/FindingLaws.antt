@@ -1,10 +1,10 @@
 -- What a finding says of the faults that a field's expression has.
 use Rattle.std.proofs.Common.{◌≡◌, ◌≢◌, ℕ, ◌≤◌, ◌&&◌, ◌||◌, ◌⊎◌, inl, inr, Bool, true, false, not, cond, List, [], ◌∷◌, append_assoc, length, Option, Some, None, is_some, is_none, Result, Ok, Err, refl, sym, ap, subst, ◌∙◌}
-use Rattle.std.specs.Prelude.{Any, Contains, IfOk, option_and_then}
+use Rattle.std.specs.Prelude.{Any, IfOk, option_and_then}
 use Rattle.std.proofs.lemmas.Bool.{false≢true}
 use Rattle.ob_base.specs.declared.id.FieldNo.{FieldNo}
 use Rattle.ob_base.specs.declared.id.ModelNo.{ModelNo}
-use Rattle.ob_base.specs.declared.limits.TheConstants.{MAX_EXPRESSION_DEPTH}
+use Rattle.ob_base.specs.Limits.{max_expression_depth, max_fields}
 use Rattle.ob_base.specs.declared.memory.NoMemory.{NoMemory}
 use Rattle.ob_expr.specs.declared.checker.Kind.{Kind}
 use Rattle.ob_expr.specs.declared.checker.Kind.TheVariants as kind
@@ -24,10 +24,10 @@ use Rattle.ob_schema.specs.declared.finding.Finding.{Finding}
 use Rattle.ob_schema.specs.declared.finding.Finding.TheVariants as finding
 use Rattle.ob_schema.specs.declared.wrong.Wrong.TheVariants as wrong
 use Rattle.ob_schema.specs.Capped.{capped_kind, capped_outcome, capped_tree, seen_in}
-use Rattle.ob_schema.specs.Definitions.{is_computed, is_set}
-use Rattle.ob_schema.specs.Faults.{HasExpression, HasTree, HasTyped, HasWrongKeys, HasWrongKind, HasWrongPath, IsTextFault, NamesNoField}
+use Rattle.ob_schema.specs.Definitions.{field_count, is_computed, is_set}
+use Rattle.ob_schema.specs.Faults.{HasExpression, HasTree, HasTyped, HasWrongKeys, HasWrongKind, HasWrongPath, IsMisread, IsTextFault, NamesNoField}
 use Rattle.ob_schema.specs.Findings.{DependsOnComputed, DependsOnNoField, FieldHas, IsChecked, IsFinding, IsOfWrongKind, IsOutcome, IsUnreadable, ReadsWrongly}
-use Rattle.ob_schema.specs.Formulas.{IsExpression, computed_numbers, depends_on, fields_read, found_in, kind_of_field, kind_of_type, model_number}
+use Rattle.ob_schema.specs.Formulas.{IsExpression, depends_of, fields_read, found_in, kind_of_field, kind_of_type, model_number}
 use Rattle.ob_schema.specs.Keys.{computed_fits, fits, is_selection, ondelete_fits, plain_fits, relation_fits}
 use Rattle.ob_schema.specs.Types.{is_relation}
 use Rattle.ob_schema.proofs.Capping.{IsLow, fields_read-capped, kind_of-capped_tree, low_tree, typed_of-capped, uncapped_fault, uncapped_tree}
@@ -42,7 +42,7 @@ open_deep : (tokens : List Lexeme) (offset : ℕ) (text : List ℕ) (tree : Tree
 open_deep _ _ text tree same (too_deep front rest token stays goes cannot) is =
     cannot (rest, tree, rw (append_assoc front (token ∷ []) rest) (subst (λ (tokens : List Lexeme). Spells tree tokens) same is.spells), is.shallow)
 
-no_text_fault : (text : List ℕ) (why : ExprFault) (tree : Tree) → IsTextFault text why → IsExpression text tree → ⊥
+pub no_text_fault : (text : List ℕ) (why : ExprFault) (tree : Tree) → IsTextFault text why → IsExpression text tree → ⊥
 no_text_fault text (text_fault.At offset) tree fault is = no_fault_within (length text) (lexemes text) offset tree fault is.spells
 no_text_fault text (text_fault.TooDeep offset) tree fault is = open_deep (lexemes text) offset text tree refl fault is
 no_text_fault text text_fault.NoMemory tree fault is = absurd fault
@@ -161,9 +161,11 @@ kind_capped type.One2many relation k plain e = absurd (false≢true (sym plain))
 kind_capped type.Many2many relation k plain e = absurd (false≢true (sym plain))
 
 -- a checked expression is of its field's kind, or the field's keys don't fit
-checked_kind : (defs : List ModelDef) (f : FieldDef) (text : List ℕ) (typed seen : TypedTree) (relation : Bool) → is_relation f.field_type ≡ relation → f.compute ≡ Some text → seen ≡ capped_tree typed → (kind_of_type f.field_type None ≡ Some (kind_of seen) → ⊥) → HasWrongKeys f ⊎ (kind_of_field defs f ≢ Some (kind_of typed))
+checked_kind : (defs : List ModelDef) (f : FieldDef) (text : List ℕ) (typed seen : TypedTree) (relation : Bool) → is_relation f.field_type ≡ relation → f.compute ≡ Some text → seen ≡ capped_tree typed
+    → (kind_of_type f.field_type None ≡ Some (kind_of seen) → ⊥) → HasWrongKeys f ⊎ (kind_of_field defs f ≢ Some (kind_of typed))
 checked_kind defs f text typed seen true is e same other = inl (inr (no_computed_relation f text e is))
-checked_kind defs f text typed seen false is e same other = inr (λ found. other (kind_capped f.field_type (option_and_then (model_number defs) f.relation) (kind_of typed) is found ∙ ap (λ (k : Kind). Some k) (sym (ap kind_of same ∙ kind_of-capped_tree typed))))
+checked_kind defs f text typed seen false is e same other =
+    inr (λ found. other (kind_capped f.field_type (option_and_then (model_number defs) f.relation) (kind_of typed) is found ∙ ap (λ (k : Kind). Some k) (sym (ap kind_of same ∙ kind_of-capped_tree typed))))
 
 pub wrong_kind : (defs : List ModelDef) (def : ModelDef) (f : FieldDef) (what : Finding) → IsFinding defs def f what → IsOfWrongKind f what → HasWrongKeys f ⊎ HasWrongKind defs def f
 wrong_kind defs def f finding.Absent is there = absurd there
@@ -178,9 +180,11 @@ wrong_kind defs def f (finding.Checked typed) is there =
     ]
 
 -- the kind of a field whose keys fit
-seen_kind : (defs : List ModelDef) (f : FieldDef) (text : List ℕ) (typed seen : TypedTree) (relation : Bool) → is_relation f.field_type ≡ relation → f.compute ≡ Some text → seen ≡ capped_tree typed → (HasWrongKeys f → ⊥) → (kind_of_field defs f ≡ Some (kind_of typed) → ⊥) → kind_of_type f.field_type None ≡ Some (kind_of seen) → ⊥
+seen_kind : (defs : List ModelDef) (f : FieldDef) (text : List ℕ) (typed seen : TypedTree) (relation : Bool) → is_relation f.field_type ≡ relation → f.compute ≡ Some text → seen ≡ capped_tree typed
+    → (HasWrongKeys f → ⊥) → (kind_of_field defs f ≡ Some (kind_of typed) → ⊥) → kind_of_type f.field_type None ≡ Some (kind_of seen) → ⊥
 seen_kind defs f text typed seen true is e same fit other found = fit (inr (no_computed_relation f text e is))
-seen_kind defs f text typed seen false is e same fit other found = other (plain_kind f.field_type (option_and_then (model_number defs) f.relation) (kind_of typed) is (found ∙ ap (λ (k : Kind). Some k) (ap kind_of same ∙ kind_of-capped_tree typed)))
+seen_kind defs f text typed seen false is e same fit other found =
+    other (plain_kind f.field_type (option_and_then (model_number defs) f.relation) (kind_of typed) is (found ∙ ap (λ (k : Kind). Some k) (ap kind_of same ∙ kind_of-capped_tree typed)))
 
 -- a finding that is checked, where the check gives a tree
 seen_typed : (defs : List ModelDef) (def : ModelDef) (f : FieldDef) (typed : TypedTree) (own : Typed) → HasTyped defs def f typed → IsChecked defs def f (finding.Checked own) → typed_tree_of own ≡ capped_tree typed
@@ -210,17 +214,14 @@ kind_wrong defs def f (finding.Checked own) is fit (inr (typed, has, other)) =
 
 -- ---- a wrong path
 
-abbrev IsMisread : ModelDef → FieldDef → FieldNo → Type 0
-IsMisread def f number = (Contains (depends_on def f) number → ⊥) ⊎ Contains (computed_numbers def) number
-
 -- a checked tree of a model with few fields has low numbers
-low_typed : (defs : List ModelDef) (def : ModelDef) (tree : Tree) (typed : TypedTree) → length def.fields ≤ 253 → typed_of (found_in defs def) tree ≡ Ok typed → IsLow typed
+low_typed : (defs : List ModelDef) (def : ModelDef) (tree : Tree) (typed : TypedTree) → field_count def ≤ max_fields → typed_of (found_in defs def) tree ≡ Ok typed → IsLow typed
 low_typed defs def tree typed few e = subst (λ (r : Result TypedTree TypeFault). IfOk r IsLow) e (low_tree defs def few tree)
 
-same_read : (defs : List ModelDef) (def : ModelDef) (tree : Tree) (typed seen : TypedTree) → length def.fields ≤ 253 → typed_of (found_in defs def) tree ≡ Ok typed → seen ≡ capped_tree typed → fields_read seen ≡ fields_read typed
+same_read : (defs : List ModelDef) (def : ModelDef) (tree : Tree) (typed seen : TypedTree) → field_count def ≤ max_fields → typed_of (found_in defs def) tree ≡ Ok typed → seen ≡ capped_tree typed → fields_read seen ≡ fields_read typed
 same_read defs def tree typed seen few e same = ap fields_read same ∙ fields_read-capped typed (low_typed defs def tree typed few e)
 
-pub wrong_path : (defs : List ModelDef) (def : ModelDef) (f : FieldDef) (what : Finding) → length def.fields ≤ 253 → IsFinding defs def f what → ReadsWrongly def f what ⊎ DependsOnComputed def f → HasWrongPath defs def f
+pub wrong_path : (defs : List ModelDef) (def : ModelDef) (f : FieldDef) (what : Finding) → field_count def ≤ max_fields → IsFinding defs def f what → ReadsWrongly def f what ⊎ DependsOnComputed def f → HasWrongPath defs def f
 wrong_path defs def f what few is (inr depends) = inr depends
 wrong_path defs def f finding.Absent few is (inl reads) = absurd reads
 wrong_path defs def f (finding.Unreadable why) few is (inl reads) = absurd reads
@@ -228,9 +229,14 @@ wrong_path defs def f finding.Unknown few is (inl reads) = absurd reads
 wrong_path defs def f finding.Mixed few is (inl reads) = absurd reads
 wrong_path defs def f (finding.Checked own) few is (inl reads) =
     let exact = tree_of_seen defs def is.tree (typed_tree_of own) is.is_outcome in
-    inl (exact.0, record { tree = is.tree; has_tree = is.has_tree; checked = exact.1 }, subst (λ (numbers : List FieldNo). Any (IsMisread def f) numbers) (same_read defs def is.tree exact.0 (typed_tree_of own) few exact.1 exact.2) reads)
+    inl (
+      exact.0,
+      record { tree = is.tree; has_tree = is.has_tree; checked = exact.1 },
+      subst (λ (numbers : List FieldNo). Any (IsMisread def (depends_of f)) numbers)
+          (same_read defs def is.tree exact.0 (typed_tree_of own) few exact.1 exact.2) reads,
+    )
 
-pub path_wrong : (defs : List ModelDef) (def : ModelDef) (f : FieldDef) (what : Finding) → length def.fields ≤ 253 → IsFinding defs def f what → HasWrongPath defs def f → ReadsWrongly def f what ⊎ DependsOnComputed def f
+pub path_wrong : (defs : List ModelDef) (def : ModelDef) (f : FieldDef) (what : Finding) → field_count def ≤ max_fields → IsFinding defs def f what → HasWrongPath defs def f → ReadsWrongly def f what ⊎ DependsOnComputed def f
 path_wrong defs def f what few is (inr depends) = inr depends
 path_wrong defs def f finding.Absent few is (inl (typed, has, reads)) = absurd (is has.has_tree.text has.has_tree.expression)
 path_wrong defs def f (finding.Unreadable why) few is (inl (typed, has, reads)) = absurd (is.no_tree has.tree has.has_tree)
@@ -241,7 +247,7 @@ path_wrong defs def f finding.Mixed few is (inl (typed, has, reads)) =
     let seen = seen_outcome defs def has.tree (Ok typed) has.checked in
     let found = outcome_at defs def f finding.Mixed is has.tree has.has_tree in absurd (cc (seen, found.1))
 path_wrong defs def f (finding.Checked own) few is (inl (typed, has, reads)) =
-    inl (subst (λ (numbers : List FieldNo). Any (IsMisread def f) numbers) (sym (same_read defs def has.tree typed (typed_tree_of own) few has.checked (seen_typed defs def f typed own has is))) reads)
+    inl (subst (λ (numbers : List FieldNo). Any (IsMisread def (depends_of f)) numbers) (sym (same_read defs def has.tree typed (typed_tree_of own) few has.checked (seen_typed defs def f typed own has is))) reads)
 
 -- ---- a text that is no expression
 
@@ -258,7 +264,9 @@ unreadable f why is = (is.text, is.expression, is.is_fault)
 -- ---- what reading a text gives
 
 -- the one shallow tree of a text, with what a check says of it
-pub checked_finding : (defs : List ModelDef) (def : ModelDef) (f : FieldDef) (text seen : List ℕ) (tree : Tree) (r : Result Finding NoMemory) → f.compute ≡ Some text → seen ≡ text → length text ≤ 4096 → Spells tree (lexemes seen) → depth tree ≤ MAX_EXPRESSION_DEPTH → ((other : Tree) → Spells other (lexemes seen) → depth other ≤ MAX_EXPRESSION_DEPTH → tree ≡ other) → IfOk r (IsOutcome (seen_in defs def) tree) → IfOk r (IsFinding defs def f)
+pub checked_finding : (defs : List ModelDef) (def : ModelDef) (f : FieldDef) (text seen : List ℕ) (tree : Tree) (r : Result Finding NoMemory) → f.compute ≡ Some text → seen ≡ text → length text ≤ 4096
+    → Spells tree (lexemes seen) → depth tree ≤ max_expression_depth → ((other : Tree) → Spells other (lexemes seen) → depth other ≤ max_expression_depth → tree ≡ other)
+    → IfOk r (IsOutcome (seen_in defs def) tree) → IfOk r (IsFinding defs def f)
 checked_finding defs def f text seen tree r given same short spells shallow only outcome = by_result r outcome
   where
     whole : HasTree f tree
@@ -281,7 +289,9 @@ checked_finding defs def f text seen tree r given same short spells shallow only
     by_result (Err why) is = tt
 
 -- a text that no shallow tree has, and why
-pub unreadable_finding : (f : FieldDef) (text seen : List ℕ) (why : ExprFault) → f.compute ≡ Some text → seen ≡ text → length text ≤ 4096 → (why ≡ text_fault.NoMemory → ⊥) → ((offset : ℕ) → why ≡ text_fault.At offset → IsFirstFault (length seen) (lexemes seen) offset) → ((offset : ℕ) → why ≡ text_fault.TooDeep offset → IsFirstTooDeep (lexemes seen) offset) → ((tree : Tree) → Spells tree (lexemes seen) → depth tree ≤ MAX_EXPRESSION_DEPTH → why ≡ text_fault.NoMemory) → IsUnreadable f why
+pub unreadable_finding : (f : FieldDef) (text seen : List ℕ) (why : ExprFault) → f.compute ≡ Some text → seen ≡ text → length text ≤ 4096 → (why ≡ text_fault.NoMemory → ⊥)
+    → ((offset : ℕ) → why ≡ text_fault.At offset → IsFirstFault (length seen) (lexemes seen) offset) → ((offset : ℕ) → why ≡ text_fault.TooDeep offset → IsFirstTooDeep (lexemes seen) offset)
+    → ((tree : Tree) → Spells tree (lexemes seen) → depth tree ≤ max_expression_depth → why ≡ text_fault.NoMemory) → IsUnreadable f why
 unreadable_finding f text seen why given same short memory at deep complete = record {
   text = text;
   expression = record { given = given; short = short };
@@ -289,7 +299,8 @@ unreadable_finding f text seen why given same short memory at deep complete = re
   no_tree = λ tree has. memory (complete tree (subst (λ (t : List ℕ). Spells tree (lexemes t)) (same_text f has.text text has.expression.given given ∙ sym same) has.is_tree.spells) has.is_tree.shallow);
 }
   where
-    by_fault : (w : ExprFault) → (w ≡ text_fault.NoMemory → ⊥) → ((offset : ℕ) → w ≡ text_fault.At offset → IsFirstFault (length seen) (lexemes seen) offset) → ((offset : ℕ) → w ≡ text_fault.TooDeep offset → IsFirstTooDeep (lexemes seen) offset) → IsTextFault seen w
+    by_fault : (w : ExprFault) → (w ≡ text_fault.NoMemory → ⊥) → ((offset : ℕ) → w ≡ text_fault.At offset → IsFirstFault (length seen) (lexemes seen) offset)
+        → ((offset : ℕ) → w ≡ text_fault.TooDeep offset → IsFirstTooDeep (lexemes seen) offset) → IsTextFault seen w
     by_fault (text_fault.At offset) m a d = a offset refl
     by_fault (text_fault.TooDeep offset) m a d = d offset refl
     by_fault text_fault.NoMemory m a d = m refl

@@ -27,7 +27,8 @@ name_kinded : (found : Option Found) (at : ℕ) → IfOk (field_of found at) IsW
 name_kinded None at = tt
 name_kinded (Some found) at = elim (is_plain found) as (λ b. IfOk (cond b (Ok (field found.field found.kind)) (Err (type_fault.Name at))) IsWellKinded) [ true ↦ tt | false ↦ tt ]
 
-ints_kinded : (left right : TypedTree) (at : ℕ) (ints : Bool) → is_int (kind_of left) && is_int (kind_of right) ≡ ints → IsWellKinded left → IsWellKinded right → IfOk (cond ints (Ok (times left right)) (Err (type_fault.Kind at))) IsWellKinded
+ints_kinded : (left right : TypedTree) (at : ℕ) (ints : Bool) → is_int (kind_of left) && is_int (kind_of right) ≡ ints → IsWellKinded left → IsWellKinded right
+    → IfOk (cond ints (Ok (times left right)) (Err (type_fault.Kind at))) IsWellKinded
 ints_kinded left right at true e a b =
     let both = and_parts (is_int (kind_of left)) (is_int (kind_of right)) e in
     (int_kind (kind_of left) both.0, int_kind (kind_of right) both.1, a, b)

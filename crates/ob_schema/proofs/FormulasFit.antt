@@ -46,7 +46,8 @@ computed_keys defs def f text faultless among declared given =
     computed_bare f (ap (λ (b : Bool). cond b (computed_fits f) (plain_fits f)) (sym computed) ∙ own_fits f (sound_fits defs def f faultless among declared))
 
 -- a declared field's formula is one of its model
-formula_in : (defs : List ModelDef) (def : ModelDef) (fields : List FieldInfo) (f : FieldDef) (info : FieldInfo) (formula : Formula) → IsFaultless defs → Contains defs def → Contains def.fields f → AreReadable defs def fields → IsFieldOf defs def f info → IsFormula defs def f formula → IsFormulaIn fields info formula
+formula_in : (defs : List ModelDef) (def : ModelDef) (fields : List FieldInfo) (f : FieldDef) (info : FieldInfo) (formula : Formula) → IsFaultless defs → Contains defs def → Contains def.fields f
+    → AreReadable defs def fields → IsFieldOf defs def f info → IsFormula defs def f formula → IsFormulaIn fields info formula
 formula_in defs def fields f info formula faultless among declared are of is =
     let typed = typed_tree_of formula.typed in
     let has = is.typed in
@@ -64,13 +65,15 @@ formula_in defs def fields f info formula faultless among declared are of is =
       no_selection = ap is_selection of.field_type ∙ keys.selection;
     }
 
-origin_in : (defs : List ModelDef) (def : ModelDef) (fields : List FieldInfo) (f : FieldDef) (info : FieldInfo) (o : Origin) → IsFaultless defs → Contains defs def → Contains def.fields f → AreReadable defs def fields → IsFieldOf defs def f info → IsOrigin defs def f o → IsOriginIn fields info o
+origin_in : (defs : List ModelDef) (def : ModelDef) (fields : List FieldInfo) (f : FieldDef) (info : FieldInfo) (o : Origin) → IsFaultless defs → Contains defs def → Contains def.fields f
+    → AreReadable defs def fields → IsFieldOf defs def f info → IsOrigin defs def f o → IsOriginIn fields info o
 origin_in defs def fields f info origin.Id faultless among declared are of is = absurd is
 origin_in defs def fields f info origin.Plain faultless among declared are of is = tt
 origin_in defs def fields f info (origin.Computed formula) faultless among declared are of is = formula_in defs def fields f info formula faultless among declared are of is
 
 -- the formula of each declared field fits
-pub declared_origins : (defs : List ModelDef) (def : ModelDef) (fields : List FieldInfo) (fs : List FieldDef) (infos : List FieldInfo) → IsFaultless defs → Contains defs def → ((f : FieldDef) → Contains fs f → Contains def.fields f) → AreReadable defs def fields → AllZip (IsFieldOf defs def) fs infos → All (λ (i : FieldInfo). IsOriginIn fields i i.origin) infos
+pub declared_origins : (defs : List ModelDef) (def : ModelDef) (fields : List FieldInfo) (fs : List FieldDef) (infos : List FieldInfo) → IsFaultless defs → Contains defs def
+    → ((f : FieldDef) → Contains fs f → Contains def.fields f) → AreReadable defs def fields → AllZip (IsFieldOf defs def) fs infos → All (λ (i : FieldInfo). IsOriginIn fields i i.origin) infos
 declared_origins defs def fields [] [] faultless among into are zip = All-nil (λ (i : FieldInfo). IsOriginIn fields i i.origin)
 declared_origins defs def fields [] (i ∷ infos) faultless among into are zip = absurd zip
 declared_origins defs def fields (f ∷ fs) [] faultless among into are zip = absurd zip

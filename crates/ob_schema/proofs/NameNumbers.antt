@@ -81,7 +81,8 @@ rank fields ordered info (j, inside, at) = count_first (λ (i : FieldInfo). belo
 
 -- ---- the fields' names are those of the definition
 
-count_declared : (defs : List ModelDef) (def : ModelDef) (test : List ℕ → Bool) (fs : List FieldDef) (infos : List FieldInfo) → AllZip (IsFieldOf defs def) fs infos → count_by (λ (i : FieldInfo). test i.name) infos ≡ count_by test (map (λ (f : FieldDef). f.name) fs)
+count_declared : (defs : List ModelDef) (def : ModelDef) (test : List ℕ → Bool) (fs : List FieldDef) (infos : List FieldInfo) → AllZip (IsFieldOf defs def) fs infos
+    → count_by (λ (i : FieldInfo). test i.name) infos ≡ count_by test (map (λ (f : FieldDef). f.name) fs)
 count_declared defs def test [] [] all = refl
 count_declared defs def test [] (i ∷ infos) all = absurd all
 count_declared defs def test (f ∷ fs) [] all = absurd all
@@ -92,7 +93,8 @@ count_declared defs def test (f ∷ fs) (i ∷ infos) all =
     let b = count-cons test f.name (map (λ (g : FieldDef). g.name) fs) in
     omega arith
 
-count_names : (defs : List ModelDef) (def : ModelDef) (infos sorted : List FieldInfo) (test : List ℕ → Bool) → AreUnsorted defs def infos → IsPermutation infos sorted → count_by test (names_of def) ≡ count_by (λ (i : FieldInfo). test i.name) sorted
+count_names : (defs : List ModelDef) (def : ModelDef) (infos sorted : List FieldInfo) (test : List ℕ → Bool) → AreUnsorted defs def infos → IsPermutation infos sorted
+    → count_by test (names_of def) ≡ count_by (λ (i : FieldInfo). test i.name) sorted
 count_names defs def infos sorted test are moved =
     let each = λ (i : FieldInfo). test i.name in
     let names = map (λ (f : FieldDef). f.name) def.fields in
@@ -104,7 +106,8 @@ count_names defs def infos sorted test are moved =
     omega arith
 
 -- each field of the model has the number of its name
-pub numbered-name : (defs : List ModelDef) (def : ModelDef) (infos sorted : List FieldInfo) → AreUnsorted defs def infos → IsPermutation infos sorted → AreInOrder (map (λ (i : FieldInfo). i.name) sorted) → (info : FieldInfo) → Contains sorted info → numbered sorted (number_of def info.name).0 ≡ Some info
+pub numbered-name : (defs : List ModelDef) (def : ModelDef) (infos sorted : List FieldInfo) → AreUnsorted defs def infos → IsPermutation infos sorted
+    → AreInOrder (map (λ (i : FieldInfo). i.name) sorted) → (info : FieldInfo) → Contains sorted info → numbered sorted (number_of def info.name).0 ≡ Some info
 unfolding number_of
 numbered-name defs def infos sorted are moved ordered info here =
     let count = count_names defs def infos sorted (below info.name) are moved ∙ rank sorted ordered info here in

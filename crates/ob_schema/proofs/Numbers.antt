@@ -13,7 +13,10 @@ use Rattle.ob_schema.specs.Definitions.{automatic_names}
 use Rattle.ob_schema.specs.Formulas.{number_of}
 
 -- the number of a name from the automatic and the declared names below it
-pub capped_number : (def : ModelDef) (name : List ℕ) (fields : List FieldDef) (automatic declared least n : ℕ) → fields ≡ def.fields → automatic ≡ count_by (λ (other : List ℕ). is_lt (slice_cmp nat_cmp other name)) automatic_names → declared ≡ count_by (λ (other : List ℕ). is_lt (slice_cmp nat_cmp other name)) (map (λ (f : FieldDef). f.name) fields) → least ≡ min declared 65535 → n ≡ capped (suc (automatic + least)) → n ≡ capped (number_of def name).0
+pub capped_number : (def : ModelDef) (name : List ℕ) (fields : List FieldDef) (automatic declared least n : ℕ) → fields ≡ def.fields
+    → automatic ≡ count_by (λ (other : List ℕ). is_lt (slice_cmp nat_cmp other name)) automatic_names
+    → declared ≡ count_by (λ (other : List ℕ). is_lt (slice_cmp nat_cmp other name)) (map (λ (f : FieldDef). f.name) fields) → least ≡ min declared 65535 → n ≡ capped (suc (automatic + least))
+    → n ≡ capped (number_of def name).0
 unfolding number_of
 capped_number def name fields automatic declared least n same a d capped_least e =
     let test = λ (other : List ℕ). is_lt (slice_cmp nat_cmp other name) in

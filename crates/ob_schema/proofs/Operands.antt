@@ -94,7 +94,8 @@ operand_at fields number k info at plain kind = subst (λ (o : Option FieldInfo)
 
 -- a moment of the row
 moment_operand : (defs : List ModelDef) (def : ModelDef) (fields : List FieldInfo) (name : List ℕ) → AreReadable defs def fields → Contains automatic_infos (moment_info name) → IsOperand fields (number_of def name) kind.Moment
-moment_operand defs def fields name are among = operand_at fields (number_of def name) kind.Moment (moment_info name) (are.at (moment_info name) (All-contains (Contains fields) automatic_infos (moment_info name) are.automatic among)) refl refl
+moment_operand defs def fields name are among =
+    operand_at fields (number_of def name) kind.Moment (moment_info name) (are.at (moment_info name) (All-contains (Contains fields) automatic_infos (moment_info name) are.automatic among)) refl refl
 
 automatic_moment : (name : List ℕ) → (bytes_eq name (codes "create_date") ≡ true) ⊎ (bytes_eq name (codes "write_date") ≡ true) → Contains automatic_infos (moment_info name)
 automatic_moment name (inl e) = subst (λ (n : List ℕ). Contains automatic_infos (moment_info n)) (sym ((bytes_eq-Decides name (codes "create_date")).0 e)) (0, omega arith, refl)
@@ -110,7 +111,8 @@ plain_origin defs def f (origin.Computed formula) is plain = absurd (false≢tru
 pub same_kind : (defs : List ModelDef) (def : ModelDef) (f : FieldDef) (info : FieldInfo) → IsFieldOf defs def f info → kind_of_info info ≡ kind_of_field defs f
 same_kind defs def f info is = ap (λ (t : FieldType). kind_of_type t info.relation) is.field_type ∙ ap (λ (r : Option ModelNo). kind_of_type f.field_type r) is.relation
 
-declared_operand : (defs : List ModelDef) (def : ModelDef) (fields : List FieldInfo) (f : FieldDef) (k : Kind) → AreReadable defs def fields → Contains def.fields f → is_computed f ≡ false → kind_of_field defs f ≡ Some k → names_rows k ≡ false → IsOperand fields (number_of def f.name) k
+declared_operand : (defs : List ModelDef) (def : ModelDef) (fields : List FieldInfo) (f : FieldDef) (k : Kind) → AreReadable defs def fields → Contains def.fields f → is_computed f ≡ false
+    → kind_of_field defs f ≡ Some k → names_rows k ≡ false → IsOperand fields (number_of def f.name) k
 declared_operand defs def fields f k are among plain of no_rows = by (All-contains (λ g. Any (IsFieldOf defs def g) fields) def.fields f are.declared among)
   where
     by : Any (IsFieldOf defs def f) fields → IsOperand fields (number_of def f.name) k
@@ -144,7 +146,8 @@ made def name usable k = record { via = None; field = number_of def name; kind =
 abbrev made_of : List ModelDef → ModelDef → List ℕ → FieldDef → Option Found
 made_of defs def name f = option_map (made def name (is_usable f)) (kind_of_field defs f)
 
-found_operand : (defs : List ModelDef) (def : ModelDef) (fields : List FieldInfo) (name : List ℕ) (found : Found) → AreReadable defs def fields → found_in defs def name ≡ Some found → (Contains (computed_numbers def) found.field → ⊥) → names_rows found.kind ≡ false → IsOperand fields found.field found.kind
+found_operand : (defs : List ModelDef) (def : ModelDef) (fields : List FieldInfo) (name : List ℕ) (found : Found) → AreReadable defs def fields → found_in defs def name ≡ Some found
+    → (Contains (computed_numbers def) found.field → ⊥) → names_rows found.kind ≡ false → IsOperand fields found.field found.kind
 found_operand defs def fields name found are e none no_rows = by (bytes_eq name (codes "create_date") || bytes_eq name (codes "write_date")) refl e
   where
     by_kind : (f : FieldDef) (o : Option Kind) → field_def def name ≡ Some f → kind_of_field defs f ≡ o → option_map (made def name (is_usable f)) o ≡ Some found → IsOperand fields found.field found.kind
@@ -152,7 +155,8 @@ found_operand defs def fields name found are e none no_rows = by (bytes_eq name 
     by_kind f (Some k) own of e =
         let same : made def name (is_usable f) k ≡ found = cc in
         let declared = found_field def name f own in
-        let apart = λ (there : Contains (computed_numbers def) (number_of def f.name)). none (subst (λ (g : Found). Contains (computed_numbers def) g.field) same (subst (λ (n : List ℕ). Contains (computed_numbers def) (number_of def n)) declared.1 there)) in
+        let apart = λ (there : Contains (computed_numbers def) (number_of def f.name)). none
+        (subst (λ (g : Found). Contains (computed_numbers def) g.field) same (subst (λ (n : List ℕ). Contains (computed_numbers def) (number_of def n)) declared.1 there)) in
         let plain = not_computed def f declared.0 apart in
         let operand = declared_operand defs def fields f k are declared.0 plain of (ap (λ (g : Found). names_rows g.kind) same ∙ no_rows) in
         subst (λ (g : Found). IsOperand fields g.field g.kind) same (subst (λ (n : List ℕ). IsOperand fields (number_of def n) k) declared.1 operand)
@@ -161,14 +165,16 @@ found_operand defs def fields name found are e none no_rows = by (bytes_eq name 
     by_field None own e = absurd (cc)
     by_field (Some f) own e = by_kind f (kind_of_field defs f) own refl e
 
-    by : (c : Bool) → bytes_eq name (codes "create_date") || bytes_eq name (codes "write_date") ≡ c → cond c (Some (made def name true kind.Moment)) (option_and_then (made_of defs def name) (field_def def name)) ≡ Some found → IsOperand fields found.field found.kind
+    by : (c : Bool) → bytes_eq name (codes "create_date") || bytes_eq name (codes "write_date") ≡ c
+        → cond c (Some (made def name true kind.Moment)) (option_and_then (made_of defs def name) (field_def def name)) ≡ Some found → IsOperand fields found.field found.kind
     by true test e =
         let same : made def name true kind.Moment ≡ found = cc in
         subst (λ (g : Found). IsOperand fields g.field g.kind) same (moment_operand defs def fields name are (automatic_moment name (or_cases (bytes_eq name (codes "create_date")) (bytes_eq name (codes "write_date")) test)))
     by false test e = by_field (field_def def name) refl e
 
 -- a checked expression that names no rows, and reads no computed field, reads operands
-pub operands : (defs : List ModelDef) (def : ModelDef) (fields : List FieldInfo) (tree : Tree) (typed : TypedTree) → AreReadable defs def fields → typed_of (found_in defs def) tree ≡ Ok typed → (Any (Contains (computed_numbers def)) (fields_read typed) → ⊥) → IsWellKinded typed → names_rows (kind_of typed) ≡ false → EachField (IsOperand fields) typed
+pub operands : (defs : List ModelDef) (def : ModelDef) (fields : List FieldInfo) (tree : Tree) (typed : TypedTree) → AreReadable defs def fields → typed_of (found_in defs def) tree ≡ Ok typed
+    → (Any (Contains (computed_numbers def)) (fields_read typed) → ⊥) → IsWellKinded typed → names_rows (kind_of typed) ≡ false → EachField (IsOperand fields) typed
 operands defs def fields tree typed are checked none kinded plain =
     each_of_three (IsNamed defs def) (IsNotIn (computed_numbers def)) NamesNoRows (IsOperand fields) operand typed
     (subst (λ (r : Result TypedTree TypeFault). IfOk r (EachField (IsNamed defs def))) checked (each_named defs def tree))

@@ -1,9 +1,7 @@
 -- Reading the pieces of an order, one after another.
-use Rattle.std.proofs.Common.{◌≡◌, ℕ, ◌+◌, ◌<◌, ◌==◌, List, [], ◌∷◌, ◌++◌, length, get_or, Option, Some, sym, ap, refl}
-use Rattle.std.specs.List.{slice_split}
+use Rattle.std.proofs.Common.{◌≡◌, ℕ, ◌+◌, ◌<◌, List, [], ◌∷◌, ◌++◌, length, get_or, Option, Some, sym, ap, refl}
 use Rattle.ob_schema.specs.declared.orders.OrderEntry.{OrderEntry}
-use Rattle.ob_schema.specs.Orders.{Term, pieces, term_of, term_of_entry, terms_of, words}
-use Rattle.ob_schema.proofs.OrderWords.{pieces-slice_split}
+use Rattle.ob_schema.specs.Orders.{Term, term_of, term_of_entry, terms_of, words}
 use Rattle.ob_schema.proofs.ReadForms.{IsReadTo, IsReadTo-more}
 
 -- the term of a piece
@@ -20,8 +18,3 @@ pub IsReadTo-entry : (items : List (List ℕ)) (i n : ℕ) (entries new : List O
     → IsReadTo term_in items i (terms_of entries) → IsReadTo term_in items n (terms_of new)
 IsReadTo-entry items i n entries new piece entry at given pushed next read =
     rw (next, pushed, terms_of-push entries entry) (IsReadTo-more term_in items i (terms_of entries) piece (term_of_entry entry) at.0 at.1 (sym given) read)
-
--- a piece stands at its place among the pieces, as std counts them
-pub piece_at : (text : List ℕ) (i : ℕ) (piece : List ℕ) → (i < length (slice_split (λ b. b == 44) text)) × (piece ≡ get_or (slice_split (λ b. b == 44) text) i piece)
-    → (i < length (pieces (λ b. b == 44) text)) × (piece ≡ get_or (pieces (λ b. b == 44) text) i piece)
-piece_at text i piece at = rw (pieces-slice_split (λ b. b == 44) text) at

@@ -1,18 +1,20 @@
 -- The numbers that an expression reads, and those of paths.
-use Rattle.std.proofs.Common.{◌≡◌, ℕ, zero, suc, ◌<◌, ◌≤◌, ◌⊎◌, inl, inr, ◌↔◌, ◌==◌, Bool, true, false, not, List, [], ◌∷◌, ◌++◌, map, length, get_or, refl, sym, ap, subst, ◌∙◌, arith}
-use Rattle.std.specs.Prelude.{Any, Contains, IsTrue, unwrap_or}
+use Rattle.std.proofs.Common.{◌&&◌, cond, Some, None, ◌≡◌, ℕ, zero, suc, ◌<◌, ◌≤◌, ◌⊎◌, inl, inr, ◌↔◌, ◌==◌, Bool, true, false, not, List, [], ◌∷◌, ◌++◌, map, length, get_or, refl, sym, ap, subst, ◌∙◌, arith}
+use Rattle.std.specs.Prelude.{Any, Contains, IsTrue}
 use Rattle.std.specs.List.{list_any}
 use Rattle.std.proofs.lemmas.Bool.{false≢true}
 use Rattle.std.proofs.lemmas.Bool.Decides.{Decides-eqb}
 use Rattle.std.proofs.lemmas.List.Folds.{Any-from_list_any, list_any-from_Any}
+use Rattle.ob_base.specs.Limits.{max_fields}
 use Rattle.ob_base.specs.declared.id.FieldNo.{FieldNo}
 use Rattle.ob_schema.specs.declared.definition.ModelDef.{ModelDef}
 use Rattle.ob_schema.specs.Capped.{capped}
 use Rattle.ob_expr.specs.declared.checker.Kind.{Kind}
 use Rattle.ob_expr.specs.Checking.{TypedTree, field, times}
-use Rattle.ob_schema.specs.Findings.{IsMisread}
+use Rattle.ob_schema.specs.Definitions.{field_count, has_field}
+use Rattle.ob_schema.specs.Faults.{IsMisread}
 use Rattle.ob_schema.specs.declared.definition.FieldDef.{FieldDef}
-use Rattle.ob_schema.specs.Formulas.{computed_numbers, depends_on, fields_read, number_of}
+use Rattle.ob_schema.specs.Formulas.{IsCovered, depends_of, fields_read, number_of}
 use Rattle.ob_schema.proofs.Capping.{number_of-low}
 
 -- ---- what holds of some element, by recursion on the list
@@ -77,13 +79,37 @@ map_same : (xs : List FieldNo) → map (λ (n : FieldNo). n) xs ≡ xs
 map_same [] = refl
 map_same (x ∷ xs) = ap (λ (l : List FieldNo). x ∷ l) (map_same xs)
 
--- a number that no path has
-pub off_paths : (def : ModelDef) (paths : List (List ℕ)) (n : FieldNo) (r : Bool) → length def.fields ≤ 253 → r ≡ list_any (λ path. capped (number_of def path).0 == n.0) paths → IsTrue (not r) ↔ (Contains (map (number_of def) paths) n → ⊥)
-off_paths def paths n r few e = opposite r (let test = among (number_of def) (λ path. capped (number_of def path).0) paths n (λ path. let low = number_of-low def path few in omega arith) in ((λ h. test.0 (sym e ∙ h)), λ h. e ∙ test.1 h))
-  where
-    opposite : {P : Type 0} (b : Bool) → IsTrue b ↔ P → IsTrue (not b) ↔ (P → ⊥)
-    opposite true iff = ((λ h. absurd (false≢true h)), λ none. absurd (none (iff.0 refl)))
-    opposite false iff = ((λ h p. false≢true (iff.1 p)), λ none. refl)
+-- a path that is the name of a field leads to the field with its number
+leads : (named : Bool) (m n : FieldNo) (seen : ℕ) → seen ≡ m.0 → named && (seen == n.0) ≡ true → cond named (Some (m ∷ [])) None ≡ Some (n ∷ [])
+leads true m n seen same e = ap (λ (x : FieldNo). Some (x ∷ [])) (same_number m n (sym same ∙ (Decides-eqb seen n.0).0 e))
+leads false m n seen same e = absurd (false≢true e)
+
+led : (named : Bool) (m n : FieldNo) (seen : ℕ) → seen ≡ m.0 → cond named (Some (m ∷ [])) None ≡ Some (n ∷ []) → named && (seen == n.0) ≡ true
+led true m n seen same e = (Decides-eqb seen n.0).1 (same ∙ ap (λ (x : FieldNo). x.0) (let is : m ≡ n = cc in is))
+led false m n seen same e = absurd (cc)
+
+opposite : {P : Type 0} (b : Bool) → IsTrue b ↔ P → IsTrue (not b) ↔ (P → ⊥)
+opposite true iff = ((λ h. absurd (false≢true h)), λ none. absurd (none (iff.0 refl)))
+opposite false iff = ((λ h p. false≢true (iff.1 p)), λ none. refl)
+
+-- a field that no path covers
+module _ (def : ModelDef) (paths : List (List ℕ)) (n : FieldNo) (few : field_count def ≤ max_fields) where
+  abbrev test : List ℕ → Bool
+  test path = has_field def path && (capped (number_of def path).0 == n.0)
+
+  low : (path : List ℕ) → capped (number_of def path).0 ≡ (number_of def path).0
+  low path = let small = number_of-low def path few in omega arith
+
+  covered : IsTrue (list_any test paths) ↔ IsCovered def paths n
+  covered = (
+    (λ h. let found = Any-from_list_any test paths h in
+        (found.0, found.1, found.2, found.3, leads (has_field def found.1) (number_of def found.1) n (capped (number_of def found.1).0) (low found.1) found.4)),
+    λ (k, path, inside, at, is).
+        list_any-from_Any test paths (k, path, inside, at, led (has_field def path) (number_of def path) n (capped (number_of def path).0) (low path) is),
+  )
+
+  pub uncovered : (r : Bool) → r ≡ list_any test paths → IsTrue (not r) ↔ (IsCovered def paths n → ⊥)
+  uncovered r e = opposite r ((λ h. covered.0 (sym e ∙ h)), λ h. e ∙ covered.1 h)
 
 -- a number among numbers
 pub among_numbers : (numbers : List FieldNo) (n : FieldNo) (r : Bool) → r ≡ list_any (λ (own : FieldNo). own.0 == n.0) numbers → IsTrue r ↔ Contains numbers n
@@ -105,7 +131,7 @@ read_left P left right a e first = ((λ h. any_left P (fields_read left) (fields
 pub read_one : (P : FieldNo → Type 0) (n : FieldNo) (k : Kind) (r : Bool) → IsTrue r ↔ P n → IsTrue r ↔ Any P (fields_read (field n k))
 read_one P n k r iff = ((λ h. any_here P n [] (iff.0 h)), λ h. iff.1 (any_one P n h))
 
--- the paths are the field's, and the numbers those of computed fields
-pub wrong_reads : (def : ModelDef) (f : FieldDef) (paths : List (List ℕ)) (computed : List FieldNo) (typed : TypedTree) (r : Bool) → paths ≡ unwrap_or f.depends [] → computed ≡ computed_numbers def → IsTrue r ↔ Any (IsMisread def paths computed) (fields_read typed) → IsTrue r ↔ Any (λ number. (Contains (depends_on def f) number → ⊥) ⊎ Contains (computed_numbers def) number) (fields_read typed)
-wrong_reads def f paths computed typed r p q iff =
-    subst (λ (c : List FieldNo). IsTrue r ↔ Any (IsMisread def (unwrap_or f.depends []) c) (fields_read typed)) q (subst (λ (ps : List (List ℕ)). IsTrue r ↔ Any (IsMisread def ps computed) (fields_read typed)) p iff)
+-- the paths are the field's
+pub wrong_reads : (def : ModelDef) (f : FieldDef) (paths : List (List ℕ)) (typed : TypedTree) (r : Bool) → paths ≡ depends_of f
+    → IsTrue r ↔ Any (IsMisread def paths) (fields_read typed) → IsTrue r ↔ Any (IsMisread def (depends_of f)) (fields_read typed)
+wrong_reads def f paths typed r p iff = subst (λ (ps : List (List ℕ)). IsTrue r ↔ Any (IsMisread def ps) (fields_read typed)) p iff

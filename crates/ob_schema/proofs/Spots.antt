@@ -15,12 +15,12 @@ use Rattle.ob_schema.specs.declared.fault.Spot.{Spot}
 use Rattle.ob_schema.specs.declared.wrong.Wrong.{Wrong}
 use Rattle.ob_schema.specs.declared.wrong.Wrong.TheVariants as wrong
 use Rattle.ob_schema.specs.Faults.{AtEntry, AtField, IsFaulty, IsFaultless, IsFirst, Rank, rank, rank_at, rank_order}
-use Rattle.ob_schema.specs.Findings.{EntryHas, FieldHas, IsEntryFault, IsFaultAmong, IsFaultIn, IsFieldFault, IsFirstFieldsFault, IsFirstWrong, IsLeast, fault_at, lesser_of, variant_of}
+use Rattle.ob_schema.specs.Findings.{EntryHas, FieldHas, IsEntryFault, IsFaultAmong, IsFaultIn, IsFieldFault, IsFirstFieldsFault, IsFirstWrong, IsLeast, fault_at, lesser_of, fault_variant}
 use Rattle.ob_schema.proofs.Ranks.{IsLeast-lesser_of, IsLeast-same, none_between, one_way}
 
 -- ---- the faults of one spot
 
-rank-fault_at : (what : Wrong) (spot : Spot) → rank (fault_at what spot) ≡ rank_at spot (variant_of what)
+rank-fault_at : (what : Wrong) (spot : Spot) → rank (fault_at what spot) ≡ rank_at spot (fault_variant what)
 rank-fault_at wrong.Model spot = refl
 rank-fault_at wrong.Field spot = refl
 rank-fault_at wrong.Kind spot = refl
@@ -36,11 +36,11 @@ rank_order-at spot m n =
     ap (λ (o : Ordering). ordering_then o (ordering_then (slice_cmp nat_cmp spot.field spot.field) (nat_cmp m n))) (tied_itself nat_cmp_total spot.entry)
     ∙ ap (λ (o : Ordering). ordering_then o (nat_cmp m n)) (tied_itself nat_list_cmp_total spot.field)
 
-below_variant : (spot : Spot) (a b : Wrong) → rank_order (rank (fault_at a spot)) (rank (fault_at b spot)) ≡ Less → variant_of a < variant_of b
+below_variant : (spot : Spot) (a b : Wrong) → rank_order (rank (fault_at a spot)) (rank (fault_at b spot)) ≡ Less → fault_variant a < fault_variant b
 below_variant spot a b less =
-    let ranks : rank_order (rank (fault_at a spot)) (rank (fault_at b spot)) ≡ nat_cmp (variant_of a) (variant_of b) =
-    ap (λ (r : Rank). rank_order r (rank (fault_at b spot))) (rank-fault_at a spot) ∙ ap (λ (r : Rank). rank_order (rank_at spot (variant_of a)) r) (rank-fault_at b spot) ∙ rank_order-at spot (variant_of a) (variant_of b) in
-    ranked (variant_of a) (variant_of b) Less (sym less ∙ ranks)
+    let ranks : rank_order (rank (fault_at a spot)) (rank (fault_at b spot)) ≡ nat_cmp (fault_variant a) (fault_variant b) =
+    ap (λ (r : Rank). rank_order r (rank (fault_at b spot))) (rank-fault_at a spot) ∙ ap (λ (r : Rank). rank_order (rank_at spot (fault_variant a)) r) (rank-fault_at b spot) ∙ rank_order-at spot (fault_variant a) (fault_variant b) in
+    ranked (fault_variant a) (fault_variant b) Less (sym less ∙ ranks)
 
 -- the first of what is wrong at a spot gives the first fault there
 abbrev pub IsFaultAt : (Wrong → Type 0) → Spot → SchemaFault → Type 0
@@ -48,7 +48,8 @@ IsFaultAt Has spot why = (what : Wrong) × Has what × (why ≡ fault_at what sp
 
 pub least_at : (Has : Wrong → Type 0) (spot : Spot) (own : Option Wrong) → IsFirstWrong Has own → IsLeast (IsFaultAt Has spot) (option_map (λ what. fault_at what spot) own)
 least_at Has spot None none = λ other (what, has, is). none what has
-least_at Has spot (Some first) (there, least) = ((first, there, refl), λ other (what, has, is) less. least what has (below_variant spot what first (subst (λ (w : SchemaFault). rank_order (rank w) (rank (fault_at first spot)) ≡ Less) is less)))
+least_at Has spot (Some first) (there, least) =
+    ((first, there, refl), λ other (what, has, is) less. least what has (below_variant spot what first (subst (λ (w : SchemaFault). rank_order (rank w) (rank (fault_at first spot)) ≡ Less) is less)))
 
 abbrev pub whole_spot : ℕ → Spot
 whole_spot entry = record { entry = entry; field = [] }
@@ -57,10 +58,15 @@ abbrev pub field_spot : ℕ → List ℕ → Spot
 field_spot entry name = record { entry = entry; field = name }
 
 pub least_entry : (defs : List ModelDef) (entry : ℕ) (def : ModelDef) (own : Option Wrong) → IsFirstWrong (EntryHas defs entry def) own → IsLeast (IsEntryFault defs entry def) (option_map (λ what. fault_at what (whole_spot entry)) own)
-least_entry defs entry def own first = IsLeast-same (IsFaultAt (EntryHas defs entry def) (whole_spot entry)) (IsEntryFault defs entry def) _ (λ why (what, has, is). record { what = what; there = has; is = is }) (λ why f. (f.what, f.there, f.is)) (least_at (EntryHas defs entry def) (whole_spot entry) own first)
+least_entry defs entry def own first =
+    IsLeast-same (IsFaultAt (EntryHas defs entry def) (whole_spot entry)) (IsEntryFault defs entry def) _ (λ why (what, has, is). record { what = what; there = has; is = is })
+    (λ why f. (f.what, f.there, f.is)) (least_at (EntryHas defs entry def) (whole_spot entry) own first)
 
-pub least_field : (defs : List ModelDef) (entry : ℕ) (def : ModelDef) (f : FieldDef) (own : Option Wrong) → IsFirstWrong (FieldHas defs def f) own → IsLeast (IsFieldFault defs entry def f) (option_map (λ what. fault_at what (field_spot entry f.name)) own)
-least_field defs entry def f own first = IsLeast-same (IsFaultAt (FieldHas defs def f) (field_spot entry f.name)) (IsFieldFault defs entry def f) _ (λ why (what, has, is). record { what = what; there = has; is = is }) (λ why g. (g.what, g.there, g.is)) (least_at (FieldHas defs def f) (field_spot entry f.name) own first)
+pub least_field : (defs : List ModelDef) (entry : ℕ) (def : ModelDef) (f : FieldDef) (own : Option Wrong) → IsFirstWrong (FieldHas defs def f) own
+    → IsLeast (IsFieldFault defs entry def f) (option_map (λ what. fault_at what (field_spot entry f.name)) own)
+least_field defs entry def f own first =
+    IsLeast-same (IsFaultAt (FieldHas defs def f) (field_spot entry f.name)) (IsFieldFault defs entry def f) _ (λ why (what, has, is). record { what = what; there = has; is = is })
+    (λ why g. (g.what, g.there, g.is)) (least_at (FieldHas defs def f) (field_spot entry f.name) own first)
 
 -- ---- the parts of a fault
 
@@ -95,15 +101,12 @@ parts defs (fault.Kind spot) (inl there) = of_entry defs spot wrong.Kind there
 parts defs (fault.Kind spot) (inr there) = of_field defs spot wrong.Kind there
 parts defs (fault.Twice spot) (inl there) = of_entry defs spot wrong.Twice there
 parts defs (fault.Twice spot) (inr there) = of_field defs spot wrong.Twice there
-parts defs (fault.Cycle spot) there = absurd there
-parts defs (fault.Recursion spot) there = absurd there
 parts defs (fault.Path spot) there = of_field defs spot wrong.Path there
 parts defs (fault.Inverse spot) there = of_field defs spot wrong.Inverse there
-parts defs (fault.Inherits spot) there = absurd there
 parts defs (fault.Limit spot) (inl there) = of_entry defs spot wrong.Limit there
 parts defs (fault.Limit spot) (inr there) = of_field defs spot wrong.Limit there
 parts defs (fault.Text spot why) there = of_field defs spot (wrong.Text why) there
-parts defs fault.NoMemory there = absurd there
+parts defs _ there = absurd there
 
 -- what is wrong with an entry or a field is a fault
 pub faulty_entry : (defs : List ModelDef) (entry : ℕ) (def : ModelDef) (what : Wrong) → slice_get defs entry ≡ Some def → EntryHas defs entry def what → IsFaulty defs (fault_at what (whole_spot entry))
@@ -111,12 +114,11 @@ faulty_entry defs entry def wrong.Model at there = inl (def, at, refl, there)
 faulty_entry defs entry def wrong.Field at there = inl (def, at, refl, there)
 faulty_entry defs entry def wrong.Kind at there = inl (def, at, refl, there)
 faulty_entry defs entry def wrong.Twice at there = inl (def, at, refl, there)
-faulty_entry defs entry def wrong.Path at there = absurd there
-faulty_entry defs entry def wrong.Inverse at there = absurd there
 faulty_entry defs entry def wrong.Limit at there = inl (def, at, refl, there)
-faulty_entry defs entry def (wrong.Text why) at there = absurd there
+faulty_entry defs entry def _ at there = absurd there
 
-pub faulty_field : (defs : List ModelDef) (entry : ℕ) (def : ModelDef) (f : FieldDef) (what : Wrong) → slice_get defs entry ≡ Some def → Contains def.fields f → FieldHas defs def f what → IsFaulty defs (fault_at what (field_spot entry f.name))
+pub faulty_field : (defs : List ModelDef) (entry : ℕ) (def : ModelDef) (f : FieldDef) (what : Wrong) → slice_get defs entry ≡ Some def → Contains def.fields f → FieldHas defs def f what
+    → IsFaulty defs (fault_at what (field_spot entry f.name))
 faulty_field defs entry def f wrong.Model at among there = inr (def, at, f, among, refl, there)
 faulty_field defs entry def f wrong.Field at among there = inr (def, at, f, among, refl, there)
 faulty_field defs entry def f wrong.Kind at among there = inr (def, at, f, among, refl, there)
@@ -152,14 +154,17 @@ least_in defs entry def least at = IsLeast-same (IsFaultAmong defs entry def (le
 -- ---- one field after another
 
 pub least_none : (defs : List ModelDef) (entry : ℕ) (def : ModelDef) (least : Option SchemaFault) → IsLeast (IsEntryFault defs entry def) least → IsLeast (IsFaultAmong defs entry def 0) least
-least_none defs entry def least = IsLeast-same (IsEntryFault defs entry def) (IsFaultAmong defs entry def 0) least (λ why own. inl own) (λ why among. elim among [ inl own ↦ own | inr one ↦ absurd (let none : one.place < 0 = one.below in omega arith) ])
+least_none defs entry def least =
+    IsLeast-same (IsEntryFault defs entry def) (IsFaultAmong defs entry def 0) least (λ why own. inl own) (λ why among. elim among [ inl own ↦ own | inr one ↦ absurd (let none : one.place < 0 = one.below in omega arith) ])
 
-more : (defs : List ModelDef) (entry : ℕ) (def : ModelDef) (count : ℕ) (f : FieldDef) (why : SchemaFault) → slice_get def.fields count ≡ Some f → IsFaultAmong defs entry def count why ⊎ IsFieldFault defs entry def f why → IsFaultAmong defs entry def (count + 1) why
+more : (defs : List ModelDef) (entry : ℕ) (def : ModelDef) (count : ℕ) (f : FieldDef) (why : SchemaFault) → slice_get def.fields count ≡ Some f
+    → IsFaultAmong defs entry def count why ⊎ IsFieldFault defs entry def f why → IsFaultAmong defs entry def (count + 1) why
 more defs entry def count f why at (inl (inl own)) = inl own
 more defs entry def count f why at (inl (inr one)) = inr (record { place = one.place; below = (let low : one.place < count = one.below in omega arith); f = one.f; at = one.at; fault = one.fault })
 more defs entry def count f why at (inr new) = inr (record { place = count; below = omega arith; f = f; at = at; fault = new })
 
-last_of : (defs : List ModelDef) (entry : ℕ) (def : ModelDef) (count : ℕ) (f : FieldDef) (why : SchemaFault) (one : IsFirstFieldsFault defs entry def (count + 1) why) → slice_get def.fields count ≡ Some f → (one.place < count) ⊎ (one.place ≡ count) → IsFaultAmong defs entry def count why ⊎ IsFieldFault defs entry def f why
+last_of : (defs : List ModelDef) (entry : ℕ) (def : ModelDef) (count : ℕ) (f : FieldDef) (why : SchemaFault) (one : IsFirstFieldsFault defs entry def (count + 1) why)
+    → slice_get def.fields count ≡ Some f → (one.place < count) ⊎ (one.place ≡ count) → IsFaultAmong defs entry def count why ⊎ IsFieldFault defs entry def f why
 last_of defs entry def count f why one at (inl low) = inl (inr (record { place = one.place; below = low; f = one.f; at = one.at; fault = one.fault }))
 last_of defs entry def count f why one at (inr here) =
     let same : one.f ≡ f = let e : ◌≡◌ {A = Option FieldDef} (Some one.f) (Some f) = sym one.at ∙ ap (slice_get def.fields) here ∙ at in cc in
@@ -168,13 +173,17 @@ last_of defs entry def count f why one at (inr here) =
 below_or_at : (place count : ℕ) → place < count + 1 → (place < count) ⊎ (place ≡ count)
 below_or_at place count low = elim (cases_lt place count) [ inl below ↦ inl below | inr above ↦ inr (omega arith) ]
 
-fewer : (defs : List ModelDef) (entry : ℕ) (def : ModelDef) (count : ℕ) (f : FieldDef) (why : SchemaFault) → slice_get def.fields count ≡ Some f → IsFaultAmong defs entry def (count + 1) why → IsFaultAmong defs entry def count why ⊎ IsFieldFault defs entry def f why
+fewer : (defs : List ModelDef) (entry : ℕ) (def : ModelDef) (count : ℕ) (f : FieldDef) (why : SchemaFault) → slice_get def.fields count ≡ Some f → IsFaultAmong defs entry def (count + 1) why
+    → IsFaultAmong defs entry def count why ⊎ IsFieldFault defs entry def f why
 fewer defs entry def count f why at (inl own) = inl (inl own)
 fewer defs entry def count f why at (inr one) = last_of defs entry def count f why one at (below_or_at one.place count one.below)
 
 -- with the first fault of the next field
-pub least_more : (defs : List ModelDef) (entry : ℕ) (def : ModelDef) (count : ℕ) (f : FieldDef) (least found : Option SchemaFault) → slice_get def.fields count ≡ Some f → IsLeast (IsFaultAmong defs entry def count) least → IsLeast (IsFieldFault defs entry def f) found → IsLeast (IsFaultAmong defs entry def (count + 1)) (lesser_of least found)
-least_more defs entry def count f least found at first next = IsLeast-same (λ why. IsFaultAmong defs entry def count why ⊎ IsFieldFault defs entry def f why) (IsFaultAmong defs entry def (count + 1)) (lesser_of least found) (λ why. more defs entry def count f why at) (λ why. fewer defs entry def count f why at) (IsLeast-lesser_of (IsFaultAmong defs entry def count) (IsFieldFault defs entry def f) least found first next)
+pub least_more : (defs : List ModelDef) (entry : ℕ) (def : ModelDef) (count : ℕ) (f : FieldDef) (least found : Option SchemaFault) → slice_get def.fields count ≡ Some f
+    → IsLeast (IsFaultAmong defs entry def count) least → IsLeast (IsFieldFault defs entry def f) found → IsLeast (IsFaultAmong defs entry def (count + 1)) (lesser_of least found)
+least_more defs entry def count f least found at first next =
+    IsLeast-same (λ why. IsFaultAmong defs entry def count why ⊎ IsFieldFault defs entry def f why) (IsFaultAmong defs entry def (count + 1)) (lesser_of least found)
+    (λ why. more defs entry def count f why at) (λ why. fewer defs entry def count f why at) (IsLeast-lesser_of (IsFaultAmong defs entry def count) (IsFieldFault defs entry def f) least found first next)
 
 -- the entry comes before a field with a name
 whole_first : (entry m n : ℕ) (name : List ℕ) → (name ≡ [] → ⊥) → rank_order (rank_at (whole_spot entry) m) (rank_at (field_spot entry name) n) ≡ Less
@@ -182,7 +191,8 @@ whole_first entry m n [] named = absurd (named refl)
 whole_first entry m n (b ∷ bytes) named = ap (λ (o : Ordering). ordering_then o Less) (tied_itself nat_cmp_total entry)
 
 -- where the entry has a fault, the faults of a field with a name aren't the first
-pub least_skip : (defs : List ModelDef) (entry : ℕ) (def : ModelDef) (count : ℕ) (f : FieldDef) (own : Wrong) (least : Option SchemaFault) → slice_get def.fields count ≡ Some f → EntryHas defs entry def own → (f.name ≡ [] → ⊥) → IsLeast (IsFaultAmong defs entry def count) least → IsLeast (IsFaultAmong defs entry def (count + 1)) least
+pub least_skip : (defs : List ModelDef) (entry : ℕ) (def : ModelDef) (count : ℕ) (f : FieldDef) (own : Wrong) (least : Option SchemaFault) → slice_get def.fields count ≡ Some f
+    → EntryHas defs entry def own → (f.name ≡ [] → ⊥) → IsLeast (IsFaultAmong defs entry def count) least → IsLeast (IsFaultAmong defs entry def (count + 1)) least
 least_skip defs entry def count f own None at has named first = absurd (first (fault_at own (whole_spot entry)) (inl (record { what = own; there = has; is = refl })))
 least_skip defs entry def count f own (Some a) at has named first =
     let whole = fault_at own (whole_spot entry) in
@@ -193,9 +203,9 @@ least_skip defs entry def count f own (Some a) at has named first =
         | inr new ↦
             let ranks : rank_order (rank whole) (rank other) ≡ Less =
             ap (λ (r : Rank). rank_order r (rank other)) (rank-fault_at own (whole_spot entry))
-            ∙ ap (λ (w : SchemaFault). rank_order (rank_at (whole_spot entry) (variant_of own)) (rank w)) new.is
-            ∙ ap (λ (r : Rank). rank_order (rank_at (whole_spot entry) (variant_of own)) r) (rank-fault_at new.what (field_spot entry f.name))
-            ∙ whole_first entry (variant_of own) (variant_of new.what) f.name named in
+            ∙ ap (λ (w : SchemaFault). rank_order (rank_at (whole_spot entry) (fault_variant own)) (rank w)) new.is
+            ∙ ap (λ (r : Rank). rank_order (rank_at (whole_spot entry) (fault_variant own)) r) (rank-fault_at new.what (field_spot entry f.name))
+            ∙ whole_first entry (fault_variant own) (fault_variant new.what) f.name named in
             none_between (rank a) (rank whole) (rank other) after (one_way (rank whole) (rank other) ranks)
       ],
     )

@@ -3,7 +3,7 @@ use Rattle.std.proofs.Common.{◌≤◌, Some, None, arith}
 use Rattle.ob_expr.specs.declared.parser.ExprFault.{ExprFault}
 use Rattle.ob_schema.specs.declared.wrong.Wrong.{Wrong}
 use Rattle.ob_schema.specs.declared.wrong.Wrong.TheVariants as wrong
-use Rattle.ob_schema.specs.Findings.{IsFirstWrong, IsNoneBelow, variant_of}
+use Rattle.ob_schema.specs.Findings.{IsFirstWrong, IsNoneBelow, fault_variant}
 
 -- nothing stands before the first variant
 pub from_start : (Has : Wrong → Type 0) → IsNoneBelow Has 0
@@ -71,5 +71,5 @@ none_wrong Has below none wrong.Limit there = let low : 10 ≤ 9 = below wrong.L
 none_wrong Has below none (wrong.Text why) there = none why there
 
 -- what is there, with nothing before it, is first
-pub is_first : (Has : Wrong → Type 0) (first : Wrong) → Has first → IsNoneBelow Has (variant_of first) → IsFirstWrong Has (Some first)
-is_first Has first there below = (there, λ other h lt. let low : variant_of first ≤ variant_of other = below other h in omega arith)
+pub is_first : (Has : Wrong → Type 0) (first : Wrong) → Has first → IsNoneBelow Has (fault_variant first) → IsFirstWrong Has (Some first)
+is_first Has first there below = (there, λ other h lt. let low : fault_variant first ≤ fault_variant other = below other h in omega arith)

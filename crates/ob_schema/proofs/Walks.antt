@@ -3,6 +3,7 @@ use Rattle.std.proofs.Common.{◌≡◌, ℕ, ◌<◌, ◌≤◌, ◌⊎◌, inl
 use Rattle.std.specs.Prelude.{IsTrue, filter, slice_get}
 use Rattle.std.proofs.lemmas.Bool.{false≢true}
 use Rattle.std.proofs.lemmas.Option.{slice_get_read}
+use Rattle.ob_base.specs.Limits.{max_fields}
 use Rattle.ob_base.specs.declared.id.FieldNo.{FieldNo}
 use Rattle.ob_base.specs.declared.memory.NoMemory.{NoMemory}
 use Rattle.ob_schema.specs.declared.definition.FieldDef.{FieldDef}
@@ -11,7 +12,7 @@ use Rattle.ob_schema.specs.declared.fault.SchemaFault.{SchemaFault}
 use Rattle.ob_schema.specs.declared.wrong.Wrong.{Wrong}
 use Rattle.ob_schema.specs.declared.wrong.Wrong.TheVariants as wrong
 use Rattle.ob_schema.specs.Capped.{capped_field}
-use Rattle.ob_schema.specs.Definitions.{is_computed}
+use Rattle.ob_schema.specs.Definitions.{field_count, is_computed}
 use Rattle.ob_schema.specs.Findings.{EntryHas, FieldHas, IsEntryFault, IsFieldFault, IsFirstWrong, IsLeast, fault_at}
 use Rattle.ob_schema.specs.Formulas.{computed_numbers, number_of}
 use Rattle.ob_schema.proofs.Capping.{capped_field-low, number_of-low}
@@ -23,35 +24,41 @@ known P (Ok y) x e p = subst P (sym e) p
 known P (Err why) x e p = tt
 
 -- the numbers of a model with few fields aren't capped
-same_numbers : (def : ModelDef) (fields : List FieldDef) → length def.fields ≤ 253 → map (λ (f : FieldDef). capped_field (number_of def f.name)) fields ≡ map (λ (f : FieldDef). number_of def f.name) fields
+same_numbers : (def : ModelDef) (fields : List FieldDef) → field_count def ≤ max_fields → map (λ (f : FieldDef). capped_field (number_of def f.name)) fields ≡ map (λ (f : FieldDef). number_of def f.name) fields
 same_numbers def [] few = refl
 same_numbers def (f ∷ fields) few =
     ap (λ (n : FieldNo). n ∷ map (λ (g : FieldDef). capped_field (number_of def g.name)) fields) (capped_field-low (number_of def f.name) (number_of-low def f.name few))
     ∙ ap (λ (l : List FieldNo). number_of def f.name ∷ l) (same_numbers def fields few)
 
-pub few_numbers : (def : ModelDef) (r : Result (Vec FieldNo Global) NoMemory) → IfOk r (λ numbers. numbers.items ≡ map (λ (f : FieldDef). capped_field (number_of def f.name)) (filter is_computed def.fields)) → IfOk r (λ numbers. length def.fields ≤ 253 → numbers.items ≡ computed_numbers def)
+pub few_numbers : (def : ModelDef) (r : Result (Vec FieldNo Global) NoMemory)
+    → IfOk r (λ numbers. numbers.items ≡ map (λ (f : FieldDef). capped_field (number_of def f.name)) (filter is_computed def.fields))
+    → IfOk r (λ numbers. field_count def ≤ max_fields → numbers.items ≡ computed_numbers def)
 few_numbers def (Ok numbers) e = λ few. e ∙ same_numbers def (filter is_computed def.fields) few
 few_numbers def (Err why) e = tt
 
 -- ---- the entry as a whole
 
 -- an entry without a fault has few fields
-pub few_fields : (defs : List ModelDef) (entry : ℕ) (def : ModelDef) (own : Option Wrong) (is_whole : Bool) → is_some own ≡ not is_whole → IsFirstWrong (EntryHas defs entry def) own → is_whole ≡ true → length def.fields ≤ 253
+pub few_fields : (defs : List ModelDef) (entry : ℕ) (def : ModelDef) (own : Option Wrong) (is_whole : Bool) → is_some own ≡ not is_whole → IsFirstWrong (EntryHas defs entry def) own → is_whole ≡ true → field_count def ≤ max_fields
 few_fields defs entry def None is_whole e first whole =
-    let low : (253 < length def.fields) → ⊥ = λ many. first wrong.Limit (inr (inl many)) in omega arith
+    let low : max_fields < field_count def → ⊥ = λ many. first wrong.Limit (inr (inl many)) in omega arith
 few_fields defs entry def (Some what) is_whole e first whole = absurd (false≢true (sym (e ∙ ap not whole)))
 
 -- another has one
-pub own_wrong : (defs : List ModelDef) (entry : ℕ) (def : ModelDef) (own : Option Wrong) (is_whole : Bool) → is_some own ≡ not is_whole → IsFirstWrong (EntryHas defs entry def) own → is_whole ≡ false → (what : Wrong) × EntryHas defs entry def what
+pub own_wrong : (defs : List ModelDef) (entry : ℕ) (def : ModelDef) (own : Option Wrong) (is_whole : Bool) → is_some own ≡ not is_whole → IsFirstWrong (EntryHas defs entry def) own → is_whole ≡ false
+    → (what : Wrong) × EntryHas defs entry def what
 own_wrong defs entry def None is_whole e first whole = absurd (false≢true (e ∙ ap not whole))
 own_wrong defs entry def (Some what) is_whole e first whole = (what, first.0)
 
-pub least_own : (defs : List ModelDef) (entry : ℕ) (def : ModelDef) (name : List ℕ) (own : Option Wrong) (least : Option SchemaFault) → IsFirstWrong (EntryHas defs entry def) own → name ≡ [] → least ≡ option_map (λ what. fault_at what (field_spot entry name)) own → IsLeast (IsEntryFault defs entry def) least
+pub least_own : (defs : List ModelDef) (entry : ℕ) (def : ModelDef) (name : List ℕ) (own : Option Wrong) (least : Option SchemaFault) → IsFirstWrong (EntryHas defs entry def) own → name ≡ []
+    → least ≡ option_map (λ what. fault_at what (field_spot entry name)) own → IsLeast (IsEntryFault defs entry def) least
 least_own defs entry def name own least first empty e =
     subst (IsLeast (IsEntryFault defs entry def)) (sym (e ∙ ap (λ (n : List ℕ). option_map (λ what. fault_at what (field_spot entry n)) own) empty)) (least_entry defs entry def own first)
 
 -- the fault of a field
-pub least_of_field : (defs : List ModelDef) (entry : ℕ) (def : ModelDef) (f : FieldDef) (name : List ℕ) (first : Option Wrong) (r : Result (Option SchemaFault) NoMemory) → IsFirstWrong (FieldHas defs def f) first → name ≡ f.name → IfOk r (λ fault. fault ≡ option_map (λ what. fault_at what (field_spot entry name)) first) → IfOk r (IsLeast (IsFieldFault defs entry def f))
+pub least_of_field : (defs : List ModelDef) (entry : ℕ) (def : ModelDef) (f : FieldDef) (name : List ℕ) (first : Option Wrong) (r : Result (Option SchemaFault) NoMemory)
+    → IsFirstWrong (FieldHas defs def f) first → name ≡ f.name → IfOk r (λ fault. fault ≡ option_map (λ what. fault_at what (field_spot entry name)) first)
+    → IfOk r (IsLeast (IsFieldFault defs entry def f))
 least_of_field defs entry def f name first r is same e =
     known (IsLeast (IsFieldFault defs entry def f)) r (option_map (λ what. fault_at what (field_spot entry name)) first) e
     (subst (λ (n : List ℕ). IsLeast (IsFieldFault defs entry def f) (option_map (λ what. fault_at what (field_spot entry n)) first)) (sym same) (least_field defs entry def f first is))

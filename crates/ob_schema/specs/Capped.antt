@@ -25,13 +25,9 @@ capped_model number = record { 0 = capped number.0 }
 
 -- a kind with the number of its model
 abbrev pub capped_kind : Kind → Kind
-capped_kind kind.Bool = kind.Bool
-capped_kind kind.Int = kind.Int
-capped_kind kind.Word = kind.Word
-capped_kind kind.Day = kind.Day
-capped_kind kind.Moment = kind.Moment
 capped_kind (kind.Ref model) = kind.Ref (capped_model model)
 capped_kind (kind.Refs model) = kind.Refs (capped_model model)
+capped_kind k = k
 
 -- what a name stands for, its numbers capped
 abbrev pub capped_found : Found → Found

@@ -1,5 +1,5 @@
 -- What definitions declare, by name. So far each entry is a model of its own.
-use Rattle.std.specs.Prelude.{◌||◌, ℕ, List, [], ◌∷◌, codes, find, Bool, false, is_some, Option, Some, None}
+use Rattle.std.specs.Prelude.{◌+◌, ◌||◌, ℕ, length, List, [], ◌∷◌, codes, find, Bool, false, is_some, Option, Some, None}
 use Rattle.std.specs.List.{list_any}
 use Rattle.std.specs.Option.{option_map_or}
 use Rattle.std.specs.Str.{bytes_eq}
@@ -10,16 +10,21 @@ use Rattle.ob_schema.specs.declared.definition.ModelDef.{ModelDef}
 abbrev pub automatic_names : List (List ℕ)
 automatic_names = codes "create_date" ∷ codes "id" ∷ codes "write_date" ∷ []
 
+-- a name that each model has
 abbrev pub is_automatic : List ℕ → Bool
 is_automatic name = list_any (bytes_eq name) automatic_names
 
+-- how many fields a model has, the automatic ones among them
+abbrev pub field_count : ModelDef → ℕ
+field_count def = length def.fields + length automatic_names
+
 -- whether an optional text is this one
-abbrev pub is_text : Option (List ℕ) → List ℕ → Bool
-is_text given text = option_map_or (λ own. bytes_eq own text) given false
+abbrev pub is_given_text : Option (List ℕ) → List ℕ → Bool
+is_given_text given text = option_map_or (λ own. bytes_eq own text) given false
 
 -- the first definition of a model of this name
 abbrev pub model_def : List ModelDef → List ℕ → Option ModelDef
-model_def defs name = find (λ def. is_text def.name name) defs
+model_def defs name = find (λ def. is_given_text def.name name) defs
 
 -- the first declared field of this name
 abbrev pub field_def : ModelDef → List ℕ → Option FieldDef

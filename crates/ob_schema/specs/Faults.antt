@@ -1,13 +1,15 @@
 -- What stands against definitions. A fault is there or not by the texts of the definitions alone.
-use Rattle.std.specs.Prelude.{◌≡◌, ◌≢◌, ◌<◌, ◌≤◌, ◌⊎◌, ◌||◌, ◌&&◌, ◌==◌, ℕ, List, [], length, Any, Contains, count_by, slice_get, Bool, true, false, not, is_some, Option, Some, None, IsSomeAnd, Ok, Err}
+use Rattle.std.specs.Prelude.{◌≡◌, ◌≢◌, ◌<◌, ◌≤◌, ◌⊎◌, ◌||◌, ◌&&◌, ◌==◌, ℕ, List, [], length, Any, Contains, count_by, slice_get, Bool, true, false, not}
+use Rattle.std.specs.Prelude.{is_some, Option, Some, None, IsSomeAnd, Ok, Err}
 use Rattle.std.specs.List.{list_any}
 use Rattle.std.specs.Option.{option_map_or}
-use Rattle.std.specs.Prelude.{unwrap_or}
 use Rattle.std.specs.Cmp.Lexicographic.{slice_cmp}
 use Rattle.std.specs.Ordering.{nat_cmp, then_cmp, on}
 use Rattle.std.specs.Str.{bytes_eq}
 use Rattle.std.specs.declared.cmp.Ordering.{Ordering}
 use Rattle.std.specs.declared.cmp.Ordering.TheVariants.{Less}
+use Rattle.ob_base.specs.Limits.{max_expression_bytes, max_fields, max_models}
+use Rattle.ob_base.specs.declared.id.FieldNo.{FieldNo}
 use Rattle.ob_expr.specs.declared.checker.TypeFault.TheVariants as type_fault
 use Rattle.ob_expr.specs.declared.parser.ExprFault.{ExprFault}
 use Rattle.ob_expr.specs.declared.parser.ExprFault.TheVariants as text_fault
@@ -19,8 +21,8 @@ use Rattle.ob_schema.specs.declared.definition.ModelDef.{ModelDef}
 use Rattle.ob_schema.specs.declared.fault.SchemaFault.{SchemaFault}
 use Rattle.ob_schema.specs.declared.fault.SchemaFault.TheVariants as fault
 use Rattle.ob_schema.specs.declared.fault.Spot.{Spot}
-use Rattle.ob_schema.specs.Definitions.{field_def, has_field, is_automatic, is_computed, is_set, is_text, model_def}
-use Rattle.ob_schema.specs.Formulas.{IsExpression, computed_numbers, depends_on, fields_read, found_in, kind_of_field, names_computed}
+use Rattle.ob_schema.specs.Definitions.{field_count, field_def, has_field, is_automatic, is_computed, is_set, is_given_text, model_def}
+use Rattle.ob_schema.specs.Formulas.{IsCovered, IsExpression, computed_numbers, depends_of, fields_read, found_in, kind_of_field, names_computed}
 use Rattle.ob_schema.specs.Keys.{fits, is_many2one}
 use Rattle.ob_schema.specs.Names.{is_field_name, is_model_name}
 use Rattle.ob_schema.specs.Orders.{Term, order_terms}
@@ -62,9 +64,9 @@ IsNamedBefore defs n def = (i : ℕ) × (i < n) × (other : ModelDef) × (slice_
 abbrev pub is_unserved : ModelDef → Bool
 is_unserved def = is_some def.inherit || not (length def.inherits == 0) || is_some def.parent || not (length def.unique == 0) || not (length def.checks == 0) || is_some def.locked
 
--- an entry past the 512th, with more than 256 fields, or with a key that isn't served yet
+-- an entry past the greatest number of models, with too many fields, or with a key that isn't served yet
 abbrev pub IsPastLimit : ℕ → ModelDef → Type 0
-IsPastLimit n def = (512 ≤ n) ⊎ (253 < length def.fields) ⊎ (is_unserved def ≡ true)
+IsPastLimit n def = (max_models ≤ n) ⊎ (max_fields < field_count def) ⊎ (is_unserved def ≡ true)
 
 -- a relation to a model that nobody declares
 abbrev pub HasUnknownRelation : List ModelDef → FieldDef → Type 0
@@ -84,7 +86,7 @@ HasUnknownInverse defs f = (target : ModelDef) × (inverse : List ℕ) × IsInve
 -- a plain many2one to this model
 abbrev pub leads_back : ModelDef → Option FieldDef → Bool
 leads_back def None = false
-leads_back def (Some back) = is_many2one back.field_type && not (is_computed back) && option_map_or (is_text def.name) back.relation false
+leads_back def (Some back) = is_many2one back.field_type && not (is_computed back) && option_map_or (is_given_text def.name) back.relation false
 
 -- the inverse is another field than a plain many2one back
 abbrev pub HasWrongInverse : List ModelDef → ModelDef → FieldDef → Type 0
@@ -93,7 +95,7 @@ HasWrongInverse defs def f = (target : ModelDef) × (inverse : List ℕ) × IsIn
 -- the text of a field's expression
 pub record HasExpression (f : FieldDef) (text : List ℕ) : Type 0 where
   pub given : f.compute ≡ Some text
-  pub short : length text ≤ 4096
+  pub short : length text ≤ max_expression_bytes
 
 -- the expression and its tree
 pub record HasTree (f : FieldDef) (tree : Tree) : Type 0 where
@@ -113,11 +115,15 @@ is_dotted path = list_any (λ b. b == 46) path
 
 -- a name of the expression or of what it depends on is no field that may be used there
 abbrev pub NamesNoField : List ModelDef → ModelDef → FieldDef → Type 0
-NamesNoField defs def f = ((tree : Tree) × HasTree f tree × (at : ℕ) × (typed_of (found_in defs def) tree ≡ Err (type_fault.Name at))) ⊎ Any (λ path. (is_dotted path ≡ false) × (has_field def path ≡ false)) (unwrap_or f.depends [])
+NamesNoField defs def f =
+    ((tree : Tree) × HasTree f tree × (at : ℕ) × (typed_of (found_in defs def) tree ≡ Err (type_fault.Name at)))
+    ⊎ Any (λ path. (is_dotted path ≡ false) × (has_field def path ≡ false)) (depends_of f)
 
 -- the expression is of another kind than its parts or its field
 abbrev pub HasWrongKind : List ModelDef → ModelDef → FieldDef → Type 0
-HasWrongKind defs def f = ((tree : Tree) × HasTree f tree × (at : ℕ) × (typed_of (found_in defs def) tree ≡ Err (type_fault.Kind at))) ⊎ ((typed : TypedTree) × HasTyped defs def f typed × (kind_of_field defs f ≢ Some (kind_of typed)))
+HasWrongKind defs def f =
+    ((tree : Tree) × HasTree f tree × (at : ℕ) × (typed_of (found_in defs def) tree ≡ Err (type_fault.Kind at)))
+    ⊎ ((typed : TypedTree) × HasTyped defs def f typed × (kind_of_field defs f ≢ Some (kind_of typed)))
 
 -- the name or a key of the field doesn't fit
 abbrev pub HasWrongKeys : FieldDef → Type 0
@@ -127,34 +133,37 @@ HasWrongKeys f = (is_field_name f.name ≡ false) ⊎ (fits f ≡ false)
 abbrev pub IsDeclaredTwice : ModelDef → FieldDef → Type 0
 IsDeclaredTwice def f = (is_automatic f.name ≡ true) ⊎ (1 < count_by (λ other. bytes_eq other.name f.name) def.fields)
 
--- the expression reads a computed field, or one on which it doesn't say it depends; or it depends on a computed one
+-- a field that none of these paths covers, or a computed one
+abbrev pub IsMisread : ModelDef → List (List ℕ) → FieldNo → Type 0
+IsMisread def paths number = (IsCovered def paths number → ⊥) ⊎ Contains (computed_numbers def) number
+
+-- the expression reads a field that no declared path covers, or a computed one; or a declared path names a computed one
 abbrev pub HasWrongPath : List ModelDef → ModelDef → FieldDef → Type 0
-HasWrongPath defs def f = ((typed : TypedTree) × HasTyped defs def f typed × Any (λ number. (Contains (depends_on def f) number → ⊥) ⊎ Contains (computed_numbers def) number) (fields_read typed)) ⊎ Any (λ path. names_computed def path ≡ true) (unwrap_or f.depends [])
+HasWrongPath defs def f =
+    ((typed : TypedTree) × HasTyped defs def f typed × Any (IsMisread def (depends_of f)) (fields_read typed))
+    ⊎ Any (λ path. names_computed def path ≡ true) (depends_of f)
 
 -- a text past its limit, or a key that isn't served yet
 abbrev pub HasTooMuch : FieldDef → Type 0
-HasTooMuch f = IsSomeAnd f.compute (λ text. 4096 < length text) ⊎ (is_some f.related ≡ true) ⊎ (is_some f.mirror ≡ true) ⊎ Any (λ path. is_dotted path ≡ true) (unwrap_or f.depends [])
+HasTooMuch f = IsSomeAnd f.compute (λ text. max_expression_bytes < length text) ⊎ (is_some f.related ≡ true) ⊎ (is_some f.mirror ≡ true) ⊎ Any (λ path. is_dotted path ≡ true) (depends_of f)
 
 -- why a text is no expression
 abbrev pub IsTextFault : List ℕ → ExprFault → Type 0
 IsTextFault text (text_fault.At offset) = IsFirstFault (length text) (lexemes text) offset
 IsTextFault text (text_fault.TooDeep offset) = IsFirstTooDeep (lexemes text) offset
-IsTextFault text text_fault.NoMemory = ⊥
+IsTextFault text _ = ⊥
 
--- the definitions have this fault
+-- the definitions have this fault; the others aren't told yet
 abbrev pub IsFaulty : List ModelDef → SchemaFault → Type 0
 IsFaulty defs (fault.Model spot) = AtEntry defs spot NamesNoModel ⊎ AtField defs spot (λ def f. HasUnknownRelation defs f)
 IsFaulty defs (fault.Field spot) = AtEntry defs spot (λ def. HasTerm (λ name. not (has_field def name)) def.order) ⊎ AtField defs spot (λ def f. HasUnknownInverse defs f ⊎ NamesNoField defs def f)
 IsFaulty defs (fault.Kind spot) = AtEntry defs spot HasWrongKey ⊎ AtField defs spot (λ def f. HasWrongKeys f ⊎ HasWrongKind defs def f)
 IsFaulty defs (fault.Twice spot) = AtEntry defs spot (IsNamedBefore defs spot.entry) ⊎ AtField defs spot IsDeclaredTwice
-IsFaulty defs (fault.Cycle spot) = ⊥
-IsFaulty defs (fault.Recursion spot) = ⊥
 IsFaulty defs (fault.Path spot) = AtField defs spot (HasWrongPath defs)
 IsFaulty defs (fault.Inverse spot) = AtField defs spot (HasWrongInverse defs)
-IsFaulty defs (fault.Inherits spot) = ⊥
 IsFaulty defs (fault.Limit spot) = AtEntry defs spot (IsPastLimit spot.entry) ⊎ AtField defs spot (λ def f. HasTooMuch f)
 IsFaulty defs (fault.Text spot why) = AtField defs spot (λ def f. (text : List ℕ) × HasExpression f text × IsTextFault text why)
-IsFaulty defs fault.NoMemory = ⊥
+IsFaulty defs _ = ⊥
 
 -- where a fault is, and its place among the variants
 pub record Rank : Type 0 where
@@ -162,22 +171,21 @@ pub record Rank : Type 0 where
   pub field : List ℕ
   pub variant : ℕ
 
+-- the rank of a fault at a spot
 abbrev pub rank_at : Spot → ℕ → Rank
 rank_at spot variant = record { entry = spot.entry; field = spot.field; variant = variant }
 
+-- the rank of a fault: variants count in their order; one that isn't told yet, and want of memory, comes last
 abbrev pub rank : SchemaFault → Rank
 rank (fault.Model spot) = rank_at spot 0
 rank (fault.Field spot) = rank_at spot 1
 rank (fault.Kind spot) = rank_at spot 2
 rank (fault.Twice spot) = rank_at spot 3
-rank (fault.Cycle spot) = rank_at spot 4
-rank (fault.Recursion spot) = rank_at spot 5
 rank (fault.Path spot) = rank_at spot 6
 rank (fault.Inverse spot) = rank_at spot 7
-rank (fault.Inherits spot) = rank_at spot 8
 rank (fault.Limit spot) = rank_at spot 9
 rank (fault.Text spot why) = rank_at spot 10
-rank fault.NoMemory = record { entry = 0; field = []; variant = 11 }
+rank _ = record { entry = 0; field = []; variant = 11 }
 
 -- by entry, then field by bytes, then variant in the order of declaration
 abbrev pub rank_order : Rank → Rank → Ordering

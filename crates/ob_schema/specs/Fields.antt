@@ -10,31 +10,25 @@ use Rattle.ob_schema.specs.declared.info.Origin.{Origin}
 use Rattle.ob_schema.specs.declared.info.Origin.TheVariants as origin
 use Rattle.ob_schema.specs.Values.{IsValueOf}
 
+-- its values are the rows whose inverse names the row
 abbrev pub is_one2many : FieldType → Bool
-is_one2many type.Boolean = false
-is_one2many type.Integer = false
-is_one2many type.Char = false
-is_one2many type.Text = false
-is_one2many type.Date = false
-is_one2many type.Datetime = false
-is_one2many type.Selection = false
-is_one2many type.Many2one = false
 is_one2many type.One2many = true
-is_one2many type.Many2many = false
+is_one2many _ = false
 
 -- its values stand in the row itself: no one2many, and no mirror of another field
 abbrev pub is_own : FieldInfo → Bool
 is_own field = not (is_one2many field.field_type) && is_none field.mirror
 
+-- a row keeps a field of this origin: a plain one in the row itself, a computed one that is stored
 abbrev pub is_kept_from : Origin → FieldInfo → Bool
-is_kept_from origin.Id field = false
 is_kept_from origin.Plain field = is_own field
 is_kept_from (origin.Computed formula) field = field.store
+is_kept_from _ field = false
 
+-- calls give the values of a field of this origin
 abbrev pub is_plain_from : Origin → Bool
-is_plain_from origin.Id = false
 is_plain_from origin.Plain = true
-is_plain_from (origin.Computed formula) = false
+is_plain_from _ = false
 
 -- a row's kept form has the field
 abbrev pub is_kept : FieldInfo → Bool

@@ -1,5 +1,5 @@
 -- What the code finds of a field's expression, and the parts of a fault without its spot.
-use Rattle.std.specs.Prelude.{◌≡◌, ◌≢◌, ◌<◌, ◌≤◌, ⊤, ℕ, unwrap_or, true, false, List, [], Any, Contains, Option, Some, None, Ok, Err, map, slice_get, ◌⊎◌}
+use Rattle.std.specs.Prelude.{◌≡◌, ◌≢◌, ◌<◌, ◌≤◌, ⊤, ℕ, true, false, List, [], Any, Option, Some, None, Ok, Err, slice_get, ◌⊎◌}
 use Rattle.std.specs.Ordering.{is_lt}
 use Rattle.std.specs.declared.cmp.Ordering.TheVariants.{Less}
 use Rattle.ob_expr.specs.declared.checker.Found.{Found}
@@ -16,20 +16,19 @@ use Rattle.ob_schema.specs.declared.finding.Finding.TheVariants as finding
 use Rattle.ob_schema.specs.declared.wrong.Wrong.{Wrong}
 use Rattle.ob_schema.specs.declared.wrong.Wrong.TheVariants as wrong
 use Rattle.ob_schema.specs.Capped.{seen_in}
-use Rattle.ob_schema.specs.Faults.{HasExpression, HasTerm, HasTooMuch, HasTree, HasUnknownInverse, HasUnknownRelation, HasWrongInverse, HasWrongKey, HasWrongKeys, HasWrongKind, HasWrongPath, IsDeclaredTwice, IsFaulty, IsNamedBefore, IsPastLimit, IsTextFault, NamesNoField, NamesNoModel, is_dotted, rank, rank_order}
+use Rattle.ob_schema.specs.Faults.{HasExpression, HasTerm, HasTooMuch, HasTree, HasUnknownInverse, HasUnknownRelation, HasWrongInverse, HasWrongKey, HasWrongKeys, HasWrongKind, HasWrongPath}
+use Rattle.ob_schema.specs.Faults.{IsDeclaredTwice, IsFaulty, IsMisread, IsNamedBefore, IsPastLimit, IsTextFault, NamesNoField, NamesNoModel, is_dotted, rank, rank_order}
 use Rattle.ob_schema.specs.Definitions.{has_field}
-use Rattle.ob_schema.specs.Formulas.{computed_numbers, depends_on, fields_read, kind_of_type, names_computed, number_of}
-use Rattle.ob_base.specs.declared.id.FieldNo.{FieldNo}
+use Rattle.ob_schema.specs.Formulas.{depends_of, fields_read, kind_of_type, names_computed}
 use Rattle.std.specs.Prelude.{not, if◌then◌else◌}
 use Rattle.ob_expr.specs.declared.parser.ExprFault.{ExprFault}
 
 -- what a check in a scope says of a tree
 abbrev pub IsOutcome : (List ℕ → Option Found) → Tree → Finding → Type 0
-IsOutcome find tree finding.Absent = ⊥
-IsOutcome find tree (finding.Unreadable why) = ⊥
 IsOutcome find tree finding.Unknown = (at : ℕ) × (typed_of find tree ≡ Err (type_fault.Name at))
 IsOutcome find tree finding.Mixed = (at : ℕ) × (typed_of find tree ≡ Err (type_fault.Kind at))
 IsOutcome find tree (finding.Checked typed) = typed_of find tree ≡ Ok (typed_tree_of typed)
+IsOutcome find tree _ = ⊥
 
 -- the field's one tree, and what a check says of it
 pub record IsChecked (defs : List ModelDef) (def : ModelDef) (f : FieldDef) (outcome : Finding) : Type 0 where
@@ -49,9 +48,7 @@ pub record IsUnreadable (f : FieldDef) (why : ExprFault) : Type 0 where
 abbrev pub IsFinding : List ModelDef → ModelDef → FieldDef → Finding → Type 0
 IsFinding defs def f finding.Absent = (text : List ℕ) → HasExpression f text → ⊥
 IsFinding defs def f (finding.Unreadable why) = IsUnreadable f why
-IsFinding defs def f finding.Unknown = IsChecked defs def f finding.Unknown
-IsFinding defs def f finding.Mixed = IsChecked defs def f finding.Mixed
-IsFinding defs def f (finding.Checked typed) = IsChecked defs def f (finding.Checked typed)
+IsFinding defs def f outcome = IsChecked defs def f outcome
 
 -- this is wrong with an entry as a whole
 abbrev pub EntryHas : List ModelDef → ℕ → ModelDef → Wrong → Type 0
@@ -59,10 +56,8 @@ EntryHas defs entry def wrong.Model = NamesNoModel def
 EntryHas defs entry def wrong.Field = HasTerm (λ name. not (has_field def name)) def.order
 EntryHas defs entry def wrong.Kind = HasWrongKey def
 EntryHas defs entry def wrong.Twice = IsNamedBefore defs entry def
-EntryHas defs entry def wrong.Path = ⊥
-EntryHas defs entry def wrong.Inverse = ⊥
 EntryHas defs entry def wrong.Limit = IsPastLimit entry def
-EntryHas defs entry def (wrong.Text why) = ⊥
+EntryHas defs entry def _ = ⊥
 
 -- this is wrong with a field
 abbrev pub FieldHas : List ModelDef → ModelDef → FieldDef → Wrong → Type 0
@@ -75,54 +70,6 @@ FieldHas defs def f wrong.Inverse = HasWrongInverse defs def f
 FieldHas defs def f wrong.Limit = HasTooMuch f
 FieldHas defs def f (wrong.Text why) = (text : List ℕ) × HasExpression f text × IsTextFault text why
 
--- its place among the variants of a fault
-abbrev pub variant_of : Wrong → ℕ
-variant_of wrong.Model = 0
-variant_of wrong.Field = 1
-variant_of wrong.Kind = 2
-variant_of wrong.Twice = 3
-variant_of wrong.Path = 6
-variant_of wrong.Inverse = 7
-variant_of wrong.Limit = 9
-variant_of (wrong.Text why) = 10
-
--- the first of what is wrong at one spot
-abbrev pub IsFirstWrong : (Wrong → Type 0) → Option Wrong → Type 0
-IsFirstWrong Has None = (other : Wrong) → Has other → ⊥
-IsFirstWrong Has (Some first) = Has first × ((other : Wrong) → Has other → variant_of other < variant_of first → ⊥)
-
--- nothing that is wrong stands before this variant
-abbrev pub IsNoneBelow : (Wrong → Type 0) → ℕ → Type 0
-IsNoneBelow Has n = (other : Wrong) → Has other → n ≤ variant_of other
-
--- what the field depends on has a name that is no field
-abbrev pub DependsOnNoField : ModelDef → FieldDef → Type 0
-DependsOnNoField def f = Any (λ path. (is_dotted path ≡ false) × (has_field def path ≡ false)) (unwrap_or f.depends [])
-
--- the field depends on a computed one
-abbrev pub DependsOnComputed : ModelDef → FieldDef → Type 0
-DependsOnComputed def f = Any (λ path. names_computed def path ≡ true) (unwrap_or f.depends [])
-
--- the expression is of another kind than its parts or its field, which is no relation
-abbrev pub IsOfWrongKind : FieldDef → Finding → Type 0
-IsOfWrongKind f finding.Absent = ⊥
-IsOfWrongKind f (finding.Unreadable why) = ⊥
-IsOfWrongKind f finding.Unknown = ⊥
-IsOfWrongKind f finding.Mixed = ⊤
-IsOfWrongKind f (finding.Checked typed) = kind_of_type f.field_type None ≢ Some (kind_of (typed_tree_of typed))
-
--- a number that is a computed field's, or that of none of these paths
-abbrev pub IsMisread : ModelDef → List (List ℕ) → List FieldNo → FieldNo → Type 0
-IsMisread def paths computed number = (Contains (map (number_of def) paths) number → ⊥) ⊎ Contains computed number
-
--- the expression reads a computed field, or one on which it doesn't say it depends
-abbrev pub ReadsWrongly : ModelDef → FieldDef → Finding → Type 0
-ReadsWrongly def f finding.Absent = ⊥
-ReadsWrongly def f (finding.Unreadable why) = ⊥
-ReadsWrongly def f finding.Unknown = ⊥
-ReadsWrongly def f finding.Mixed = ⊥
-ReadsWrongly def f (finding.Checked typed) = Any (λ number. (Contains (depends_on def f) number → ⊥) ⊎ Contains (computed_numbers def) number) (fields_read (typed_tree_of typed))
-
 -- the fault at a spot
 abbrev pub fault_at : Wrong → Spot → SchemaFault
 fault_at wrong.Model spot = fault.Model spot
@@ -133,6 +80,38 @@ fault_at wrong.Path spot = fault.Path spot
 fault_at wrong.Inverse spot = fault.Inverse spot
 fault_at wrong.Limit spot = fault.Limit spot
 fault_at (wrong.Text why) spot = fault.Text spot why
+
+-- its place among the variants of a fault
+abbrev pub fault_variant : Wrong → ℕ
+fault_variant what = (rank (fault_at what (record { entry = 0; field = [] }))).variant
+
+-- the first of what is wrong at one spot
+abbrev pub IsFirstWrong : (Wrong → Type 0) → Option Wrong → Type 0
+IsFirstWrong Has None = (other : Wrong) → Has other → ⊥
+IsFirstWrong Has (Some first) = Has first × ((other : Wrong) → Has other → fault_variant other < fault_variant first → ⊥)
+
+-- nothing that is wrong stands before this variant
+abbrev pub IsNoneBelow : (Wrong → Type 0) → ℕ → Type 0
+IsNoneBelow Has n = (other : Wrong) → Has other → n ≤ fault_variant other
+
+-- what the field depends on has a name that is no field
+abbrev pub DependsOnNoField : ModelDef → FieldDef → Type 0
+DependsOnNoField def f = Any (λ path. (is_dotted path ≡ false) × (has_field def path ≡ false)) (depends_of f)
+
+-- the field depends on a computed one
+abbrev pub DependsOnComputed : ModelDef → FieldDef → Type 0
+DependsOnComputed def f = Any (λ path. names_computed def path ≡ true) (depends_of f)
+
+-- the expression is of another kind than its parts or its field, which is no relation
+abbrev pub IsOfWrongKind : FieldDef → Finding → Type 0
+IsOfWrongKind f finding.Mixed = ⊤
+IsOfWrongKind f (finding.Checked typed) = kind_of_type f.field_type None ≢ Some (kind_of (typed_tree_of typed))
+IsOfWrongKind f _ = ⊥
+
+-- the expression reads a field that no declared path covers, or a computed one
+abbrev pub ReadsWrongly : ModelDef → FieldDef → Finding → Type 0
+ReadsWrongly def f (finding.Checked typed) = Any (IsMisread def (depends_of f)) (fields_read (typed_tree_of typed))
+ReadsWrongly def f _ = ⊥
 
 -- one of a kind of faults that none of the kind comes before, or that there is none
 abbrev pub IsLeast : (SchemaFault → Type 0) → Option SchemaFault → Type 0

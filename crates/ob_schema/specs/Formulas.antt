@@ -1,13 +1,13 @@
 -- The expressions of computed fields, over the fields of their own model.
-use Rattle.std.specs.Prelude.{◌&&◌, ◌||◌, ◌++◌, ◌≤◌, ℕ, suc, List, [], ◌∷◌, map, position, count_by, if◌then◌else◌, Bool, true, false, not, Option, Some, None, option_map, option_and_then}
+use Rattle.std.specs.Prelude.{◌≡◌, ◌&&◌, ◌||◌, ◌++◌, ◌≤◌, ℕ, suc, List, [], ◌∷◌, map, position, count_by, Any, if◌then◌else◌, Bool, true, false, not, Option, Some, None, option_map, option_and_then}
 use Rattle.std.specs.Option.{option_map_or}
 use Rattle.std.specs.Cmp.Lexicographic.{slice_cmp}
 use Rattle.std.specs.Ordering.{nat_cmp, is_lt}
 use Rattle.std.specs.Str.{bytes_eq}
 use Rattle.std.specs.Prelude.{codes, unwrap_or, filter}
+use Rattle.ob_base.specs.Limits.{max_expression_depth}
 use Rattle.ob_base.specs.declared.id.FieldNo.{FieldNo}
 use Rattle.ob_base.specs.declared.id.ModelNo.{ModelNo}
-use Rattle.ob_base.specs.declared.limits.TheConstants.{MAX_EXPRESSION_DEPTH}
 use Rattle.ob_expr.specs.declared.checker.Found.{Found}
 use Rattle.ob_expr.specs.declared.checker.Kind.{Kind}
 use Rattle.ob_expr.specs.declared.checker.Kind.TheVariants as kind
@@ -18,7 +18,7 @@ use Rattle.ob_schema.specs.declared.definition.FieldDef.{FieldDef}
 use Rattle.ob_schema.specs.declared.definition.ModelDef.{ModelDef}
 use Rattle.ob_schema.specs.declared.field_type.FieldType.{FieldType}
 use Rattle.ob_schema.specs.declared.field_type.FieldType.TheVariants as type
-use Rattle.ob_schema.specs.Definitions.{automatic_names, is_text, field_def, is_computed, is_set}
+use Rattle.ob_schema.specs.Definitions.{automatic_names, is_given_text, field_def, has_field, is_computed, is_set}
 
 -- the names of a model's fields, automatic ones among them
 abbrev pub names_of : ModelDef → List (List ℕ)
@@ -30,20 +30,18 @@ number_of def name = record { 0 = suc (count_by (λ other. is_lt (slice_cmp nat_
 
 -- the number of a model, from 1 in the order of the definitions
 abbrev pub model_number : List ModelDef → List ℕ → Option ModelNo
-model_number defs name = option_map (λ i. record { 0 = suc i }) (position (λ def. is_text def.name name) defs)
+model_number defs name = option_map (λ i. record { 0 = suc i }) (position (λ def. is_given_text def.name name) defs)
 
--- the kind of a field's values, where its relation, if it has one, is a model
+-- the kind of a field's values, where its relation, if it has one, is a model; the other types are texts
 abbrev pub kind_of_type : FieldType → Option ModelNo → Option Kind
 kind_of_type type.Boolean relation = Some kind.Bool
 kind_of_type type.Integer relation = Some kind.Int
-kind_of_type type.Char relation = Some kind.Word
-kind_of_type type.Text relation = Some kind.Word
 kind_of_type type.Date relation = Some kind.Day
 kind_of_type type.Datetime relation = Some kind.Moment
-kind_of_type type.Selection relation = Some kind.Word
 kind_of_type type.Many2one relation = option_map kind.Ref relation
 kind_of_type type.One2many relation = option_map kind.Refs relation
 kind_of_type type.Many2many relation = option_map kind.Refs relation
+kind_of_type _ relation = Some kind.Word
 
 -- the kind of a declared field
 abbrev pub kind_of_field : List ModelDef → FieldDef → Option Kind
@@ -53,23 +51,42 @@ kind_of_field defs f = kind_of_type f.field_type (option_and_then (model_number 
 abbrev pub is_usable : FieldDef → Bool
 is_usable f = not (is_set f.secret) && (not (is_computed f) || is_set f.store)
 
--- what a name of an expression stands for: a declared field, or the moment of a row's making or last change
+-- what a name that is a field of the model itself stands for
+abbrev pub own_found : ModelDef → List ℕ → Bool → Kind → Found
+own_found def name usable k = record { via = None; field = number_of def name; kind = k; usable = usable }
+
+-- what the name of a declared field stands for, where its relation, if it has one, is a model
+abbrev pub declared_found : List ModelDef → ModelDef → List ℕ → FieldDef → Option Found
+declared_found defs def name f = option_map (own_found def name (is_usable f)) (kind_of_field defs f)
+
+-- what a name of an expression stands for: the moment of a row's making or last change, or a declared field
 abbrev pub found_in : List ModelDef → ModelDef → List ℕ → Option Found
-found_in defs def name = if bytes_eq name (codes "create_date") || bytes_eq name (codes "write_date") then Some (record { via = None; field = number_of def name; kind = kind.Moment; usable = true }) else option_and_then (λ f. option_map (λ k. record { via = None; field = number_of def name; kind = k; usable = is_usable f }) (kind_of_field defs f)) (field_def def name)
+found_in defs def name =
+    if bytes_eq name (codes "create_date") || bytes_eq name (codes "write_date")
+    then Some (own_found def name true kind.Moment)
+    else option_and_then (declared_found defs def name) (field_def def name)
 
 -- the tree that a text spells, no deeper than expressions may be
 pub record IsExpression (text : List ℕ) (tree : Tree) : Type 0 where
   pub spells : Spells tree (lexemes text)
-  pub shallow : depth tree ≤ MAX_EXPRESSION_DEPTH
+  pub shallow : depth tree ≤ max_expression_depth
 
 -- the fields that a checked expression reads
 abbrev pub fields_read : TypedTree → List FieldNo
 fields_read (field number k) = number ∷ []
 fields_read (times left right) = fields_read left ++ fields_read right
 
--- the numbers of the fields that a computed field says it depends on
-abbrev pub depends_on : ModelDef → FieldDef → List FieldNo
-depends_on def f = map (number_of def) (unwrap_or f.depends [])
+-- the steps of a path from a row of the model: so far the one field of this name, none where there is no such field
+abbrev pub steps_of : ModelDef → List ℕ → Option (List FieldNo)
+steps_of def path = if has_field def path then Some (number_of def path ∷ []) else None
+
+-- one of these paths covers a field that is read: it is a path, and leads to that field
+abbrev pub IsCovered : ModelDef → List (List ℕ) → FieldNo → Type 0
+IsCovered def paths number = Any (λ path. steps_of def path ≡ Some (number ∷ [])) paths
+
+-- the paths on which a computed field says it depends
+abbrev pub depends_of : FieldDef → List (List ℕ)
+depends_of f = unwrap_or f.depends []
 
 -- whether a name is that of a computed field
 abbrev pub names_computed : ModelDef → List ℕ → Bool

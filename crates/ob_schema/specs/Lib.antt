@@ -1,8 +1,8 @@
+-- What contracts of public functions cite.
 pub mod Types
 pub mod Values
 pub mod Fields
 pub mod Models
-pub mod NameIndex
 pub mod Names
 pub mod Orders
 pub mod Definitions
@@ -10,7 +10,9 @@ pub mod Keys
 pub mod Formulas
 pub mod Faults
 pub mod Built
-pub mod OrderEntries
+-- Private: the words by which the rooms of the crate are joined.
 pub mod Capped
+pub mod OrderEntries
 pub mod Findings
 pub mod Making
+pub mod NameIndex

@@ -1,25 +1,20 @@
 -- How the registry's parts are made of definitions, a function at a time.
-use Rattle.std.specs.Prelude.{◌≡◌, ◌+◌, ◌++◌, ◌≤◌, ℕ, List, [], length, map, All, Any, Contains, Bool, true, false, None, FitsSigned, IfSome, ⊤}
+use Rattle.std.specs.Prelude.{◌≡◌, ◌++◌, ◌≤◌, List, length, map, All, Any, Contains, FitsSigned, IfSome, ⊤}
 use Rattle.std.specs.Int.{w64}
 use Rattle.std.specs.List.{AllZip}
 use Rattle.std.specs.Str.{IsUtf8}
+use Rattle.ob_base.specs.Limits.{max_fields, max_name_bytes}
 use Rattle.ob_base.specs.declared.value.Value.{Value}
 use Rattle.ob_base.specs.declared.value.Value.TheVariants as value
 use Rattle.ob_schema.specs.declared.definition.ModelDef.{ModelDef}
-use Rattle.ob_schema.specs.declared.field_type.FieldType.{FieldType}
-use Rattle.ob_schema.specs.declared.field_type.OnDelete.TheVariants as ondelete
 use Rattle.ob_schema.specs.declared.info.FieldInfo.{FieldInfo}
 use Rattle.ob_schema.specs.declared.info.OrderTerm.{OrderTerm}
-use Rattle.ob_schema.specs.declared.info.Origin.{Origin}
-use Rattle.ob_schema.specs.Built.{IsFieldOf, automatic_infos, terms_of}
+use Rattle.ob_schema.specs.Built.{IsFieldIn, IsFieldOf, automatic_infos, given_terms}
+use Rattle.ob_schema.specs.Definitions.{field_count}
 use Rattle.ob_schema.specs.Fields.{Holds}
 use Rattle.ob_schema.specs.Formulas.{number_of}
 use Rattle.ob_schema.specs.Models.{AreInOrder, IsOriginIn}
 use Rattle.ob_schema.specs.Orders.{Term}
-
--- a field with no key but its type
-abbrev pub bare_info : List ℕ → FieldType → Origin → Bool → FieldInfo
-bare_info name field_type origin managed = record { name = name; field_type = field_type; origin = origin; string = name; required = false; default = None; store = true; recursive = false; relation = None; inverse = None; mirror = None; ondelete = ondelete.SetNull; selection = []; groups = []; managed = managed; fixed = false; secret = false }
 
 -- what each value of the program has by its type: an integer fits 64 bits, and a text is UTF-8
 abbrev pub IsNative : Value → Type 0
@@ -36,8 +31,8 @@ abbrev pub numbered_term : ModelDef → Term → OrderTerm
 numbered_term def t = record { field = number_of def t.name; descending = t.descending }
 
 -- the terms of a model's order
-abbrev pub order_of : ModelDef → List OrderTerm
-order_of def = map (numbered_term def) (terms_of def.order)
+abbrev pub numbered_order : ModelDef → List OrderTerm
+numbered_order def = map (numbered_term def) (given_terms def.order)
 
 -- the declared fields in their order, and the automatic ones
 pub record AreUnsorted (defs : List ModelDef) (def : ModelDef) (infos : List FieldInfo) : Type 0 where
@@ -47,12 +42,13 @@ pub record AreUnsorted (defs : List ModelDef) (def : ModelDef) (infos : List Fie
   pub is : infos ≡ declared ++ automatic_infos
 
 -- the fields of a model, by name
-pub record AreFields (defs : List ModelDef) (def : ModelDef) (infos : List FieldInfo) : Type 0 where
+pub record AreSorted (defs : List ModelDef) (def : ModelDef) (infos : List FieldInfo) : Type 0 where
   pub declared : All (λ f. Any (IsFieldOf defs def f) infos) def.fields
   pub automatic : All (Contains infos) automatic_infos
-  pub count : length infos ≡ length def.fields + 3
-  pub few : length infos ≤ 256
-  pub short : All (λ info. length info.name ≤ 64) infos
+  pub only : All (IsFieldIn defs def) infos
+  pub count : length infos ≡ field_count def
+  pub few : length infos ≤ max_fields
+  pub short : All (λ info. length info.name ≤ max_name_bytes) infos
   pub ordered : AreInOrder (map (λ info. info.name) infos)
   pub formulas : All (λ info. IsOriginIn infos info info.origin) infos
   pub defaults : All HoldsDefault infos

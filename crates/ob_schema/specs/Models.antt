@@ -7,6 +7,7 @@ use Rattle.std.specs.Ordering.{nat_cmp}
 use Rattle.std.specs.Option.{option_map_or}
 use Rattle.std.specs.Str.{bytes_eq}
 use Rattle.std.specs.declared.cmp.Ordering.TheVariants.{Less}
+use Rattle.ob_base.specs.Limits.{max_fields, max_models, max_name_bytes}
 use Rattle.ob_base.specs.declared.id.FieldNo.{FieldNo}
 use Rattle.ob_base.specs.declared.id.ModelNo.{ModelNo}
 use Rattle.ob_expr.specs.Checking.{EachField, IsWellKinded, kind_of, typed_tree_of}
@@ -75,21 +76,21 @@ pub record IsFormulaIn (fields : List FieldInfo) (field : FieldInfo) (formula : 
 -- an id is an integer, and a computed field's formula is one of its model
 abbrev pub IsOriginIn : List FieldInfo → FieldInfo → Origin → Type 0
 IsOriginIn fields field origin.Id = field.field_type ≡ type.Integer
-IsOriginIn fields field origin.Plain = ⊤
 IsOriginIn fields field (origin.Computed formula) = IsFormulaIn fields field formula
+IsOriginIn fields field _ = ⊤
 
--- a model's fields are named in byte order, each name once and at most 64 bytes, 256 fields at most; the automatic fields are among them; formulas and defaults fit their fields
+-- a model's fields are named in byte order, each name once, within the limits of fields and names; the automatic fields are among them; formulas and defaults fit their fields
 pub record IsModel (model : ModelInfo) : Type 0 where
-  pub few : length model.fields ≤ 256
-  pub short : All (λ field. length field.name ≤ 64) model.fields
+  pub few : length model.fields ≤ max_fields
+  pub short : All (λ field. length field.name ≤ max_name_bytes) model.fields
   pub ordered : AreInOrder (map (λ field. field.name) model.fields)
   pub automatic : All (Contains model.fields) automatic_infos
   pub formulas : All (λ field. IsOriginIn model.fields field field.origin) model.fields
   pub defaults : All (λ field. IfSome field.default (Holds field)) model.fields
 
--- at most 512 models
+-- no more models than there may be
 pub record IsRegistry (models : List ModelInfo) : Type 0 where
-  pub few : length models ≤ 512
+  pub few : length models ≤ max_models
   pub each : All IsModel models
 
 -- the fields that rows of a model of this number keep

@@ -1,11 +1,12 @@
 -- The forms of names. Their bytes are those of names in expressions.
 use Rattle.std.specs.Prelude.{ℕ, ◌&&◌, ◌||◌, ◌==◌, nat_le, List, length, Bool}
 use Rattle.std.specs.List.{list_all}
+use Rattle.ob_base.specs.Limits.{max_name_bytes}
 use Rattle.ob_expr.specs.Lexemes.{begins_with_letter, is_name_byte}
 
--- a letter first, and at most 64 bytes
+-- a letter first, then bytes that pass the test, within the limit of a name
 abbrev pub is_named_by : (ℕ → Bool) → List ℕ → Bool
-is_named_by test name = begins_with_letter name && list_all test name && nat_le (length name) 64
+is_named_by test name = begins_with_letter name && list_all test name && nat_le (length name) max_name_bytes
 
 -- the name of a field: small letters, digits and underscores
 abbrev pub is_field_name : List ℕ → Bool

@@ -3,7 +3,7 @@ use Rattle.std.specs.Prelude.{◌≤◌, ℕ, List, length, map, All, Contains, 
 use Rattle.std.specs.Int.{w64}
 use Rattle.std.specs.Str.{IsUtf8}
 use Rattle.ob_base.specs.Ids.{IsId}
-use Rattle.ob_base.specs.Limits.{max_targets}
+use Rattle.ob_base.specs.Limits.{max_char_bytes, max_targets, max_text_bytes}
 use Rattle.ob_base.specs.Rising.{IsRising}
 use Rattle.ob_base.specs.Times.{IsDay, IsMoment}
 use Rattle.ob_base.specs.declared.id.RecId.{RecId}
@@ -24,7 +24,7 @@ keys_of choices = map (λ choice. choice.key) choices
 
 -- one of the keys, within the limit of a text of its kind
 pub record IsKey (choices : List Choice) (text : List ℕ) : Type 0 where
-  pub short : length text ≤ 8192
+  pub short : length text ≤ max_char_bytes
   pub declared : Contains (keys_of choices) text
 
 -- rows that a list may name: ids that rise
@@ -32,14 +32,14 @@ pub record IsTargets (ids : List RecId) : Type 0 where
   pub rising : IsRising ids
   pub within : All IsId ids
 
--- a value of the type, or unset where the type has it; a selection has one of the keys, a many2many at most 65,536 targets
+-- a value of the type, or unset where the type has it; a selection has one of the keys, a many2many no more targets than it may have
 abbrev pub IsValueOf : FieldType → List Choice → Value → Type 0
 IsValueOf type.Boolean choices (value.Bool b) = ⊤
 IsValueOf type.Integer choices (value.Int n) = FitsSigned w64 n
 IsValueOf type.Char choices value.Nil = ⊤
-IsValueOf type.Char choices (value.Word text) = IsText 8192 text
+IsValueOf type.Char choices (value.Word text) = IsText max_char_bytes text
 IsValueOf type.Text choices value.Nil = ⊤
-IsValueOf type.Text choices (value.Word text) = IsText 65536 text
+IsValueOf type.Text choices (value.Word text) = IsText max_text_bytes text
 IsValueOf type.Date choices value.Nil = ⊤
 IsValueOf type.Date choices (value.Day n) = IsDay n
 IsValueOf type.Datetime choices value.Nil = ⊤

@@ -6,9 +6,11 @@ ghost use Rattle.std.specs.Cmp.Lexicographic.{slice_cmp};
 ghost use Rattle.std.specs.List.{AllZip};
 ghost use Rattle.std.specs.List.Sorted.{IsPermutation, IsSortedByKey};
 ghost use Rattle.std.specs.Ordering.{nat_cmp};
-ghost use Rattle.ob_schema.specs.Built.{IsBuilt, IsFieldOf, IsModelOf, id_info, moment_info};
+ghost use Rattle.ob_base.specs.Limits.{max_fields};
+ghost use Rattle.ob_schema.specs.Definitions.{field_count};
+ghost use Rattle.ob_schema.specs.Built.{IsBuilt, IsFieldOf, IsModelOf, bare_info, id_info, moment_info};
 ghost use Rattle.ob_schema.specs.Faults.{IsFaultless};
-ghost use Rattle.ob_schema.specs.Making.{AreFields, AreUnsorted, HoldsDefault, bare_info, numbered_term, order_of};
+ghost use Rattle.ob_schema.specs.Making.{AreSorted, AreUnsorted, HoldsDefault, numbered_order, numbered_term};
 ghost use Rattle.ob_schema.specs.Models.{IsModel, IsRegistry};
 ghost use Rattle.ob_schema.specs.Orders.{terms_of};
 
@@ -57,8 +59,8 @@ fn model_info(alloc: Global, defs: &[ModelDef], def: &ModelDef) -> Result<ModelI
 
 /// The terms of a model's order.
 fn order_of(alloc: Global, def: &ModelDef) -> Result<Sequence<OrderTerm>, NoMemory>
-    requires { length def.now.fields ≤ 253 }
-    ensures { IfOk result (λ order. order ≡ order_of def.now) }
+    requires { field_count def.now ≤ max_fields }
+    ensures { IfOk result (λ order. order ≡ numbered_order def.now) }
 {
     match Order::read(alloc, &def.order) {
         Ok(Order::Terms(entries)) => numbered_terms(alloc, def, entries.as_slice()),
@@ -73,7 +75,7 @@ fn numbered_terms(
     def: &ModelDef,
     entries: &[OrderEntry<'_>],
 ) -> Result<Sequence<OrderTerm>, NoMemory>
-    requires { length def.now.fields ≤ 253 }
+    requires { field_count def.now ≤ max_fields }
     ensures { IfOk result (λ terms. terms ≡ map (numbered_term def.now) (terms_of entries.now)) }
 {
     let mut terms = Sequence::new(alloc);
@@ -94,7 +96,7 @@ fn fields_of(
 ) -> Result<Sequence<FieldInfo>, NoMemory>
     requires faultless { IsFaultless defs.now }
     requires among { Contains defs.now def.now }
-    ensures { IfOk result (AreFields defs.now def.now) }
+    ensures { IfOk result (AreSorted defs.now def.now) }
 {
     let fields = unsorted_fields(alloc, defs, def)?;
     let sorted = by_name(fields)?;

@@ -5,7 +5,7 @@ ghost use Rattle.std.specs.Prelude.{◌≡◌, ◌≤◌, suc, IfOk, count_by, f
 ghost use Rattle.std.specs.Cmp.Lexicographic.{slice_cmp};
 ghost use Rattle.std.specs.Ordering.{nat_cmp, is_lt};
 ghost use Rattle.ob_schema.specs.Capped.{capped, capped_field, capped_kind, capped_model};
-ghost use Rattle.ob_schema.specs.Definitions.{automatic_names, field_def, has_field, is_automatic, is_computed, is_text, model_def};
+ghost use Rattle.ob_schema.specs.Definitions.{automatic_names, field_def, has_field, is_automatic, is_computed, is_given_text, model_def};
 ghost use Rattle.ob_schema.specs.Formulas.{is_usable, kind_of_field, kind_of_type, model_number, number_of};
 
 use crate::definition::{FieldDef, ModelDef};
@@ -26,8 +26,8 @@ pub(crate) fn is_automatic(name: &str) -> bool
 }
 
 /// Whether a text is given, and is this one.
-pub(crate) fn is_text(given: &Option<Word>, text: &str) -> bool
-    ensures { result ≡ is_text given.now text.now }
+pub(crate) fn is_given_text(given: &Option<Word>, text: &str) -> bool
+    ensures { result ≡ is_given_text given.now text.now }
 {
     match given {
         Some(own) => own.as_str() == text,
@@ -39,7 +39,7 @@ pub(crate) fn is_text(given: &Option<Word>, text: &str) -> bool
 pub(crate) fn model_def<'a>(defs: &'a [ModelDef], name: &str) -> Option<&'a ModelDef>
     ensures { option_copied result ≡ model_def defs.now name.now }
 {
-    defs.iter().find(|def| is_text(&def.name, name))
+    defs.iter().find(|def| is_given_text(&def.name, name))
 }
 
 /// The first declared field of this name.
@@ -80,9 +80,9 @@ pub(crate) fn model_number(defs: &[ModelDef], name: &str) -> Option<ModelNo>
 
 /// The place of the first model of this name.
 fn model_place(defs: &[ModelDef], name: &str) -> Option<usize>
-    ensures { result ≡ position (λ def. is_text def.name name.now) defs.now }
+    ensures { result ≡ position (λ def. is_given_text def.name name.now) defs.now }
 {
-    defs.iter().position(|def| is_text(&def.name, name))
+    defs.iter().position(|def| is_given_text(&def.name, name))
 }
 
 /// The number of a name among the fields of a model.

@@ -3,7 +3,7 @@
 
 ghost use Rattle.std.specs.Prelude.{◌≡◌, ◌≤◌, ◌↔◌, ◌⊎◌, IfOk, IsSomeAnd, IsTrue, None, Some, false, length, not, slice_get};
 ghost use Rattle.std.specs.List.{list_any};
-ghost use Rattle.ob_schema.specs.Definitions.{has_field, is_text};
+ghost use Rattle.ob_schema.specs.Definitions.{has_field, is_given_text};
 ghost use Rattle.ob_schema.specs.Faults.{HasTerm, HasWrongKey, IsNamedBefore, IsPastLimit, NamesNoModel, is_unordered, is_unordered_field, is_unserved};
 ghost use Rattle.ob_schema.specs.Findings.{EntryHas, IsFirstWrong};
 ghost use Rattle.ob_schema.specs.Names.{is_model_name};
@@ -11,7 +11,7 @@ ghost use Rattle.ob_schema.specs.Orders.{order_terms};
 ghost use Rattle.ob_schema.specs.OrderEntries.{IsOrderOf};
 
 use crate::definition::{FieldDef, ModelDef};
-use crate::definitions::{field_def, has_field, is_automatic, is_text};
+use crate::definitions::{field_def, has_field, is_automatic, is_given_text};
 use crate::keys::{is_computed, is_set};
 use crate::names::is_model_name;
 use crate::orders::{OrderEntry, order_entries};
@@ -190,9 +190,9 @@ fn is_named_before(defs: &[ModelDef], entry: usize, def: &ModelDef) -> bool
 
 /// Whether a definition has the name.
 fn is_some_named(defs: &[ModelDef], name: &str) -> bool
-    ensures { result ≡ list_any (λ other. is_text other.name name.now) defs.now }
+    ensures { result ≡ list_any (λ other. is_given_text other.name name.now) defs.now }
 {
-    defs.iter().any(|other| is_text(&other.name, name))
+    defs.iter().any(|other| is_given_text(&other.name, name))
 }
 
 /// Whether an entry stands past the greatest number, has too many fields, or a key that

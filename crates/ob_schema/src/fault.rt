@@ -8,9 +8,9 @@ use ob_base::{NoMemory, Word};
 use ob_expr::ExprFault;
 use thiserror::Error;
 
-/// Where a definition is faulty: the entry's place in the list, from 0, and the field. The
-/// field is `check:NAME` for a check, `locked` for the expression of that name, and empty
-/// for the entry's other keys and the model as a whole.
+/// Where a definition is faulty: the entry's place in the list, from 0, and the field, which
+/// is empty for the entry's own keys and the model as a whole. Once checks and `locked` are
+/// served, it is `check:NAME` for a check and `locked` for that expression.
 #[derive(Debug, Drop)]
 pub struct Spot {
     pub entry: u32,
@@ -20,31 +20,34 @@ pub struct Spot {
 /// Why definitions make no registry.
 #[derive(Debug, Drop, Error)]
 pub enum SchemaFault {
-    /// A model is named that nobody declares, or an entry names none.
+    /// A relation is to a model that nobody declares, or an entry names no model.
     #[error("unknown model")]
     Model(Spot),
-    /// A field is named that the model doesn't have, or that may not be used there.
+    /// An order, an inverse, an expression or a declared path names no field that may be used
+    /// there.
     #[error("unknown field")]
     Field(Spot),
-    /// An expression, a default or another key is of the wrong kind.
+    /// A name, an order or a key is of another form, the keys don't fit one another, or an
+    /// expression is of another kind.
     #[error("wrong kind")]
     Kind(Spot),
-    /// The name is taken by an earlier definition.
+    /// The name is an earlier entry's, an automatic field's or another field's.
     #[error("declared twice")]
     Twice(Spot),
-    /// Computed fields read one another in a circle.
+    /// Computed fields read one another in a circle. Not told so far.
     #[error("cycle")]
     Cycle(Spot),
-    /// A field reads itself through its tree and doesn't say so.
+    /// A field reads itself through its tree and doesn't say so. Not told so far.
     #[error("not marked recursive")]
     Recursion(Spot),
-    /// A path reads what no declared path has, or what can't be read.
+    /// The expression reads a field that no declared path covers, or a computed one; or a
+    /// declared path names a computed one.
     #[error("wrong path")]
     Path(Spot),
-    /// The inverse or mirror isn't the field back.
+    /// The inverse isn't the plain many2one back.
     #[error("wrong inverse")]
     Inverse(Spot),
-    /// A parent can't be inherited from.
+    /// A parent can't be inherited from. Not told so far.
     #[error("wrong parent")]
     Inherits(Spot),
     /// More than the limits allow, or not served yet.
@@ -56,6 +59,21 @@ pub enum SchemaFault {
     /// An allocation failed.
     #[error("no memory")]
     NoMemory,
+}
+
+impl SchemaFault {
+    ghost use Rattle.std.specs.Prelude.{ℕ, List};
+    ghost use Rattle.ob_expr.specs.Grammar.{Tree};
+    ghost use Rattle.ob_expr.specs.declared.parser.ExprFault.{ExprFault};
+    ghost use Rattle.ob_schema.specs.Faults.{IsTextFault};
+    ghost use Rattle.ob_schema.specs.Formulas.{IsExpression};
+
+    /// A law for the crates above: a text that is an expression has no fault as one. It does
+    /// nothing.
+    pub fn no_expression_has_one()
+        ensures { (text : List ℕ) (tree : Tree) (why : ExprFault)
+            → IsExpression text tree → IsTextFault text why → ⊥ }
+    {}
 }
 
 impl From<NoMemory> for SchemaFault {

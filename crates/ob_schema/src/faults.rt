@@ -3,6 +3,8 @@
 //! which of them comes first.
 
 ghost use Rattle.std.specs.Prelude.{◌≡◌, ◌<◌, ◌≤◌, ◌⊎◌, ◌↔◌, [], IfOk, IsTrue, MatchOption, Some, false, length, option_map, slice_get, true};
+ghost use Rattle.ob_base.specs.Limits.{max_fields, max_models};
+ghost use Rattle.ob_schema.specs.Definitions.{field_count};
 ghost use Rattle.ob_schema.specs.declared.definition.ModelDef.{ModelDef};
 ghost use Rattle.ob_schema.specs.declared.wrong.Wrong.{Wrong};
 ghost use Rattle.ob_schema.specs.Faults.{IsFaultless, IsFirst, rank, rank_order};
@@ -40,7 +42,7 @@ fn first_in_entry(
     entry: usize,
 ) -> Result<Option<SchemaFault>, NoMemory>
     requires within { entry < length defs.now }
-    requires low { entry ≤ 512 }
+    requires low { entry ≤ max_models }
     ensures { IfOk result (IsLeast (IsFaultIn defs.now entry)) }
 {
     let def = &defs[entry];
@@ -62,13 +64,13 @@ fn least_of_fields(
     mut least: Option<SchemaFault>,
 ) -> Result<Option<SchemaFault>, NoMemory>
     requires within { entry < length defs.now }
-    requires low { entry ≤ 512 }
+    requires low { entry ≤ max_models }
     requires few { (def : ModelDef) → slice_get defs.now entry ≡ Some def
-        → is_whole ≡ true → length def.fields ≤ 253 }
+        → is_whole ≡ true → field_count def ≤ max_fields }
     requires own { (def : ModelDef) → slice_get defs.now entry ≡ Some def
         → is_whole ≡ false → (what : Wrong) × EntryHas defs.now entry def what }
     requires numbers { (def : ModelDef) → slice_get defs.now entry ≡ Some def
-        → length def.fields ≤ 253 → computed.now ≡ computed_numbers def }
+        → field_count def ≤ max_fields → computed.now ≡ computed_numbers def }
     requires least { (def : ModelDef) → slice_get defs.now entry ≡ Some def
         → IsLeast (IsEntryFault defs.now entry def) least }
     ensures { IfOk result (IsLeast (IsFaultIn defs.now entry)) }
@@ -99,9 +101,9 @@ fn field_fault(
     field: &FieldDef,
     computed: &[FieldNo],
 ) -> Result<Option<SchemaFault>, NoMemory>
-    requires low { entry ≤ 512 }
-    requires few { (length def.now.fields ≤ 253) ⊎ (field.now.name ≡ []) }
-    requires numbers { length def.now.fields ≤ 253 → computed.now ≡ computed_numbers def.now }
+    requires low { entry ≤ max_models }
+    requires few { (field_count def.now ≤ max_fields) ⊎ (field.now.name ≡ []) }
+    requires numbers { field_count def.now ≤ max_fields → computed.now ≡ computed_numbers def.now }
     ensures { IfOk result (IsLeast (IsFieldFault defs.now entry def.now field.now)) }
 {
     let first = first_of_field(alloc, defs, def, field, computed)?;
@@ -115,7 +117,7 @@ fn fault_of(
     field: &str,
     first: Option<Wrong>,
 ) -> Result<Option<SchemaFault>, NoMemory>
-    requires { entry ≤ 512 }
+    requires { entry ≤ max_models }
     ensures { IfOk result (λ fault. fault ≡ option_map
         (λ what. fault_at what (record { entry = entry; field = field.now })) first) }
 {
@@ -132,7 +134,7 @@ fn fault_of(
 /// The numbers of a model's computed fields, where it isn't past the limit of fields.
 fn numbers_of_few(alloc: Global, def: &ModelDef) -> Result<Vec<FieldNo>, NoMemory>
     ensures { IfOk result
-        (λ numbers. length def.now.fields ≤ 253 → numbers.items ≡ computed_numbers def.now) }
+        (λ numbers. field_count def.now ≤ max_fields → numbers.items ≡ computed_numbers def.now) }
 {
     if def.fields.len() > MAX_DECLARED {
         return Ok(Vec::new(alloc));
@@ -169,7 +171,7 @@ fn rank_cmp(a: &SchemaFault, b: &SchemaFault) -> Ordering
         .then(variant.cmp(&other_variant))
 }
 
-/// Where a fault is, and its place among the variants.
+/// Where a fault is, and its place among the variants. A fault that isn't told yet comes last.
 fn rank_of(fault: &SchemaFault) -> (u32, &str, u8)
     ensures { rank fault.now
         ≡ record { entry = result.0; field = result.1.now; variant = result.2 } }
@@ -179,14 +181,11 @@ fn rank_of(fault: &SchemaFault) -> (u32, &str, u8)
         SchemaFault::Field(spot) => (spot, 1),
         SchemaFault::Kind(spot) => (spot, 2),
         SchemaFault::Twice(spot) => (spot, 3),
-        SchemaFault::Cycle(spot) => (spot, 4),
-        SchemaFault::Recursion(spot) => (spot, 5),
         SchemaFault::Path(spot) => (spot, 6),
         SchemaFault::Inverse(spot) => (spot, 7),
-        SchemaFault::Inherits(spot) => (spot, 8),
         SchemaFault::Limit(spot) => (spot, 9),
         SchemaFault::Text(spot, _) => (spot, 10),
-        SchemaFault::NoMemory => return (0, "", 11),
+        _ => return (0, "", 11),
     };
     (spot.entry, spot.field.as_str(), variant)
 }

@@ -1,11 +1,13 @@
 //! A field of the registry from its definition. A new key of the module format gets its
 //! meaning here, and in `specs/Built`.
 
-ghost use Rattle.std.specs.Prelude.{◌≡◌, ◌≤◌, ◌∷◌, [], Contains, IfOk, IfSome, IsSome, true, length, map, option_and_then, unwrap_or};
+ghost use Rattle.std.specs.Prelude.{◌≡◌, ◌≤◌, ◌∷◌, [], All, Contains, IfOk, Some, IfSome, IsSome, true, length, map, option_and_then, unwrap_or};
+ghost use Rattle.ob_base.specs.Limits.{max_fields, max_models};
 ghost use Rattle.ob_schema.specs.Built.{IsFieldOf, IsOrigin, inverse_number, is_stored};
 ghost use Rattle.ob_schema.specs.Faults.{HasTyped, IsFaultless};
 ghost use Rattle.ob_expr.specs.Checking.{typed_tree_of};
-ghost use Rattle.ob_schema.specs.Formulas.{model_number, number_of};
+ghost use Rattle.ob_schema.specs.Definitions.{field_count, has_field};
+ghost use Rattle.ob_schema.specs.Formulas.{model_number, steps_of};
 ghost use Rattle.ob_schema.specs.Keys.{default_fits};
 ghost use Rattle.ob_schema.specs.Making.{HoldsDefault, IsNative};
 ghost use Rattle.ob_schema.specs.Values.{IsValueOf};
@@ -95,11 +97,12 @@ fn typed_of(
     }
 }
 
-/// The paths of one step of these names.
+/// The steps of these paths, each of which is the name of a field.
 fn paths_of(alloc: Global, def: &ModelDef, names: &[Word]) -> Result<Sequence<Path>, NoMemory>
-    requires { length def.now.fields ≤ 253 }
-    ensures { IfOk result (λ paths. map (λ path. path.steps) paths
-        ≡ map (λ number. number ∷ []) (map (number_of def.now) names.now)) }
+    requires few { field_count def.now ≤ max_fields }
+    requires fields { All (λ name. has_field def.now name ≡ true) names.now }
+    ensures { IfOk result
+        (λ paths. map (λ path. Some path.steps) paths ≡ map (steps_of def.now) names.now) }
 {
     let mut paths = Sequence::new(alloc);
     for name in names {
@@ -164,7 +167,7 @@ fn is_stored(field: &FieldDef) -> bool
 
 /// The number of the relation's model.
 fn relation_number(defs: &[ModelDef], field: &FieldDef) -> Option<ModelNo>
-    requires { length defs.now ≤ 512 }
+    requires { length defs.now ≤ max_models }
     ensures { result ≡ option_and_then (model_number defs.now) field.now.relation }
 {
     match &field.relation {

@@ -4,18 +4,19 @@
 ghost use Rattle.std.specs.Prelude.{ℕ, ◌≡◌, ◌<◌, ◌≤◌, ◌↔◌, ◌⊎◌, ◌&&◌, ◌==◌, List, [], Any, Contains, IfOk, IsSomeAnd, IsTrue, MatchOption, count_by, length, map, not, option_copied, true, unwrap_or};
 ghost use Rattle.std.specs.List.{list_any};
 ghost use Rattle.std.specs.Str.{bytes_eq};
+ghost use Rattle.ob_base.specs.Limits.{max_expression_bytes, max_fields};
 ghost use Rattle.ob_schema.specs.Capped.{capped};
 ghost use Rattle.ob_expr.specs.Checking.{typed_tree_of};
 ghost use Rattle.ob_expr.specs.declared.parser.ExprFault.{ExprFault};
 ghost use Rattle.ob_schema.specs.declared.definition.ModelDef.{ModelDef};
-ghost use Rattle.ob_schema.specs.Definitions.{field_def, is_automatic};
-ghost use Rattle.ob_schema.specs.Faults.{HasTooMuch, HasUnknownInverse, HasUnknownRelation, HasWrongInverse, HasWrongKeys, HasWrongKind, IsDeclaredTwice, IsInverse, NamesNoField, is_dotted, leads_back};
-ghost use Rattle.ob_schema.specs.Findings.{DependsOnComputed, DependsOnNoField, FieldHas, IsFinding, IsFirstWrong, IsMisread, IsNoneBelow, IsOfWrongKind, ReadsWrongly};
-ghost use Rattle.ob_schema.specs.Formulas.{computed_numbers, fields_read, names_computed, number_of};
+ghost use Rattle.ob_schema.specs.Definitions.{field_count, field_def, has_field, is_automatic};
+ghost use Rattle.ob_schema.specs.Faults.{HasTooMuch, HasUnknownInverse, HasUnknownRelation, HasWrongInverse, HasWrongKeys, HasWrongKind, IsDeclaredTwice, IsInverse, IsMisread, NamesNoField, is_dotted, leads_back};
+ghost use Rattle.ob_schema.specs.Findings.{DependsOnComputed, DependsOnNoField, FieldHas, IsFinding, IsFirstWrong, IsNoneBelow, IsOfWrongKind, ReadsWrongly};
+ghost use Rattle.ob_schema.specs.Formulas.{IsCovered, computed_numbers, depends_of, fields_read, names_computed, number_of};
 
 use crate::definition::{FieldDef, ModelDef};
 use crate::definitions::{
-    field_def, has_field, is_automatic, is_text, kind_of_type, model_def, number_of,
+    field_def, has_field, is_automatic, is_given_text, kind_of_type, model_def, number_of,
 };
 use crate::finding::{Finding, examine};
 use crate::keys::{fits, is_computed};
@@ -35,8 +36,8 @@ pub(crate) fn first_of_field(
     field: &FieldDef,
     computed: &[FieldNo],
 ) -> Result<Option<Wrong>, NoMemory>
-    requires few { (length def.now.fields ≤ 253) ⊎ (field.now.name ≡ []) }
-    requires numbers { length def.now.fields ≤ 253 → computed.now ≡ computed_numbers def.now }
+    requires few { (field_count def.now ≤ max_fields) ⊎ (field.now.name ≡ []) }
+    requires numbers { field_count def.now ≤ max_fields → computed.now ≡ computed_numbers def.now }
     ensures { IfOk result (IsFirstWrong (FieldHas defs.now def.now field.now)) }
 {
     let finding = examine(alloc, defs, def, field)?;
@@ -78,7 +79,7 @@ fn later_of_field(
     finding: Finding,
     computed: &[FieldNo],
 ) -> Option<Wrong>
-    requires few { length def.now.fields ≤ 253 }
+    requires few { field_count def.now ≤ max_fields }
     requires numbers { computed.now ≡ computed_numbers def.now }
     requires finding { IsFinding defs.now def.now field.now finding }
     requires earlier { IsNoneBelow (FieldHas defs.now def.now field.now) 3 }
@@ -164,7 +165,7 @@ fn depends_on_no_field(def: &ModelDef, field: &FieldDef) -> bool
 
 /// The paths on which the field says it depends.
 pub(crate) fn depends(field: &FieldDef) -> &[Word]
-    ensures { result.now ≡ unwrap_or field.now.depends [] }
+    ensures { result.now ≡ depends_of field.now }
 {
     match &field.depends {
         Some(paths) => paths.as_slice(),
@@ -233,7 +234,7 @@ fn named(def: &ModelDef, name: &str) -> usize
 
 /// Whether the field reads or depends on what it may not.
 fn has_wrong_path(def: &ModelDef, field: &FieldDef, finding: &Finding, computed: &[FieldNo]) -> bool
-    requires few { length def.now.fields ≤ 253 }
+    requires few { field_count def.now ≤ max_fields }
     requires numbers { computed.now ≡ computed_numbers def.now }
     ensures { IsTrue result
         ↔ (ReadsWrongly def.now field.now finding.now ⊎ DependsOnComputed def.now field.now) }
@@ -248,7 +249,7 @@ fn has_wrong_reads(
     finding: &Finding,
     computed: &[FieldNo],
 ) -> bool
-    requires few { length def.now.fields ≤ 253 }
+    requires few { field_count def.now ≤ max_fields }
     requires numbers { computed.now ≡ computed_numbers def.now }
     ensures { IsTrue result ↔ ReadsWrongly def.now field.now finding.now }
 {
@@ -258,11 +259,12 @@ fn has_wrong_reads(
     }
 }
 
-/// Whether an expression reads a computed field, or one that isn't among these paths.
+/// Whether an expression reads a field that none of these paths covers, or a computed one.
 fn reads_wrongly(typed: &Typed, def: &ModelDef, paths: &[Word], computed: &[FieldNo]) -> bool
-    requires { length def.now.fields ≤ 253 }
-    ensures { IsTrue result ↔ Any (IsMisread def.now paths.now computed.now)
-        (fields_read (typed_tree_of typed.now)) }
+    requires few { field_count def.now ≤ max_fields }
+    requires numbers { computed.now ≡ computed_numbers def.now }
+    ensures { IsTrue result
+        ↔ Any (IsMisread def.now paths.now) (fields_read (typed_tree_of typed.now)) }
 {
     match typed {
         Typed::Field(number, _) => is_misread(*number, def, paths, computed),
@@ -272,30 +274,39 @@ fn reads_wrongly(typed: &Typed, def: &ModelDef, paths: &[Word], computed: &[Fiel
     }
 }
 
-/// Whether a number is a computed field's, or that of none of these paths.
+/// Whether none of these paths covers a field, or it is computed.
 fn is_misread(number: FieldNo, def: &ModelDef, paths: &[Word], computed: &[FieldNo]) -> bool
-    requires { length def.now.fields ≤ 253 }
-    ensures { IsTrue result ↔ IsMisread def.now paths.now computed.now number }
+    requires few { field_count def.now ≤ max_fields }
+    requires numbers { computed.now ≡ computed_numbers def.now }
+    ensures { IsTrue result ↔ IsMisread def.now paths.now number }
 {
-    is_off_paths(number, def, paths) || is_number_among(number, computed)
+    is_uncovered(number, def, paths) || is_number_among(number, computed)
 }
 
-/// Whether a number is that of none of these paths.
-fn is_off_paths(number: FieldNo, def: &ModelDef, paths: &[Word]) -> bool
-    requires { length def.now.fields ≤ 253 }
-    ensures { IsTrue result ↔ (Contains (map (number_of def.now) paths.now) number → ⊥) }
+/// Whether none of these paths covers a field.
+fn is_uncovered(number: FieldNo, def: &ModelDef, paths: &[Word]) -> bool
+    requires { field_count def.now ≤ max_fields }
+    ensures { IsTrue result ↔ (IsCovered def.now paths.now number → ⊥) }
 {
-    !is_of_path(number, def, paths)
+    !is_covered(number, def, paths)
 }
 
-/// Whether a number is that of one of these paths.
-fn is_of_path(number: FieldNo, def: &ModelDef, paths: &[Word]) -> bool
-    ensures { result
-        ≡ list_any (λ path. capped (number_of def.now path).0 == number.0) paths.now }
+/// Whether one of these paths covers a field.
+fn is_covered(number: FieldNo, def: &ModelDef, paths: &[Word]) -> bool
+    ensures { result ≡ list_any
+        (λ path. has_field def.now path && (capped (number_of def.now path).0 == number.0)) paths.now }
 {
     paths
         .iter()
-        .any(|path| number_of(def, path.as_str()).0 == number.0)
+        .any(|path| leads_to(def, path.as_str(), number))
+}
+
+/// Whether a path is the name of a field, and of this one.
+fn leads_to(def: &ModelDef, path: &str, number: FieldNo) -> bool
+    ensures { result
+        ≡ (has_field def.now path.now && (capped (number_of def.now path.now).0 == number.0)) }
+{
+    has_field(def, path) && number_of(def, path).0 == number.0
 }
 
 /// Whether a number is one of these.
@@ -357,7 +368,7 @@ fn leads_back(def: &ModelDef, back: Option<&FieldDef>) -> bool
         return false;
     };
     let leads = match &back.relation {
-        Some(relation) => is_text(&def.name, relation.as_str()),
+        Some(relation) => is_given_text(&def.name, relation.as_str()),
         None => false,
     };
     back.field_type.is_many2one() && !is_computed(back) && leads
@@ -375,7 +386,7 @@ fn has_too_much(field: &FieldDef) -> bool
 
 /// Whether the expression is past its limit.
 fn has_long_text(field: &FieldDef) -> bool
-    ensures { IsTrue result ↔ IsSomeAnd field.now.compute (λ text. 4096 < length text) }
+    ensures { IsTrue result ↔ IsSomeAnd field.now.compute (λ text. max_expression_bytes < length text) }
 {
     match &field.compute {
         Some(text) => text.len() > MAX_EXPRESSION_BYTES,
@@ -385,7 +396,7 @@ fn has_long_text(field: &FieldDef) -> bool
 
 /// Whether the field depends on a path of two steps or more.
 fn has_dotted_path(field: &FieldDef) -> bool
-    ensures { IsTrue result ↔ Any (λ path. is_dotted path ≡ true) (unwrap_or field.now.depends []) }
+    ensures { IsTrue result ↔ Any (λ path. is_dotted path ≡ true) (depends_of field.now) }
 {
     depends(field).iter().any(|path| is_dotted(path.as_str()))
 }

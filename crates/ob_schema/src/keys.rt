@@ -5,7 +5,7 @@ ghost use Rattle.std.specs.Prelude.{◌≡◌};
 ghost use Rattle.std.specs.List.{list_any};
 ghost use Rattle.std.specs.Str.{bytes_eq};
 ghost use Rattle.ob_schema.specs.Definitions.{is_computed, is_set};
-ghost use Rattle.ob_schema.specs.Keys.{computed_fits, default_fits, fits, has_key, is_constant, ondelete_fits, plain_fits, relation_fits};
+ghost use Rattle.ob_schema.specs.Keys.{computed_fits, default_fits, fits, has_choice_key, is_constant, ondelete_fits, plain_fits, relation_fits};
 
 use crate::definition::FieldDef;
 use crate::field_type::{Choice, FieldType};
@@ -103,7 +103,7 @@ fn is_constant(field: &FieldDef, value: &Value) -> bool
             MIN_MOMENT <= *moment && *moment <= MAX_MOMENT
         }
         (FieldType::Selection, Value::Word(text)) => {
-            text.len() <= MAX_CHAR_BYTES && has_key(field, text.as_str())
+            text.len() <= MAX_CHAR_BYTES && has_choice_key(field, text.as_str())
         }
         _ => false,
     }
@@ -111,8 +111,8 @@ fn is_constant(field: &FieldDef, value: &Value) -> bool
 
 /// Whether a text is one of the field's keys.
 #[tactic(auto, using(crate::proofs::ListTests::any_key))]
-fn has_key(field: &FieldDef, text: &str) -> bool
-    ensures { result ≡ has_key field.now.selection text.now }
+fn has_choice_key(field: &FieldDef, text: &str) -> bool
+    ensures { result ≡ has_choice_key field.now.selection text.now }
 {
     match &field.selection {
         Some(choices) => is_one_of(choices.as_slice(), text),

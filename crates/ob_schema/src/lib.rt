@@ -1,8 +1,8 @@
 //! Models as definitions: what a module's text declares, and the registry that is
 //! built from it, with every name resolved. So far a model's fields are plain, or
-//! computed over plain fields of their own row. Its contract: `build` accepts exactly
-//! the stated definitions, else it names the first fault in the stated order, and each
-//! look-up is that of the list of models.
+//! computed over plain fields of their own row. Its contract: `build` accepts only
+//! definitions without a fault, else it names their first fault in the stated order, where
+//! memory suffices; and each look-up is that of the list of models.
 //!
 //! Rooms: `field_type` (the types of fields and what they may hold), `definition` (what
 //! is declared, a field for each key of a module file), `info` (the same with names
@@ -32,8 +32,6 @@ mod orders;
 mod schema;
 #[cfg(test)]
 mod tests;
-#[cfg(test)]
-mod tests_build;
 mod wrong;
 
 pub use definition::{Check, FieldDef, Inherits, ModelDef};

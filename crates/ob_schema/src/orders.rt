@@ -1,9 +1,9 @@
-//! The text of an order, such as `name, id desc`, read in one pass. A direction that an
+//! The text of an order, such as `name, id desc`, read from the front. A direction that an
 //! entry may have is added in `specs/Orders` and here.
 
 ghost use Rattle.std.specs.Prelude.{◌≡◌, ◌∷◌, [], ◌≤◌, IfOk, MatchOption, length, not, option_map};
 ghost use Rattle.std.specs.List.{prefix_len};
-ghost use Rattle.ob_schema.specs.Orders.{direction, is_blank, order_terms, term_of, term_of_entry, terms_of, words};
+ghost use Rattle.ob_schema.specs.Orders.{direction, is_space_or_tab, order_terms, term_of, term_of_entry, terms_of, words};
 
 use ob_base::{NoMemory, Sequence};
 use std::alloc::Global;
@@ -65,14 +65,14 @@ fn direction(word: &str) -> Option<bool>
     }
 }
 
-/// The first word, and what stands behind it; none where there are only blanks.
+/// The first word, and what stands behind it; none where there are only spaces and tabs.
 fn next_word(text: &str) -> Option<(&str, &str)>
     ensures { MatchOption result
         (words text.now ≡ [])
         (λ parts. words text.now ≡ parts.0.now ∷ words parts.1.now) }
 {
     let bytes = text.as_bytes();
-    let start = blank_len(bytes);
+    let start = space_len(bytes);
     if start == text.len() {
         return None;
     }
@@ -80,24 +80,30 @@ fn next_word(text: &str) -> Option<(&str, &str)>
     Some((&text[start..end], &text[end..]))
 }
 
-/// How many blanks stand at the front.
-fn blank_len(bytes: &[u8]) -> usize
-    ensures len { result ≡ prefix_len is_blank bytes.now }
+/// How many spaces and tabs stand at the front.
+fn space_len(bytes: &[u8]) -> usize
+    ensures len { result ≡ prefix_len is_space_or_tab bytes.now }
     ensures within { result ≤ length bytes.now }
 {
-    bytes.iter().take_while(|byte| is_blank(**byte)).count()
+    bytes
+        .iter()
+        .take_while(|byte| is_space_or_tab(**byte))
+        .count()
 }
 
 /// How many bytes of a word stand at the front.
 fn word_len(bytes: &[u8]) -> usize
-    ensures len { result ≡ prefix_len (λ b. not (is_blank b)) bytes.now }
+    ensures len { result ≡ prefix_len (λ b. not (is_space_or_tab b)) bytes.now }
     ensures within { result ≤ length bytes.now }
 {
-    bytes.iter().take_while(|byte| !is_blank(**byte)).count()
+    bytes
+        .iter()
+        .take_while(|byte| !is_space_or_tab(**byte))
+        .count()
 }
 
-fn is_blank(byte: u8) -> bool
-    ensures { result ≡ is_blank byte }
+fn is_space_or_tab(byte: u8) -> bool
+    ensures { result ≡ is_space_or_tab byte }
 {
     matches!(byte, b' ' | b'\t')
 }

@@ -2,6 +2,7 @@
 //! index by name may be changed here at will.
 
 ghost use Rattle.std.specs.Prelude.{◌≡◌, ◌≤◌, All, IfOk, IfSome, option_map, Some, length, map};
+ghost use Rattle.ob_base.specs.Limits.{max_fields, max_models, max_name_bytes};
 ghost use Rattle.ob_schema.specs.Models.{AreInOrder, HasField, HasModel, IsModel, IsRegistry, field_at, field_named, model_at, model_named, numbered};
 ghost use Rattle.ob_schema.specs.NameIndex.{IsIndexOf};
 
@@ -99,8 +100,8 @@ impl Schema {
         requires { HasModel self.now model }
         ensures same { option_map (λ info. info.fields) (model_at self.now model)
             ≡ Some result.now }
-        ensures few { length result.now ≤ 256 }
-        ensures short { All (λ field. length field.name ≤ 64) result.now }
+        ensures few { length result.now ≤ max_fields }
+        ensures short { All (λ field. length field.name ≤ max_name_bytes) result.now }
     {
         self.models.as_slice()[model.0 as usize - 1]
             .fields
@@ -125,7 +126,7 @@ fn numbered<T>(items: &[T], number: u16) -> Option<&T>
 
 /// The number of the first model of each name.
 fn index_of(alloc: Global, models: &[ModelInfo]) -> Result<BTreeMap<String, ModelNo>, NoMemory>
-    requires { length models.now ≤ 512 }
+    requires { length models.now ≤ max_models }
     ensures { IfOk result (λ index. IsIndexOf index models.now) }
 {
     let mut index = BTreeMap::new(alloc);
@@ -140,7 +141,7 @@ fn index_of(alloc: Global, models: &[ModelInfo]) -> Result<BTreeMap<String, Mode
 
 /// The number of the field of a name, among fields in byte order of their names.
 fn field_number(fields: &[FieldInfo], name: &str) -> Option<FieldNo>
-    requires few { length fields.now ≤ 256 }
+    requires few { length fields.now ≤ max_fields }
     requires ordered { AreInOrder (map (λ field. field.name) fields.now) }
     ensures { result ≡ field_named fields.now name.now }
 {

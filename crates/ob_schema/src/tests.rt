@@ -1,75 +1,232 @@
-//! Names and orders, with values from the documented forms.
+//! A registry with each of its look-ups, and what stands against definitions, a case a line.
+//! Expected values are worked by hand from the documented forms.
 
-use crate::names::{is_field_name, is_model_name};
-use crate::orders::order_entries;
-use ob_base::NoMemory;
+use crate::{FieldDef, FieldType, ModelDef, OrderTerm, Schema, SchemaFault, Spot};
+use ob_base::{FieldNo, ModelNo, NoMemory, Sequence, Word};
 use std::alloc::Global;
 use std::test::Fail;
 
-const NAME_OF_64_BYTES: &str = "a123456789_123456789_123456789_123456789_123456789_123456789_123";
+/// A field beside `name`, `qty` and `price`: its name, expression, declared paths, relation
+/// and inverse, and what a build of the model tells.
+const CASES: &str = "
+    total | qty * price | qty price         |           |      | none
+    total | price       | order_id.qty      |           |      | 0/total: wrong path
+    total | price       | price order_id.qty |          |      | 0/total: past a limit
+    total | qty * cost  | qty               |           |      | 0/total: unknown field
+    total | qty * name  | qty name          |           |      | 0/total: wrong kind
+    total | qty *       | qty               |           |      | 0/total: wrong expression
+    name  |             |                   |           |      | 0/name: declared twice
+    owner |             |                   | demo.none |      | 0/owner: unknown model
+    lines |             |                   | demo.line | name | 0/lines: wrong inverse
+";
 
-const NAME_OF_65_BYTES: &str = "a123456789_123456789_123456789_123456789_123456789_123456789_1234";
+/// A key that is given where its text isn't empty.
+fn key(alloc: Global, text: &str) -> Result<Option<Word>, NoMemory> {
+    if text.is_empty() {
+        return Ok(None);
+    }
+    Ok(Some(Word::from_text(alloc, text)?))
+}
 
-#[test]
-fn names(rt: HostRuntime) {
-    // A text, and whether it is a field's name and a model's.
-    let table = [
-        ("", false, false),
-        ("a", true, true),
-        ("create_date", true, true),
-        ("x2_", true, true),
-        ("res.partner", false, true),
-        ("9a", false, false),
-        ("_a", false, false),
-        (".a", false, false),
-        ("Name", false, false),
-        ("naMe", false, false),
-        ("a-b", false, false),
-        ("a b", false, false),
-        ("prénom", false, false),
-        (NAME_OF_64_BYTES, true, true),
-        (NAME_OF_65_BYTES, false, false),
-    ];
-    for (text, of_field, of_model) in table {
-        assert_eq!(rt; is_field_name(text), of_field, "{text}");
-        assert_eq!(rt; is_model_name(text), of_model, "{text}");
+fn plain_field(alloc: Global, name: &str, field_type: FieldType) -> Result<FieldDef, NoMemory> {
+    Ok(FieldDef {
+        name: Word::from_text(alloc, name)?,
+        field_type,
+        string: None,
+        required: None,
+        default: None,
+        compute: None,
+        depends: None,
+        store: None,
+        recursive: None,
+        related: None,
+        relation: None,
+        inverse: None,
+        mirror: None,
+        ondelete: None,
+        selection: None,
+        groups: None,
+        managed: None,
+        fixed: None,
+        secret: None,
+    })
+}
+
+/// A stored integer with an expression, and its declared paths with spaces between them.
+fn computed_field(
+    alloc: Global,
+    name: &str,
+    compute: &str,
+    depends: &str,
+) -> Result<FieldDef, NoMemory> {
+    let mut paths = Sequence::new(alloc);
+    for path in depends.split_whitespace() {
+        paths.push(Word::from_text(alloc, path)?)?;
+    }
+    Ok(FieldDef {
+        compute: key(alloc, compute)?,
+        depends: Some(paths),
+        store: Some(true),
+        ..plain_field(alloc, name, FieldType::Integer)?
+    })
+}
+
+/// A many2one, or a one2many where there is an inverse.
+fn relation_field(
+    alloc: Global,
+    name: &str,
+    relation: &str,
+    inverse: &str,
+) -> Result<FieldDef, NoMemory> {
+    let field_type = if inverse.is_empty() {
+        FieldType::Many2one
+    } else {
+        FieldType::One2many
+    };
+    Ok(FieldDef {
+        relation: key(alloc, relation)?,
+        inverse: key(alloc, inverse)?,
+        ..plain_field(alloc, name, field_type)?
+    })
+}
+
+/// `demo.line` with `name`, `qty`, `price` and one field more.
+fn line_model(alloc: Global, field: FieldDef) -> Result<ModelDef, NoMemory> {
+    let mut fields = Sequence::new(alloc);
+    fields.push(plain_field(alloc, "qty", FieldType::Integer)?)?;
+    fields.push(plain_field(alloc, "name", FieldType::Char)?)?;
+    fields.push(plain_field(alloc, "price", FieldType::Integer)?)?;
+    fields.push(field)?;
+    Ok(ModelDef {
+        name: key(alloc, "demo.line")?,
+        inherit: None,
+        inherits: Sequence::new(alloc),
+        order: key(alloc, "qty DESC, name")?,
+        parent: None,
+        unique: Sequence::new(alloc),
+        checks: Sequence::new(alloc),
+        locked: None,
+        managed: None,
+        fields,
+    })
+}
+
+fn spot(fault: &SchemaFault) -> Option<&Spot> {
+    match fault {
+        SchemaFault::Model(spot)
+        | SchemaFault::Field(spot)
+        | SchemaFault::Kind(spot)
+        | SchemaFault::Twice(spot)
+        | SchemaFault::Path(spot)
+        | SchemaFault::Inverse(spot)
+        | SchemaFault::Limit(spot)
+        | SchemaFault::Text(spot, _) => Some(spot),
+        _ => None,
     }
 }
 
-/// How many entries an order has, and the last of them; none where it has another form.
-fn last_entry(alloc: Global, text: &str) -> Result<Option<(usize, &str, bool)>, NoMemory> {
-    let entries = match order_entries(alloc, text)? {
-        Some(entries) => entries,
-        None => return Ok(None),
+/// The entry, the field and the text of the first fault, or `none`.
+fn told(alloc: Global, defs: &[ModelDef]) -> Result<String, Fail> {
+    let fault = match Schema::build(alloc, defs) {
+        Ok(_) => return Ok(String::from_str(alloc, "none")?),
+        Err(fault) => fault,
     };
-    Ok(
-        entries
-            .as_slice()
-            .last()
-            .map(|entry| (entries.len(), entry.name, entry.descending)),
-    )
+    match spot(&fault) {
+        Some(spot) => Ok(format!(in alloc; "{}/{}: {fault}", spot.entry, spot.field.as_str())?),
+        None => Ok(format!(in alloc; "{fault}")?),
+    }
 }
 
 #[test]
-fn orders(rt: HostRuntime) -> Result<(), Fail> {
-    let table = [
-        ("name", Some((1, "name", false))),
-        ("name desc, id", Some((2, "id", false))),
-        ("id,name desc", Some((2, "name", true))),
-        (" name\tDESC ", Some((1, "name", true))),
-        ("name  aSc", Some((1, "name", false))),
-        ("1st é", None),
-        ("", None),
-        (" \t", None),
-        ("name,", None),
-        (",name", None),
-        ("name down", None),
-        ("name\ndesc", Some((1, "name\ndesc", false))),
-        ("a b c", None),
-        ("a desc desc", None),
-    ];
-    for (text, last) in table {
-        assert_eq!(rt; last_entry(rt.alloc(), text)?, last, "{text}");
+fn faults_of_fields(rt: HostRuntime) -> Result<(), Fail> {
+    for line in CASES.lines() {
+        let cells: Vec<&str> = line.split('|').map(|cell| cell.trim()).collect(rt.alloc())?;
+        let [name, compute, depends, relation, inverse, wanted] = cells.as_slice() else {
+            assert_eq!(rt; line, "");
+            continue;
+        };
+        let field = if !relation.is_empty() {
+            relation_field(rt.alloc(), name, relation, inverse)?
+        } else if compute.is_empty() {
+            plain_field(rt.alloc(), name, FieldType::Integer)?
+        } else {
+            computed_field(rt.alloc(), name, compute, depends)?
+        };
+        let defs = [line_model(rt.alloc(), field)?];
+        assert_eq!(rt; told(rt.alloc(), &defs)?.as_str(), *wanted, "{line}");
     }
     Ok(())
+}
+
+#[test]
+fn faults_of_entries(rt: HostRuntime) -> Result<(), Fail> {
+    let first = line_model(
+        rt.alloc(),
+        plain_field(rt.alloc(), "cost", FieldType::Integer)?,
+    )?;
+    let second = line_model(
+        rt.alloc(),
+        plain_field(rt.alloc(), "cost", FieldType::Integer)?,
+    )?;
+    assert_eq!(rt;
+        told(rt.alloc(), &[first, second])?.as_str(),
+        "1/: declared twice"
+    );
+    Ok(())
+}
+
+/// The names of a model's fields in the order of their numbers, each with a space behind it.
+fn names(alloc: Global, schema: &Schema, model: ModelNo) -> Result<String, NoMemory> {
+    let mut names = String::new(alloc);
+    if let Some(info) = schema.find_model(model) {
+        for field in info.fields.as_slice() {
+            names.push_str(field.name.as_str())?;
+            names.push_str(" ")?;
+        }
+    }
+    Ok(names)
+}
+
+#[test]
+fn look_ups(rt: HostRuntime) -> Result<(), Fail> {
+    let total = computed_field(rt.alloc(), "total", "qty * price", "price qty")?;
+    let defs = [line_model(rt.alloc(), total)?];
+    let schema = Schema::build(rt.alloc(), &defs)?;
+    assert_eq!(rt; schema.model("demo.lin"), None);
+    let Some(model) = schema.model("demo.line") else {
+        return Err(Fail::new("no model"));
+    };
+    assert_eq!(rt; model, ModelNo(1));
+    let in_order = names(rt.alloc(), &schema, model)?;
+    assert_eq!(rt;
+        in_order.as_str(),
+        "create_date id name price qty total write_date "
+    );
+    assert_eq!(rt; schema.field(model, "cost"), None);
+    let Some(number) = schema.field(model, "total") else {
+        return Err(Fail::new("no field"));
+    };
+    assert_eq!(rt; number, FieldNo(6));
+    let field = schema.info(model, number);
+    assert!(rt; field.is_kept() && !field.is_plain_kept());
+    let price = schema.find_field(model, FieldNo(4));
+    assert_eq!(rt; price.map(|info| info.is_plain_kept()), Some(true));
+    assert_eq!(rt; schema.fields(model).len(), 7);
+    let first = OrderTerm {
+        field: FieldNo(5),
+        descending: true,
+    };
+    assert_eq!(rt;
+        schema.model_info(model).order.as_slice().first().copied(),
+        Some(first)
+    );
+    Ok(())
+}
+
+#[test]
+fn types(rt: HostRuntime) {
+    let lists = FieldType::Many2many;
+    assert!(rt; lists.is_relation() && lists.is_list() && lists.is_many2many());
+    assert!(rt; FieldType::Many2one.is_many2one() && FieldType::One2many.is_one2many());
+    assert!(rt; FieldType::Selection.is_selection());
 }

@@ -15,6 +15,7 @@ loop-field-preserved c =
     let items = c.as_slice-field-items.result.now in
     let info = c.in_ok-field_info.field-0 in
     record {
-      of = subst (λ (l : List FieldInfo). AllZip R (take (c.loop-field.field-index + 1) items) l) (sym {A = List FieldInfo} c.in_ok-push.ensures.items) (zip_more R items c.loop-field.field-index c.field-item.result c.loop-field.fields.items info c.loop-field-test.true c.field-item.is c.loop-field.invariant.of c.in_ok-field_info.ensures.of);
+      of = subst (λ (l : List FieldInfo). AllZip R (take (c.loop-field.field-index + 1) items) l) (sym {A = List FieldInfo} c.in_ok-push.ensures.items)
+          (zip_more R items c.loop-field.field-index c.field-item.result c.loop-field.fields.items info c.loop-field-test.true c.field-item.is c.loop-field.invariant.of c.in_ok-field_info.ensures.of);
       held = subst (All HoldsDefault) (sym {A = List FieldInfo} c.in_ok-push.ensures.items) (All-push HoldsDefault c.loop-field.fields.items info c.loop-field.invariant.held c.in_ok-field_info.ensures.held);
     }

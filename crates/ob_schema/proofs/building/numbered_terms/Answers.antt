@@ -17,7 +17,9 @@ loop-entry-preserved c =
     let e = get_or c.args.entries.now c.loop-entry.entry-index blank in
     let number = c.number_of.ensures ∙ same_field_number def e.name.now c.requires in
     let same = ap (λ (n : FieldNo). let t : OrderTerm = record { field = n; descending = e.descending } in t) number in
-    c.in_ok-push.ensures.ok ∙ value_more_at (λ (x : OrderEntry). numbered_term def (term_of_entry x)) c.args.entries.now c.loop-entry.entry-index blank (record { field = c.number_of.result; descending = e.descending }) c.loop-entry.terms c.loop-entry-test.true c.loop-entry.invariant same
+    c.in_ok-push.ensures.ok
+    ∙ value_more_at (λ (x : OrderEntry). numbered_term def (term_of_entry x)) c.args.entries.now c.loop-entry.entry-index blank (record { field = c.number_of.result; descending = e.descending })
+    c.loop-entry.terms c.loop-entry-test.true c.loop-entry.invariant same
 
 pub returns : goal.returns
 returns c =

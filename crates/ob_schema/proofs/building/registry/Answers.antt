@@ -10,7 +10,7 @@ use Rattle.ob_schema.specs.Built.{IsBuilt, IsModelOf}
 use Rattle.ob_schema.specs.Faults.{IsFaultless}
 use Rattle.ob_schema.specs.Models.{IsModel, IsRegistry}
 use Rattle.ob_schema.proofs.Clean.{few_models}
-use Rattle.ob_schema.proofs.Copies.{models_of_zip, zip_length, zip_more}
+use Rattle.ob_schema.proofs.Copies.{zip_length, zip_more}
 use Rattle.ob_schema.proofs.Walks.{known}
 use Rattle.ob_schema.proofs.building.registry.Goals as goal
 
@@ -21,7 +21,8 @@ loop-def-preserved c =
     let models = c.loop-def.models in
     let info = c.in_ok-model_info.field-0 in
     record {
-      of = subst (λ (l : List ModelInfo). AllZip R (take (c.loop-def.def-index + 1) defs) l) (sym c.in_ok-push.ensures.ok) (zip_more R defs c.loop-def.def-index c.def-item.result models info c.loop-def-test.true c.def-item.is c.loop-def.invariant.of c.in_ok-model_info.ensures.model);
+      of = subst (λ (l : List ModelInfo). AllZip R (take (c.loop-def.def-index + 1) defs) l) (sym c.in_ok-push.ensures.ok)
+          (zip_more R defs c.loop-def.def-index c.def-item.result models info c.loop-def-test.true c.def-item.is c.loop-def.invariant.of c.in_ok-model_info.ensures.model);
       fit = subst (All IsModel) (sym c.in_ok-push.ensures.ok) (All-push IsModel models info c.loop-def.invariant.fit c.in_ok-model_info.ensures.fit);
     }
 
@@ -40,7 +41,7 @@ pub returns-clause-built : goal.returns-clause-built
 returns-clause-built c =
     let defs = c.args.defs.now in
     let whole = take_all c.loop-def.def-index defs c.loop-def-test.false in
-    known (IsBuilt defs) c.from_models.result c.loop-def.models c.from_models.ensures (models_of_zip defs defs c.loop-def.models (subst (λ (l : List ModelDef). AllZip (IsModelOf defs) l c.loop-def.models) whole c.loop-def.invariant.of))
+    known (IsBuilt defs) c.from_models.result c.loop-def.models c.from_models.ensures (subst (λ (l : List ModelDef). AllZip (IsModelOf defs) l c.loop-def.models) whole c.loop-def.invariant.of)
 
 pub returns-clause-sound : goal.returns-clause-sound
 returns-clause-sound c =

@@ -15,6 +15,10 @@ loop-field-preserved c =
     elim c.if-is_computed.branch [
       | then-is_computed+in_ok-push w ↦
           let same = w.number_of.ensures ∙ ap (λ (m : List ℕ). capped_field (number_of c.args.def.now m)) w.as_str.ensures in
-          ap (λ (v : Vec FieldNo Global). v.items) w.numbers-is ∙ w.in_ok-push.ensures.items ∙ ap (λ (n : FieldNo). c.loop-field.numbers.items ++ n ∷ []) same ∙ kept_more is_computed number c.as_slice-field-items.result.now c.loop-field.field-index c.field-item.result c.loop-field.numbers.items c.loop-field-test.true c.field-item.is (sym c.is_computed.ensures ∙ w.if-is_computed.true) c.loop-field.invariant
-      | else-is_computed w ↦ ap (λ (v : Vec FieldNo Global). v.items) w.numbers-is ∙ passed_more is_computed number c.as_slice-field-items.result.now c.loop-field.field-index c.field-item.result c.loop-field.numbers.items c.loop-field-test.true c.field-item.is (sym c.is_computed.ensures ∙ w.if-is_computed.false) c.loop-field.invariant
+          ap (λ (v : Vec FieldNo Global). v.items) w.numbers-is ∙ w.in_ok-push.ensures.items ∙ ap (λ (n : FieldNo). c.loop-field.numbers.items ++ n ∷ []) same
+          ∙ kept_more is_computed number c.as_slice-field-items.result.now c.loop-field.field-index c.field-item.result c.loop-field.numbers.items c.loop-field-test.true c.field-item.is
+          (sym c.is_computed.ensures ∙ w.if-is_computed.true) c.loop-field.invariant
+      | else-is_computed w ↦ ap (λ (v : Vec FieldNo Global). v.items) w.numbers-is
+          ∙ passed_more is_computed number c.as_slice-field-items.result.now c.loop-field.field-index c.field-item.result c.loop-field.numbers.items c.loop-field-test.true c.field-item.is
+          (sym c.is_computed.ensures ∙ w.if-is_computed.false) c.loop-field.invariant
     ]

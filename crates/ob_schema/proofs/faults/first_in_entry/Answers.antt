@@ -1,5 +1,7 @@
 -- What is first of the entry as a whole, and what follows for its fields.
-use Rattle.std.proofs.Common.{◌≡◌, ◌≤◌, [], length, refl, subst, ◌∙◌}
+use Rattle.std.proofs.Common.{◌≡◌, ◌≤◌, [], refl, subst, ◌∙◌}
+use Rattle.ob_base.specs.Limits.{max_fields}
+use Rattle.ob_schema.specs.Definitions.{field_count}
 use Rattle.ob_schema.specs.Formulas.{computed_numbers}
 use Rattle.ob_schema.specs.declared.definition.ModelDef.{ModelDef}
 use Rattle.ob_schema.specs.Findings.{EntryHas, IsFirstWrong}
@@ -19,7 +21,7 @@ least_of_fields-requires-clause-own c = λ def at.
 pub least_of_fields-requires-clause-numbers : goal.least_of_fields-requires-clause-numbers
 least_of_fields-requires-clause-numbers c = λ def at.
     let same = only_def c.args.defs.now c.args.entry c.index-defs-entry.result def c.requires.within c.index-defs-entry.is at in
-    λ few. c.as_slice.ensures.value ∙ subst (λ (d : ModelDef). length d.fields ≤ 253 → c.in_ok-computed.computed.items ≡ computed_numbers d) same c.in_ok-computed.ensures few
+    λ few. c.as_slice.ensures.value ∙ subst (λ (d : ModelDef). field_count d ≤ max_fields → c.in_ok-computed.computed.items ≡ computed_numbers d) same c.in_ok-computed.ensures few
 
 pub least_of_fields-requires-clause-least : goal.least_of_fields-requires-clause-least
 least_of_fields-requires-clause-least c = λ def at.

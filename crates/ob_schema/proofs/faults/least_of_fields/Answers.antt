@@ -33,7 +33,8 @@ loop-field-preserved c =
     let at = at_entry defs n def c.requires.within c.index-defs-entry.is in
     let here = ap (λ (fs : List FieldDef). slice_get fs k) (sym c.as_slice-field-items.ensures) ∙ at_entry c.as_slice-field-items.result.now k f c.loop-field-test.true c.field-item.is in
     elim c.if-may_come_first.branch [
-      | then-may_come_first+in_ok-found w ↦ subst (IsLeast (IsFaultAmong defs n def (k + 1))) (sym (w.least-is ∙ w.lesser-least.ensures)) (least_more defs n def k f c.loop-field.least w.in_ok-found.found here c.loop-field.invariant w.in_ok-found.ensures)
+      | then-may_come_first+in_ok-found w ↦ subst (IsLeast (IsFaultAmong defs n def (k + 1))) (sym (w.least-is ∙ w.lesser-least.ensures))
+          (least_more defs n def k f c.loop-field.least w.in_ok-found.found here c.loop-field.invariant w.in_ok-found.ensures)
       | else-may_come_first w ↦
           let passed = passed_over c.args.is_whole c.may_come_first.result f.name c.may_come_first.ensures w.if-may_come_first.false in
           let own = c.requires.own def at passed.0 in

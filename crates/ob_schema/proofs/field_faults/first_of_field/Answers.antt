@@ -1,5 +1,4 @@
 -- Each test that failed rules its variant out.
-use Rattle.std.proofs.Common.{length}
 use Rattle.ob_schema.specs.declared.wrong.Wrong.TheVariants as wrong
 use Rattle.ob_schema.specs.Findings.{FieldHas}
 use Rattle.ob_schema.proofs.EntryLaws.{named_few, refuted}
@@ -25,10 +24,10 @@ returns-then-is_mixed c =
     is_first Has wrong.Kind (c.is_mixed.ensures.0 c.if-is_mixed.true) b
 
 pub later_of_field-requires-clause-few : goal.later_of_field-requires-clause-few
-later_of_field-requires-clause-few c = named_few (length c.args.def.now.fields) c.args.field.now c.requires.few (refuted _ c.is_mixed.ensures c.if-is_mixed.false)
+later_of_field-requires-clause-few c = named_few c.args.field.now c.requires.few (refuted _ c.is_mixed.ensures c.if-is_mixed.false)
 
 pub later_of_field-requires-clause-numbers : goal.later_of_field-requires-clause-numbers
-later_of_field-requires-clause-numbers c = c.requires.numbers (named_few (length c.args.def.now.fields) c.args.field.now c.requires.few (refuted _ c.is_mixed.ensures c.if-is_mixed.false))
+later_of_field-requires-clause-numbers c = c.requires.numbers (named_few c.args.field.now c.requires.few (refuted _ c.is_mixed.ensures c.if-is_mixed.false))
 
 pub later_of_field-requires-clause-earlier : goal.later_of_field-requires-clause-earlier
 later_of_field-requires-clause-earlier c =

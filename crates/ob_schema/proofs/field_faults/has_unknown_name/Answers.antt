@@ -9,4 +9,5 @@ returns-else-has_unknown_inverse c =
     let defs = c.args.defs.now in
     let def = c.args.def.now in
     let f = c.args.field.now in
-    either_else _ _ c.if-has_unknown_inverse.false c.has_unknown_inverse.ensures c.names_no_field.ensures (λ x. inr (unknown_names defs def f c.args.finding.now c.requires x)) (λ none y. names_unknown defs def f c.args.finding.now c.requires y)
+    either_else _ _ c.if-has_unknown_inverse.false c.has_unknown_inverse.ensures c.names_no_field.ensures (λ x. inr (unknown_names defs def f c.args.finding.now c.requires x))
+    (λ none y. names_unknown defs def f c.args.finding.now c.requires y)
