@@ -1,0 +1,5 @@
+pub mod Forms
+pub mod Arguments
+pub mod Places
+pub mod Results
+pub mod ArgumentsSteps
