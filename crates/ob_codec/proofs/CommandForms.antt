@@ -5,11 +5,10 @@ use Rattle.std.specs.List.{All, AllByRecursion}
 use Rattle.std.specs.Option.{option_map_or}
 use Rattle.std.proofs.lemmas.Bool.{and_parts, eqb-true, leb-true, ltb-false}
 use Rattle.std.proofs.lemmas.List.Elements.{All-from_recursion}
-use Rattle.serde_json.specs.Data.{Data, null, boolean, number, string, array, object, Items, no_items, item, Num, unsigned, negative, float}
+use Rattle.serde_json.specs.Data.{Data, number, array, Items, no_items, item, Num, unsigned, negative, float}
 use Rattle.serde_json.specs.View.{items_of}
 use Rattle.ob_base.specs.Ids.{IsId}
 use Rattle.ob_base.specs.declared.id.RecId.{RecId}
-use Rattle.ob_base.specs.declared.place.PathStep.{PathStep}
 use Rattle.ob_base.specs.Chain.{◌>>=◌}
 use Rattle.ob_codec.specs.CommandForms.{AreOrdersJson, HasElements, IsObject, IsOrderJson, IsOrderListJson, IsScalar, NamesRow, id_json, list_json, number_json}
 use Rattle.ob_codec.specs.Commands.{clear_from, code_of, code_of_number, create_from, element, ended, id_in, id_of_json, id_of_number, ids_in, ids_of, ignored, is_object, is_scalar, listed, named_row, order_at, order_by, order_from, orders_of, passed_if_any, passed_in, set_from, update_from, values_in}

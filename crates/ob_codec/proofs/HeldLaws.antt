@@ -1,13 +1,13 @@
 -- A value's type and its limits, what commands hold, and the one JSON of a value.
 use Rattle.std.proofs.Common.{◌≡◌, ℕ, ℤ, List, [], ◌∷◌, map, Option, Some, None, Result, Ok, Err, sym, ap, ◌∙◌}
-use Rattle.std.specs.Prelude.{IfOk, IfSome, IsSome}
+use Rattle.std.specs.Prelude.{IfOk, IfSome}
 use Rattle.std.specs.List.{All, AllByRecursion}
 use Rattle.std.proofs.lemmas.List.Elements.{All-from_recursion}
 use Rattle.serde_json.specs.Data.{Data, string}
-use Rattle.serde_json.specs.View.{view}
 use Rattle.ob_base.specs.declared.value.Value.{Value}
 use Rattle.ob_base.specs.declared.value.Value.TheVariants as value
 use Rattle.ob_dates.specs.Texts.{day_from, moment_from}
+use Rattle.ob_schema.specs.Fields.{Holds}
 use Rattle.ob_schema.specs.Values.{IsValueOf}
 use Rattle.ob_schema.specs.declared.field_type.Choice.{Choice}
 use Rattle.ob_schema.specs.declared.field_type.FieldType.{FieldType}
@@ -15,7 +15,7 @@ use Rattle.ob_schema.specs.declared.field_type.FieldType.TheVariants as type
 use Rattle.ob_schema.specs.declared.info.FieldInfo.{FieldInfo}
 use Rattle.ob_codec.specs.CommandForms.{AreOrdersJson, HasElements, IsOrderListJson}
 use Rattle.ob_codec.specs.Commands.{orders_of}
-use Rattle.ob_codec.specs.Held.{HasFieldType, HasIdsAndObjects, HasLimits, HasText, HasType}
+use Rattle.ob_codec.specs.Held.{HasFieldType, HasIdsAndObjects, HasLimits, HasType}
 use Rattle.ob_codec.specs.Input.{order_of}
 use Rattle.ob_codec.specs.JsonForm.{IsJsonOf}
 use Rattle.ob_codec.specs.Steps.{IsCodecResult}
@@ -32,6 +32,10 @@ HasType-from_IsValueOf type.One2many choices (value.Refs ids) h = h.rising
 HasType-from_IsValueOf type.Many2many choices (value.Refs ids) h = h.0.rising
 HasType-from_IsValueOf _ choices _ h = h
 
+pub HasFieldType-from_Holds : (field : Option FieldInfo) (v : Value) → IfSome field (λ info. Holds info v) → HasFieldType field v
+HasFieldType-from_Holds None v h = tt
+HasFieldType-from_Holds (Some info) v h = HasType-from_IsValueOf info.field_type info.selection v h
+
 pub HasLimits-from_IsValueOf : (t : FieldType) (choices : List Choice) (v : Value) → IsValueOf t choices v → HasLimits t v
 HasLimits-from_IsValueOf type.Many2one choices (value.Ref id) h = h
 HasLimits-from_IsValueOf type.One2many choices (value.Refs ids) h = h.within
@@ -43,18 +47,6 @@ IsValueOf-from_both type.Many2one choices (value.Ref id) h limits = limits
 IsValueOf-from_both type.One2many choices (value.Refs ids) h limits = record { rising = h; within = limits }
 IsValueOf-from_both type.Many2many choices (value.Refs ids) h limits = (record { rising = h; within = limits.0 }, limits.1)
 IsValueOf-from_both _ choices _ h limits = h
-
-HasText-from_HasType : (t : FieldType) (choices : List Choice) (v : Value) → HasType t choices v → HasText v
-HasText-from_HasType type.Date choices (value.Day n) h = h
-HasText-from_HasType type.Datetime choices (value.Moment n) h = h
-HasText-from_HasType _ choices (value.Day n) h = absurd h
-HasText-from_HasType _ choices (value.Moment n) h = absurd h
-HasText-from_HasType _ choices _ h = tt
-
--- a value of a field that is there has a text, if it is a day or a moment
-pub field_text : (field : Option FieldInfo) (v : Value) → IsSome field → HasFieldType field v → HasText v
-field_text None v there h = absurd cc
-field_text (Some info) v there h = HasText-from_HasType info.field_type info.selection v h
 
 -- ---- commands
 

@@ -10,7 +10,7 @@ use Rattle.std.proofs.lemmas.Option.{same_Some}
 use Rattle.ob_base.specs.declared.id.RecId.{RecId}
 use Rattle.ob_base.specs.declared.value.Value.{Value}
 use Rattle.ob_base.specs.declared.value.Value.TheVariants.{Nil, Bool as Flag, Int, Word, Day, Moment, Ref, Refs}
-use Rattle.ob_codec.specs.KeptForm.{Field, content_of, field_form, body_form, IsKept, IsField, AreFields}
+use Rattle.ob_codec.specs.KeptForm.{Field, content_of, field_form, body_form, HasContent, IsField, AreFields}
 use Rattle.ob_codec.specs.KeptReading.{first_byte, body_part, body_number}
 use Rattle.ob_codec.proofs.KeptParts.{bind_at, part_again, wide16, wide32, wide64, number_again}
 
@@ -49,7 +49,7 @@ any_content (tag ∷ bytes) =
     (cond (eqb tag 6) (option_and_then (λ n. Some (Ref (record { 0 = n.0 }), n.1)) (body_number w64 bytes))
     (option_and_then (λ n. option_and_then (λ ids. Some (Refs ids.0, ids.1)) (any_ids n.0 n.1)) (body_number w32 bytes))))))))
 
-content_again : (v : Value) (rest : List ℕ) → IsKept v → any_content (content_of v ++ rest) ≡ Some (v, rest)
+content_again : (v : Value) (rest : List ℕ) → HasContent v → any_content (content_of v ++ rest) ≡ Some (v, rest)
 content_again Nil rest fits = refl
 content_again (Flag true) rest fits = refl
 content_again (Flag false) rest fits = refl

@@ -16,12 +16,12 @@ use Rattle.ob_schema.specs.declared.info.FieldInfo.{FieldInfo}
 use Rattle.ob_schema.specs.declared.info.ModelInfo.{ModelInfo}
 use Rattle.ob_codec.specs.declared.fault.RowFault.{RowFault}
 use Rattle.ob_codec.specs.declared.fault.RowFault.TheVariants as fault
-use Rattle.ob_codec.specs.KeptForm.{IsKept, content_of, field_form, head_form}
+use Rattle.ob_codec.specs.KeptForm.{HasContent, content_of, field_form, head_form}
 use Rattle.ob_codec.specs.KeptReading.{IsRowFault, IsRowResult, first_byte, body_front, body_number, body_fields, body_named}
 use Rattle.ob_codec.specs.RowForm.{HoldAll, named, row_form}
 use Rattle.ob_codec.specs.RowReading.{body_tagged, body_field, body_values, body_row}
 use Rattle.ob_codec.proofs.KeptParts.{IsBytes, bind_some, bind_at, chosen, Takes, Takes-then, first_takes, front_takes, front_again, wide16, number_takes, number_again}
-use Rattle.ob_codec.proofs.ValueLaws.{tagged_takes, tagged_again, value_tag, value_content, content_parts, IsKept-from_IsValueOf}
+use Rattle.ob_codec.proofs.ValueLaws.{tagged_takes, tagged_again, value_tag, value_content, content_parts, HasContent-from_IsValueOf}
 
 -- ---- the head of a body
 
@@ -159,11 +159,11 @@ one_row_lem fields a b p q e =
 -- ---- the steps of writing and reading a row
 
 -- the value of the first of these fields
-pub first_held : (all rest : List FieldInfo) (field : FieldInfo) (values : List Value) (v : Value) → all ≡ field ∷ rest → HoldAll all values → 1 ≤ length values → v ≡ get_or values 0 v → IsKept v
+pub first_held : (all rest : List FieldInfo) (field : FieldInfo) (values : List Value) (v : Value) → all ≡ field ∷ rest → HoldAll all values → 1 ≤ length values → v ≡ get_or values 0 v → HasContent v
 first_held all rest field values v more holds some at = first_kept rest field values v (subst (λ (fs : List FieldInfo). HoldAll fs values) more holds) some at where
-  first_kept : (rest : List FieldInfo) (field : FieldInfo) (values : List Value) (v : Value) → HoldAll (field ∷ rest) values → 1 ≤ length values → v ≡ get_or values 0 v → IsKept v
+  first_kept : (rest : List FieldInfo) (field : FieldInfo) (values : List Value) (v : Value) → HoldAll (field ∷ rest) values → 1 ≤ length values → v ≡ get_or values 0 v → HasContent v
   first_kept rest field [] v holds some at = absurd holds
-  first_kept rest field (x ∷ values) v holds some at = subst IsKept (sym at) (IsKept-from_IsValueOf field.field_type field.selection x holds.0)
+  first_kept rest field (x ∷ values) v holds some at = subst HasContent (sym at) (HasContent-from_IsValueOf field.field_type field.selection x holds.0)
 
 -- the head and the fields, after nothing
 pub written : (fields : List FieldInfo) (values : List Value) (start head out : List ℕ) → HoldAll fields values → start ≡ [] → head ≡ start ++ head_form (length values) → out ≡ head ++ forms fields values → out ≡ row_form fields values

@@ -22,7 +22,7 @@ use Rattle.ob_schema.specs.Values.{IsText, IsKey, IsTargets, IsValueOf, keys_of}
 use Rattle.ob_schema.specs.declared.field_type.Choice.{Choice}
 use Rattle.ob_schema.specs.declared.field_type.FieldType.{FieldType}
 use Rattle.ob_schema.specs.declared.field_type.FieldType.TheVariants as type
-use Rattle.ob_codec.specs.KeptForm.{IsKept, content_of}
+use Rattle.ob_codec.specs.KeptForm.{HasContent, content_of}
 use Rattle.ob_codec.specs.KeptReading.{first_byte, body_part, body_number, body_counted, body_text}
 use Rattle.ob_codec.specs.ValueReading.{tag_of, has_unset, body_content, body_flag, body_integer, body_word, body_key, is_day, body_day, is_moment, body_moment, body_id, body_row_id, body_ids, body_rows}
 use Rattle.ob_codec.specs.RowReading.{body_tagged}
@@ -414,36 +414,36 @@ tagged_again type.One2many choices _ rest h = absurd h
 tagged_again type.Many2many choices (Refs ids) rest h = rows_again 65536 ids rest h.0 h.1
 tagged_again type.Many2many choices _ rest h = absurd h
 
-targets_kept : (ids : List RecId) → IsTargets ids → IsKept (Refs ids)
+targets_kept : (ids : List RecId) → IsTargets ids → HasContent (Refs ids)
 targets_kept ids fits =
     let small : All (λ (id : RecId). id.0 < 2 ^ 64) ids = λ k d h. let here = fits.within k d h in omega (arith, here.1) in
     (omega (arith, length-targets ids fits), recursion_from_All (λ (id : RecId). id.0 < 2 ^ 64) ids small)
 
 -- what a field may hold has a form
-pub IsKept-from_IsValueOf : (t : FieldType) (choices : List Choice) (v : Value) → IsValueOf t choices v → IsKept v
-IsKept-from_IsValueOf type.Boolean choices (Flag b) h = tt
-IsKept-from_IsValueOf type.Boolean choices _ h = absurd h
-IsKept-from_IsValueOf type.Integer choices (Int z) h = h
-IsKept-from_IsValueOf type.Integer choices _ h = absurd h
-IsKept-from_IsValueOf type.Char choices Nil h = tt
-IsKept-from_IsValueOf type.Char choices (Word text) h = let short : length text ≤ 8192 = h.short in omega arith
-IsKept-from_IsValueOf type.Char choices _ h = absurd h
-IsKept-from_IsValueOf type.Text choices Nil h = tt
-IsKept-from_IsValueOf type.Text choices (Word text) h = let short : length text ≤ 65536 = h.short in omega arith
-IsKept-from_IsValueOf type.Text choices _ h = absurd h
-IsKept-from_IsValueOf type.Date choices Nil h = tt
-IsKept-from_IsValueOf type.Date choices (Day z) h = FitsSigned-from_IsDay z h
-IsKept-from_IsValueOf type.Date choices _ h = absurd h
-IsKept-from_IsValueOf type.Datetime choices Nil h = tt
-IsKept-from_IsValueOf type.Datetime choices (Moment z) h = FitsSigned-from_IsMoment z h
-IsKept-from_IsValueOf type.Datetime choices _ h = absurd h
-IsKept-from_IsValueOf type.Selection choices Nil h = tt
-IsKept-from_IsValueOf type.Selection choices (Word text) h = let short : length text ≤ 8192 = h.short in omega arith
-IsKept-from_IsValueOf type.Selection choices _ h = absurd h
-IsKept-from_IsValueOf type.Many2one choices Nil h = tt
-IsKept-from_IsValueOf type.Many2one choices (Ref id) h = omega (arith, h.1)
-IsKept-from_IsValueOf type.Many2one choices _ h = absurd h
-IsKept-from_IsValueOf type.One2many choices (Refs ids) h = targets_kept ids h
-IsKept-from_IsValueOf type.One2many choices _ h = absurd h
-IsKept-from_IsValueOf type.Many2many choices (Refs ids) h = targets_kept ids h.0
-IsKept-from_IsValueOf type.Many2many choices _ h = absurd h
+pub HasContent-from_IsValueOf : (t : FieldType) (choices : List Choice) (v : Value) → IsValueOf t choices v → HasContent v
+HasContent-from_IsValueOf type.Boolean choices (Flag b) h = tt
+HasContent-from_IsValueOf type.Boolean choices _ h = absurd h
+HasContent-from_IsValueOf type.Integer choices (Int z) h = h
+HasContent-from_IsValueOf type.Integer choices _ h = absurd h
+HasContent-from_IsValueOf type.Char choices Nil h = tt
+HasContent-from_IsValueOf type.Char choices (Word text) h = let short : length text ≤ 8192 = h.short in omega arith
+HasContent-from_IsValueOf type.Char choices _ h = absurd h
+HasContent-from_IsValueOf type.Text choices Nil h = tt
+HasContent-from_IsValueOf type.Text choices (Word text) h = let short : length text ≤ 65536 = h.short in omega arith
+HasContent-from_IsValueOf type.Text choices _ h = absurd h
+HasContent-from_IsValueOf type.Date choices Nil h = tt
+HasContent-from_IsValueOf type.Date choices (Day z) h = FitsSigned-from_IsDay z h
+HasContent-from_IsValueOf type.Date choices _ h = absurd h
+HasContent-from_IsValueOf type.Datetime choices Nil h = tt
+HasContent-from_IsValueOf type.Datetime choices (Moment z) h = FitsSigned-from_IsMoment z h
+HasContent-from_IsValueOf type.Datetime choices _ h = absurd h
+HasContent-from_IsValueOf type.Selection choices Nil h = tt
+HasContent-from_IsValueOf type.Selection choices (Word text) h = let short : length text ≤ 8192 = h.short in omega arith
+HasContent-from_IsValueOf type.Selection choices _ h = absurd h
+HasContent-from_IsValueOf type.Many2one choices Nil h = tt
+HasContent-from_IsValueOf type.Many2one choices (Ref id) h = omega (arith, h.1)
+HasContent-from_IsValueOf type.Many2one choices _ h = absurd h
+HasContent-from_IsValueOf type.One2many choices (Refs ids) h = targets_kept ids h
+HasContent-from_IsValueOf type.One2many choices _ h = absurd h
+HasContent-from_IsValueOf type.Many2many choices (Refs ids) h = targets_kept ids h.0
+HasContent-from_IsValueOf type.Many2many choices _ h = absurd h

@@ -35,20 +35,19 @@ abbrev pub body_form : List Field → List ℕ
 body_form fields = head_form (length fields) ++ flat_map field_form fields
 
 -- a value that its content can hold
-abbrev pub IsKept : Value → Type 0
-IsKept Nil = Unit {0}
-IsKept (Flag b) = Unit {0}
-IsKept (Int n) = FitsSigned w64 n
-IsKept (Word text) = length text < 2 ^ 32
-IsKept (Day n) = FitsSigned w32 n
-IsKept (Moment n) = FitsSigned w64 n
-IsKept (Ref id) = id.0 < 2 ^ 64
-IsKept (Refs ids) = (length ids < 2 ^ 32) × AllByRecursion (λ id. id.0 < 2 ^ 64) ids
+abbrev pub HasContent : Value → Type 0
+HasContent (Int n) = FitsSigned w64 n
+HasContent (Word text) = length text < 2 ^ 32
+HasContent (Day n) = FitsSigned w32 n
+HasContent (Moment n) = FitsSigned w64 n
+HasContent (Ref id) = id.0 < 2 ^ 64
+HasContent (Refs ids) = (length ids < 2 ^ 32) × AllByRecursion (λ id. id.0 < 2 ^ 64) ids
+HasContent _ = Unit {0}
 
 -- a field that has a form
 pub record IsField (field : Field) : Type 0 where
   pub name : length field.name < 2 ^ 8
-  pub value : IsKept field.value
+  pub value : HasContent field.value
 
 -- fields that have a body
 abbrev pub AreFields : List Field → Type 0

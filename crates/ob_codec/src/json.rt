@@ -2,15 +2,17 @@
 //! commands in specs/CommandForms; a form changes there, and in the room that reads or
 //! tells it. Here the field is looked up.
 
-ghost use Rattle.std.specs.Prelude.{◌≡◌, ◌≢◌, false, IfErr, IfOk, IfSome, List, Ok, Err};
+ghost use Rattle.std.specs.Prelude.{◌≡◌, ◌≢◌, false, IfErr, IfOk, IfSome, List, Option, Ok, Err};
 ghost use Rattle.serde_json.specs.Data.{Data};
 ghost use Rattle.serde_json.specs.View.{view};
 ghost use Rattle.ob_base.specs.declared.value.Value.{Value};
+ghost use Rattle.ob_schema.specs.Fields.{Holds};
 ghost use Rattle.ob_schema.specs.Models.{HasField, field_at};
 ghost use Rattle.ob_schema.specs.Types.{is_list};
 ghost use Rattle.ob_schema.specs.Values.{IsValueOf};
 ghost use Rattle.ob_schema.specs.declared.field_type.Choice.{Choice};
 ghost use Rattle.ob_schema.specs.declared.field_type.FieldType.{FieldType};
+ghost use Rattle.ob_schema.specs.declared.info.FieldInfo.{FieldInfo};
 ghost use Rattle.ob_codec.specs.CommandForms.{IsOrderListJson};
 ghost use Rattle.ob_codec.specs.Commands.{orders_of};
 ghost use Rattle.ob_codec.specs.Held.{GivesHeld, HasFieldType, HasLimits, HasType, HaveIdsAndObjects, IsHeldAs};
@@ -29,7 +31,8 @@ use std::alloc::Global;
 
 /// What JSON gives a field: a value, or the commands of a list. A boolean takes `true`,
 /// `false` and `null`; an integer one of 64 bits, with `false` and `null` as 0; each other
-/// type takes `false` and `null` as unset. A fault is told at its place below the value.
+/// type takes `false` and `null` as unset. Commands are those of the Odoo 17 developer
+/// documentation, ORM API, `Command`. A fault is told at its place below the value.
 pub fn from_json(
     alloc: Global,
     schema: &Schema,
@@ -112,6 +115,7 @@ pub fn command_forms()
 pub fn type_and_limits()
     ensures has_type { (t : FieldType) (choices : List Choice) (v : Value) → IsValueOf t choices v → HasType t choices v }
     ensures has_limits { (t : FieldType) (choices : List Choice) (v : Value) → IsValueOf t choices v → HasLimits t v }
+    ensures of_field { (field : Option FieldInfo) (v : Value) → IfSome field (λ info. Holds info v) → HasFieldType field v }
     ensures both { (t : FieldType) (choices : List Choice) (v : Value)
         → HasType t choices v → HasLimits t v → IsValueOf t choices v }
 {}

@@ -1,7 +1,7 @@
 //! Writers of the parts of a row's body. Each adds its part at the end of `out`.
 
 ghost use Rattle.std.specs.Prelude.{◌≡◌, ◌<◌, ◌^◌, ◌++◌, ◌∷◌, length, OnOk};
-ghost use Rattle.ob_codec.specs.KeptForm.{IsKept, head_form, content_of, field_form};
+ghost use Rattle.ob_codec.specs.KeptForm.{HasContent, head_form, content_of, field_form};
 
 use crate::kept_form::{BOOL, DAY, INT, MOMENT, REF, REFS, TEXT, UNSET, VERSION};
 use ob_base::{NoMemory, RecId, Value};
@@ -18,7 +18,7 @@ pub(crate) fn put_head(out: &mut Vec<u8>, count: u16) -> Result<(), NoMemory>
 /// A field: the length of its name in one byte, its name, and its value.
 pub(crate) fn put_field(out: &mut Vec<u8>, name: &[u8], value: &Value) -> Result<(), NoMemory>
     requires name { length name.now < 256 }
-    requires value { IsKept value.now }
+    requires value { HasContent value.now }
     ensures { OnOk result (out.new.items ≡ out.old.items
         ++ field_form (record { name = name.now; value = value.now })) }
 {
@@ -29,7 +29,7 @@ pub(crate) fn put_field(out: &mut Vec<u8>, name: &[u8], value: &Value) -> Result
 
 /// The tag of a value, and its content.
 fn put_value(out: &mut Vec<u8>, value: &Value) -> Result<(), NoMemory>
-    requires { IsKept value.now }
+    requires { HasContent value.now }
     ensures { OnOk result (out.new.items ≡ out.old.items ++ content_of value.now) }
 {
     match value {
