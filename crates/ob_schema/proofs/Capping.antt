@@ -23,13 +23,8 @@ use Rattle.ob_schema.specs.Definitions.{field_count, field_def}
 
 -- a capped kind is an integer as before
 is_int-capped_kind : (k : Kind) → is_int (capped_kind k) ≡ is_int k
-is_int-capped_kind kind.Bool = refl
-is_int-capped_kind kind.Int = refl
-is_int-capped_kind kind.Word = refl
-is_int-capped_kind kind.Day = refl
-is_int-capped_kind kind.Moment = refl
 is_int-capped_kind (kind.Ref model) = refl
-is_int-capped_kind (kind.Refs model) = refl
+is_int-capped_kind _ = refl
 
 pub kind_of-capped_tree : (tree : TypedTree) → kind_of (capped_tree tree) ≡ capped_kind (kind_of tree)
 kind_of-capped_tree (field number k) = refl

@@ -90,26 +90,18 @@ sound_finding defs def f text (finding.Checked typed) clean given is other = oth
 -- ---- numbers of few models and fields aren't capped
 
 IsLowKind : Kind → Type 0
-IsLowKind kind.Bool = Unit {0}
-IsLowKind kind.Int = Unit {0}
-IsLowKind kind.Word = Unit {0}
-IsLowKind kind.Day = Unit {0}
-IsLowKind kind.Moment = Unit {0}
 IsLowKind (kind.Ref model) = model.0 ≤ 65535
 IsLowKind (kind.Refs model) = model.0 ≤ 65535
+IsLowKind _ = Unit {0}
 
 capped_model-low : (model : ModelNo) → model.0 ≤ 65535 → capped_model model ≡ model
 capped_model-low model low = ap (λ (n : ℕ). let made : ModelNo = record { 0 = n } in made) (omega arith)
 
 capped_kind-low : (k : Kind) → IsLowKind k → capped_kind k ≡ k
 unfolding IsLowKind
-capped_kind-low kind.Bool low = refl
-capped_kind-low kind.Int low = refl
-capped_kind-low kind.Word low = refl
-capped_kind-low kind.Day low = refl
-capped_kind-low kind.Moment low = refl
 capped_kind-low (kind.Ref model) low = ap kind.Ref (capped_model-low model low)
 capped_kind-low (kind.Refs model) low = ap kind.Refs (capped_model-low model low)
+capped_kind-low _ low = refl
 
 abbrev IsLowPart : FieldNo → Kind → Type 0
 IsLowPart number k = (number.0 ≤ 65535) × IsLowKind k
@@ -132,19 +124,13 @@ low_relation defs (Some name) few = low_model defs name few
 
 low_kind_of : (t : FieldType) (relation : Option ModelNo) → IfSome relation (λ m. m.0 ≤ 65535) → IfSome (kind_of_type t relation) IsLowKind
 unfolding IsLowKind
-low_kind_of type.Boolean relation low = tt
-low_kind_of type.Integer relation low = tt
-low_kind_of type.Char relation low = tt
-low_kind_of type.Text relation low = tt
-low_kind_of type.Date relation low = tt
-low_kind_of type.Datetime relation low = tt
-low_kind_of type.Selection relation low = tt
 low_kind_of type.Many2one None low = tt
 low_kind_of type.Many2one (Some model) low = low
 low_kind_of type.One2many None low = tt
 low_kind_of type.One2many (Some model) low = low
 low_kind_of type.Many2many None low = tt
 low_kind_of type.Many2many (Some model) low = low
+low_kind_of _ relation low = tt
 
 with_number : (number : FieldNo) (o : Option Kind) → number.0 ≤ 65535 → IfSome o IsLowKind → IfSome o (IsLowPart number)
 with_number number None low kinds = tt

@@ -112,22 +112,14 @@ no_computed_relation f text e relation =
     ∙ and_false (relation_fits f && ondelete_fits f)
 
 abbrev pub names_rows : Kind → Bool
-names_rows kind.Bool = false
-names_rows kind.Int = false
-names_rows kind.Word = false
-names_rows kind.Day = false
-names_rows kind.Moment = false
 names_rows (kind.Ref model) = true
 names_rows (kind.Refs model) = true
+names_rows _ = false
 
 uncapped_kind : (k simple : Kind) → names_rows simple ≡ false → simple ≡ capped_kind k → simple ≡ k
-uncapped_kind kind.Bool simple plain e = e
-uncapped_kind kind.Int simple plain e = e
-uncapped_kind kind.Word simple plain e = e
-uncapped_kind kind.Day simple plain e = e
-uncapped_kind kind.Moment simple plain e = e
 uncapped_kind (kind.Ref model) simple plain e = absurd (false≢true (sym plain ∙ ap names_rows e))
 uncapped_kind (kind.Refs model) simple plain e = absurd (false≢true (sym plain ∙ ap names_rows e))
+uncapped_kind _ simple plain e = e
 
 -- the kind of a type that is no relation
 kind_below : (k : Kind) (simple : Kind) → names_rows simple ≡ false → Some simple ≡ Some (capped_kind k) → Some simple ≡ Some k

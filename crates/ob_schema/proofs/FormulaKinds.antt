@@ -78,15 +78,7 @@ names_no_rows type.Many2many relation k plain e = absurd (false≢true (sym plai
 pub no_one2many : (t : FieldType) (relation : Option ModelNo) (k : Kind) → names_rows k ≡ false → kind_of_type t relation ≡ Some k → is_one2many t ≡ false
 no_one2many type.One2many None k plain e = absurd (cc)
 no_one2many type.One2many (Some model) k plain e = let same : kind.Refs model ≡ k = cc in absurd (false≢true (sym plain ∙ ap names_rows (sym same)))
-no_one2many type.Boolean relation k plain e = refl
-no_one2many type.Integer relation k plain e = refl
-no_one2many type.Char relation k plain e = refl
-no_one2many type.Text relation k plain e = refl
-no_one2many type.Date relation k plain e = refl
-no_one2many type.Datetime relation k plain e = refl
-no_one2many type.Selection relation k plain e = refl
-no_one2many type.Many2one relation k plain e = refl
-no_one2many type.Many2many relation k plain e = refl
+no_one2many _ relation k plain e = refl
 
 -- ---- two kinds are one, or they aren't
 

@@ -28,16 +28,9 @@ use Rattle.ob_schema.proofs.FormulaKinds.{kind_from_not_other, names_no_rows, we
 use Rattle.ob_schema.proofs.Operands.{AreReadable, operands, same_kind}
 
 not_list : (t : FieldType) → is_relation t ≡ false → is_list t ≡ false
-not_list type.Boolean e = refl
-not_list type.Integer e = refl
-not_list type.Char e = refl
-not_list type.Text e = refl
-not_list type.Date e = refl
-not_list type.Datetime e = refl
-not_list type.Selection e = refl
-not_list type.Many2one e = refl
 not_list type.One2many e = absurd (false≢true (sym e))
 not_list type.Many2many e = absurd (false≢true (sym e))
+not_list _ e = refl
 
 -- the keys of a field with an expression are those of a computed field
 computed_keys : (defs : List ModelDef) (def : ModelDef) (f : FieldDef) (text : List ℕ) → IsFaultless defs → Contains defs def → Contains def.fields f → f.compute ≡ Some text → IsBare f
