@@ -1,8 +1,10 @@
 //! Cases of `run` over objects in memory. The expected texts were worked out by hand from
 //! the rules of docs/CALL.md, and the bytes of rows from those of docs/VALUES.md. Here are
-//! the worked requests; `causes` has each status, refusal and failing call, and `places`
-//! where a request is malformed. `case` reads the pages, whose lines docs/CASES.md explains.
+//! the worked requests; `causes` has each status, refusal and failing call, `places` where
+//! a request is malformed, and `arguments` how optional arguments are given. `case` reads
+//! the pages, whose lines docs/CASES.md explains.
 
+mod arguments;
 mod case;
 mod causes;
 mod kept;
