@@ -6,6 +6,7 @@ use Rattle.std.proofs.lemmas.Bool.{false≢true}
 use Rattle.std.proofs.lemmas.Int.{ints, to_z-of_z}
 use Rattle.serde_json.specs.Data.{number, unsigned}
 use Rattle.serde_json.specs.View.{view}
+use Rattle.ob_base.specs.Tally.{Tally}
 use Rattle.ob_base.specs.Times.{IsMoment}
 use Rattle.ob_base.specs.declared.id.ModelNo.{ModelNo}
 use Rattle.ob_base.specs.declared.place.PathStep.{PathStep}
@@ -19,19 +20,23 @@ use Rattle.ob_schema.specs.Fields.{Column}
 use Rattle.ob_schema.specs.Models.{HasModel, model_at}
 use Rattle.ob_schema.specs.declared.info.ModelInfo.{ModelInfo}
 use Rattle.ob_orm.specs.Answer.{CreateAnswers, CreateCause, Refuses, called_by}
-use Rattle.ob_orm.specs.Arguments as arguments
-use Rattle.ob_orm.specs.Arguments.{◌>>=◌, arguments_of}
+use Rattle.ob_call.specs.Arguments as arguments
+use Rattle.ob_base.specs.Chain.{◌>>=◌}
+use Rattle.ob_call.specs.Arguments.{arguments_of}
+use Rattle.ob_call.specs.Forms.{fields_at}
 use Rattle.ob_orm.specs.Create.{CreateRefuses, IsIdColumn, cell_of, create_expects, created_row, row_from}
 use Rattle.ob_orm.specs.CreateSteps.{AreKept, ArePlain, BreaksRow, changes_of, gathered}
 use Rattle.ob_orm.specs.Kept.{Kept, KeepsModel}
 use Rattle.ob_orm.specs.Served.{IsServed}
 use Rattle.ob_orm.specs.Sound.{IsSound}
-use Rattle.ob_orm.specs.Tables.{Tables, made, next_id}
-use Rattle.ob_orm.specs.Parameters.{given_of}
-use Rattle.ob_orm.specs.declared.arguments.Given.{Given}
-use Rattle.ob_orm.specs.declared.call.Call.{Call}
+use Rattle.ob_orm.specs.Evaluations.{HasTicked, computed_count}
+use Rattle.ob_orm.specs.Tables.{Row, Tables, made, next_id}
+use Rattle.ob_call.specs.ArgumentsSteps.{all_given_of, given_of}
+use Rattle.ob_call.specs.Results.{IsResultOf}
+use Rattle.ob_call.specs.declared.arguments.Given.{Given}
+use Rattle.ob_call.specs.declared.call.Call.{Call}
 use Rattle.ob_orm.specs.declared.creating.Created.{Created}
-use Rattle.ob_orm.proofs.CreateArguments.{IsGivenBy}
+use Rattle.ob_orm.proofs.Expected.{at_info}
 use Rattle.ob_orm.proofs.CreateFields.{told}
 use Rattle.ob_orm.proofs.CreateStore.{kept_sound, made_kept, made_sound, no_links, none_broken}
 
@@ -47,10 +52,10 @@ abbrev pub RowIs : List ModelInfo → Call → List Value → Type 0
 RowIs models call values = IfSome (model_at models call.model) (λ info. created_row info call.now (view call.args.now) (view call.kw.now) ≡ Ok (gathered info values))
 
 -- as they are read
-pub row_is : (models : List ModelInfo) (call : Call) (gs : List (Option arguments.Given)) (values : List Value) → IfSome (model_at models call.model) (λ info. arguments_of info create_expects (view call.args.now) (view call.kw.now) ≡ Ok gs)
+pub row_is : (models : List ModelInfo) (call : Call) (gs : List (Option arguments.Given)) (values : List Value) → IfSome (model_at models call.model) (λ info. arguments_of (create_expects info.fields) (view call.args.now) (view call.kw.now) ≡ Ok gs)
     → IfSome (model_at models call.model) (λ info. row_from info call.now gs ≡ Ok (gathered info values)) → RowIs models call values
 row_is models call gs values given row = by (model_at models call.model) given row where
-  by : (o : Option ModelInfo) → IfSome o (λ info. arguments_of info create_expects (view call.args.now) (view call.kw.now) ≡ Ok gs) → IfSome o (λ info. row_from info call.now gs ≡ Ok (gathered info values)) → IfSome o (λ info. created_row info call.now (view call.args.now) (view call.kw.now) ≡ Ok (gathered info values))
+  by : (o : Option ModelInfo) → IfSome o (λ info. arguments_of (create_expects info.fields) (view call.args.now) (view call.kw.now) ≡ Ok gs) → IfSome o (λ info. row_from info call.now gs ≡ Ok (gathered info values)) → IfSome o (λ info. created_row info call.now (view call.args.now) (view call.kw.now) ≡ Ok (gathered info values))
   by None given row = tt
   by (Some info) given row = ap (λ (r : Result (List (Option arguments.Given)) (List PathStep)). r >>= row_from info call.now) given ∙ row
 
@@ -165,22 +170,112 @@ made_answer (Some store) models call rose next values kept created is served kno
 
 -- ---- as the steps say it
 
--- the arguments that were given, as they are passed on
-pub passed_on : (models : List ModelInfo) (call : Call) (items slice : List (Option Given)) → slice ≡ items → IfSome (model_at models call.model) (λ info. arguments_of info create_expects (view call.args.now) (view call.kw.now) ≡ Ok (map (option_map given_of) items))
-    → IfSome (model_at models call.model) (IsGivenBy slice)
-passed_on models call items slice same given = by (model_at models call.model) given where
-  by : (o : Option ModelInfo) → IfSome o (λ info. arguments_of info create_expects (view call.args.now) (view call.kw.now) ≡ Ok (map (option_map given_of) items)) → IfSome o (IsGivenBy slice)
-  by None given = tt
-  by (Some info) given = (view call.args.now, view call.kw.now, given ∙ ap (λ (gs : List (Option Given)). Ok (map (option_map given_of) gs)) (sym same))
+-- what the arguments are over the fields of the model
+abbrev pub CreateGives : List ModelInfo → Call → List (Option Given) → Type 0
+CreateGives models call items = arguments_of (create_expects (fields_at models call.model)) (view call.args.now) (view call.kw.now) ≡ Ok (all_given_of items)
+
+-- what holds of each model holds of one that may be there
+everywhere : (o : Option ModelInfo) (P : ModelInfo → Type 0) → ((info : ModelInfo) → P info) → IfSome o P
+everywhere None P each = tt
+everywhere (Some info) P each = each info
+
+-- what is known of a model that may be there, step by step
+known_of : (o : Option ModelInfo) (P Q : ModelInfo → Type 0) → ((info : ModelInfo) → P info → Q info) → IfSome o P → IfSome o Q
+known_of None P Q step h = tt
+known_of (Some info) P Q step h = step info h
+
+-- arguments that are wrong at a place give no row
+abbrev IsWrongAt : Call → List PathStep → ModelInfo → Type 0
+IsWrongAt call place info = created_row info call.now (view call.args.now) (view call.kw.now) ≡ Err place
+
+wrong_at : (models : List ModelInfo) (call : Call) (place : List PathStep) → arguments_of (create_expects (fields_at models call.model)) (view call.args.now) (view call.kw.now) ≡ Err place → IfSome (model_at models call.model) (IsWrongAt call place)
+wrong_at models call place e =
+    known_of (model_at models call.model) (λ info. arguments_of (create_expects info.fields) (view call.args.now) (view call.kw.now) ≡ Err place) (IsWrongAt call place)
+    (λ info is. ap (λ (r : Result (List (Option arguments.Given)) (List PathStep)). r >>= row_from info call.now) is)
+    (at_info models call.model (λ fields. arguments_of (create_expects fields) (view call.args.now) (view call.kw.now) ≡ Err place) e)
+
+-- arguments that are refused are the cause
+pub denied_cause : {A : Type 0} (of : A → List (Option arguments.Given)) (models : List ModelInfo) (call : Call) (rose : Type 0) (why : Refusal)
+    → IsResultOf of (Err why) (arguments_of (create_expects (fields_at models call.model)) (view call.args.now) (view call.kw.now))
+    → Refuses rose (λ w. IfSome (model_at models call.model) (λ info. (n : ℕ) × CreateCause (called_by call info) n w)) why
+denied_cause of models call rose (refusal.Request place) e =
+    known_of (model_at models call.model) (IsWrongAt call place) (λ info. (n : ℕ) × CreateCause (called_by call info) n (refusal.Request place)) (λ info is. (0, is)) (wrong_at models call place e)
+denied_cause of models call rose refusal.NoMemory e = tt
+denied_cause of models call rose _ e = absurd e
+
+-- and the machine's answer
+pub denied_answer : {A : Type 0} (of : A → List (Option arguments.Given)) (kept : Option Store) (models : List ModelInfo) (call : Call) (rose : Type 0) (why : Refusal)
+    → IsResultOf of (Err why) (arguments_of (create_expects (fields_at models call.model)) (view call.args.now) (view call.kw.now))
+    → AnsweredSo kept models call rose (Err why)
+denied_answer of None models call rose why e = tt
+denied_answer of (Some store) models call rose (refusal.Request place) e = λ tables stands sound.
+    known_of (model_at models call.model) (IsWrongAt call place) (λ info. CreateAnswers models store tables (called_by call info) rose (Err (refusal.Request place))) (λ info is. (is, refl)) (wrong_at models call place e)
+denied_answer of (Some store) models call rose refusal.NoMemory e = λ tables stands sound. everywhere (model_at models call.model) (λ info. CreateAnswers models store tables (called_by call info) rose (Err refusal.NoMemory)) (λ info. tt)
+denied_answer of (Some store) models call rose _ e = absurd e
+
+-- values that are refused
+plain_wrong : {A : Type 0} (of : ModelInfo → A → Row) (models : List ModelInfo) (call : Call) (items slice : List (Option Given)) (passed : ℤ) (why : Refusal) → passed ≡ call.now → slice ≡ items → CreateGives models call items
+    → IfSome (model_at models call.model) (λ info. IsResultOf (of info) (Err why) (row_from info passed (all_given_of slice)))
+    → IfSome (model_at models call.model) (λ info. IsResultOf (of info) (Err why) (created_row info call.now (view call.args.now) (view call.kw.now)))
+plain_wrong {A = A} of models call items slice passed why is same given wrong =
+    by (model_at models call.model) (at_info models call.model (λ fields. arguments_of (create_expects fields) (view call.args.now) (view call.kw.now) ≡ Ok (all_given_of items)) given) wrong where
+      by : (o : Option ModelInfo) → IfSome o (λ info. arguments_of (create_expects info.fields) (view call.args.now) (view call.kw.now) ≡ Ok (all_given_of items)) → IfSome o (λ info. IsResultOf (of info) (Err why) (row_from info passed (all_given_of slice)))
+          → IfSome o (λ info. IsResultOf (of info) (Err why) (created_row info call.now (view call.args.now) (view call.kw.now)))
+      by None given wrong = tt
+      by (Some info) given wrong =
+          let row : row_from info passed (all_given_of slice) ≡ created_row info call.now (view call.args.now) (view call.kw.now) =
+          ap (λ (n : ℤ). row_from info n (all_given_of slice)) is ∙ ap (λ (gs : List (Option Given)). row_from info call.now (all_given_of gs)) same
+          ∙ sym (ap (λ (r : Result (List (Option arguments.Given)) (List PathStep)). r >>= row_from info call.now) given) in
+          subst (IsResultOf (of info) (Err why)) row wrong
+
+-- a row that is wrong at a place is the cause
+pub row_cause : {A : Type 0} (of : ModelInfo → A → Row) (models : List ModelInfo) (call : Call) (rose : Type 0) (why : Refusal) → HasModel models call.model
+    → IfSome (model_at models call.model) (λ info. IsResultOf (of info) (Err why) (created_row info call.now (view call.args.now) (view call.kw.now)))
+    → Refuses rose (λ w. IfSome (model_at models call.model) (λ info. (n : ℕ) × CreateCause (called_by call info) n w)) why
+row_cause {A = A} of models call rose (refusal.Request place) there wrong =
+    known_of (model_at models call.model) (IsWrongAt call place) (λ info. (n : ℕ) × CreateCause (called_by call info) n (refusal.Request place)) (λ info is. (0, is)) wrong
+row_cause of models call rose refusal.NoMemory there wrong = tt
+row_cause {A = A} of models call rose _ there wrong = absurd (nowhere (model_at models call.model) there wrong) where
+  nowhere : (o : Option ModelInfo) → IsSome o → IfSome o (λ _. ⊥) → ⊥
+  nowhere None there wrong = false≢true there
+  nowhere (Some info) there wrong = wrong
+
+-- and the machine's answer
+pub row_answer : {A : Type 0} (of : ModelInfo → A → Row) (kept : Option Store) (models : List ModelInfo) (call : Call) (rose : Type 0) (why : Refusal) → HasModel models call.model
+    → IfSome (model_at models call.model) (λ info. IsResultOf (of info) (Err why) (created_row info call.now (view call.args.now) (view call.kw.now)))
+    → AnsweredSo kept models call rose (Err why)
+row_answer of None models call rose why there wrong = tt
+row_answer of (Some store) models call rose (refusal.Request place) there wrong = λ tables stands sound.
+    known_of (model_at models call.model) (IsWrongAt call place) (λ info. CreateAnswers models store tables (called_by call info) rose (Err (refusal.Request place))) (λ info is. (is, refl)) wrong
+row_answer of (Some store) models call rose refusal.NoMemory there wrong = λ tables stands sound. everywhere (model_at models call.model) (λ info. CreateAnswers models store tables (called_by call info) rose (Err refusal.NoMemory)) (λ info. tt)
+row_answer {A = A} of (Some store) models call rose _ there wrong = absurd (nowhere (model_at models call.model) there wrong) where
+  nowhere : (o : Option ModelInfo) → IsSome o → IfSome o (λ _. ⊥) → ⊥
+  nowhere None there wrong = false≢true there
+  nowhere (Some info) there wrong = wrong
+
+-- of the values that the arguments give
+pub plain_cause : {A : Type 0} (of : ModelInfo → A → Row) (models : List ModelInfo) (call : Call) (rose : Type 0) (items slice : List (Option Given)) (passed : ℤ) (why : Refusal) → HasModel models call.model → passed ≡ call.now → slice ≡ items → CreateGives models call items
+    → IfSome (model_at models call.model) (λ info. IsResultOf (of info) (Err why) (row_from info passed (all_given_of slice)))
+    → Refuses rose (λ w. IfSome (model_at models call.model) (λ info. (n : ℕ) × CreateCause (called_by call info) n w)) why
+plain_cause of models call rose items slice passed why there is same given wrong = row_cause of models call rose why there (plain_wrong of models call items slice passed why is same given wrong)
+
+pub plain_answer : {A : Type 0} (of : ModelInfo → A → Row) (kept : Option Store) (models : List ModelInfo) (call : Call) (rose : Type 0) (items slice : List (Option Given)) (passed : ℤ) (why : Refusal) → HasModel models call.model → passed ≡ call.now → slice ≡ items → CreateGives models call items
+    → IfSome (model_at models call.model) (λ info. IsResultOf (of info) (Err why) (row_from info passed (all_given_of slice)))
+    → AnsweredSo kept models call rose (Err why)
+plain_answer of kept models call rose items slice passed why there is same given wrong = row_answer of kept models call rose why there (plain_wrong of models call items slice passed why is same given wrong)
+
+-- no evaluation
+pub no_ticks : {L : Type 0} (o : Option ModelInfo) (noted : L → L) (start : Tally L) → IfSome o (λ info. HasTicked (computed_count info) noted start start)
+no_ticks o noted start = everywhere o (λ info. HasTicked (computed_count info) noted start start) (λ info. (0, (let e : 0 ≤ computed_count info = omega arith in e), refl))
 
 -- the moment of the call as it is passed on
 pub moment_passed : (now : ℤ) → IsMoment now → cast_signed w64 (cast_unsigned w64 now) ≡ now
 moment_passed now moment = let fits : FitsSigned w64 now = (let low = moment.low in let high = moment.high in grind (arith, ints)) in to_z-of_z w64 now fits
 
 -- the row of the values that they give
-pub row_passed : (models : List ModelInfo) (call : Call) (items slice : List (Option Given)) (values : List Value) (passed : ℤ) → passed ≡ call.now → slice ≡ items → IfSome (model_at models call.model) (λ info. arguments_of info create_expects (view call.args.now) (view call.kw.now) ≡ Ok (map (option_map given_of) items))
+pub row_passed : (models : List ModelInfo) (call : Call) (items slice : List (Option Given)) (values : List Value) (passed : ℤ) → passed ≡ call.now → slice ≡ items → CreateGives models call items
     → IfSome (model_at models call.model) (λ info. row_from info passed (map (option_map given_of) slice) ≡ Ok (gathered info values)) → RowIs models call values
 row_passed models call items slice values passed is same given row =
-    row_is models call (map (option_map given_of) items) values given
+    row_is models call (all_given_of items) values (at_info models call.model (λ fields. arguments_of (create_expects fields) (view call.args.now) (view call.kw.now) ≡ Ok (all_given_of items)) given)
     (subst (λ (gs : List (Option Given)). IfSome (model_at models call.model) (λ info. row_from info call.now (map (option_map given_of) gs) ≡ Ok (gathered info values))) same
     (subst (λ (n : ℤ). IfSome (model_at models call.model) (λ info. row_from info n (map (option_map given_of) slice) ≡ Ok (gathered info values))) is row))

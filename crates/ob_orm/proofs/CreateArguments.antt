@@ -10,18 +10,18 @@ use Rattle.ob_base.specs.declared.place.PathStep.{PathStep}
 use Rattle.ob_base.specs.declared.refusal.Refusal.{Refusal}
 use Rattle.ob_schema.specs.Fields.{plain_columns}
 use Rattle.ob_schema.specs.Models.{HasModel, model_at}
+use Rattle.ob_schema.specs.declared.info.FieldInfo.{FieldInfo}
 use Rattle.ob_schema.specs.declared.info.ModelInfo.{ModelInfo}
-use Rattle.ob_orm.specs.Arguments as arguments
-use Rattle.ob_orm.specs.Arguments.{arguments_of}
+use Rattle.ob_call.specs.Arguments as arguments
+use Rattle.ob_call.specs.Arguments.{AreFit}
+use Rattle.ob_call.specs.Forms.{fields_at}
 use Rattle.ob_orm.specs.Create.{create_expects, members_of, new_row, row_from}
-use Rattle.ob_orm.specs.Parameters.{Gives, given_of, spot_place}
-use Rattle.ob_orm.specs.declared.arguments.Given.{Given}
+use Rattle.ob_call.specs.ArgumentsSteps.{all_given_of, given_of}
+use Rattle.ob_call.specs.Places.{spot_place}
+use Rattle.ob_call.specs.Results.{IsResultOf}
+use Rattle.ob_call.specs.declared.arguments.Given.{Given}
 use Rattle.ob_orm.specs.Tables.{Row}
-use Rattle.ob_orm.proofs.ArgumentsLaws.{create_given}
-
--- some arguments gave these
-abbrev pub IsGivenBy : List (Option Given) → ModelInfo → Type 0
-IsGivenBy gs info = (args : Data) × (kw : Data) × (arguments_of info create_expects args kw ≡ Ok (map (option_map given_of) gs))
+use Rattle.ob_orm.proofs.Expected.{create_given}
 
 -- they are this one, an object
 pub record IsOne (gs : List (Option Given)) (given : Given) : Type 0 where
@@ -46,13 +46,11 @@ one_of (Some given ∷ []) g ms is json = (
 )
 one_of (Some given ∷ h ∷ gs) g ms is json = absurd cc
 
-pub one_given : (models : List ModelInfo) (model : ModelNo) (gs : List (Option Given)) → HasModel models model → IfSome (model_at models model) (IsGivenBy gs) → OneGiven gs
-one_given models model gs there given = by (model_at models model) there given where
-  by : (o : Option ModelInfo) → IsSome o → IfSome o (IsGivenBy gs) → OneGiven gs
-  by None there given = absurd cc
-  by (Some info) there (args, kw, is) =
-      let h = create_given info args kw (map (option_map given_of) gs) is in
-      one_of gs h.given h.members h.one h.json
+-- what fits a create is one
+pub one_given : (fields : List FieldInfo) (gs : List (Option Given)) → AreFit (create_expects fields) (all_given_of gs) → OneGiven gs
+one_given fields gs fit =
+    let h = create_given fields (all_given_of gs) fit in
+    one_of gs h.given h.members h.one h.json
 
 -- the first of them is none other
 pub the_one : (gs : List (Option Given)) (x : Option Given) (given : Given) → OneGiven gs → x ≡ get_or gs 0 x → x ≡ Some given → IsOne gs given
@@ -80,8 +78,8 @@ row_of_one info now gs given ms one same =
     ∙ ap (λ (m : Members). new_row now (spot_place given.spot) m (plain_columns info)) (sym same)
 
 pub row_given : {Of : Type 0} (o : Option ModelInfo) (passed now : ℤ) → passed ≡ now → (gs : List (Option Given)) (given : Given) (ms : Members) (of : ModelInfo → Of → Row) (r : Result Of Refusal) (one : IsOne gs given) → ms ≡ one.held
-    → IfSome o (λ info. Gives (of info) r (new_row passed (spot_place given.spot) ms (plain_columns info))) → IfSome o (λ info. Gives (of info) r (row_from info now (map (option_map given_of) gs)))
+    → IfSome o (λ info. IsResultOf (of info) r (new_row passed (spot_place given.spot) ms (plain_columns info))) → IfSome o (λ info. IsResultOf (of info) r (row_from info now (map (option_map given_of) gs)))
 row_given None passed now is gs given ms of r one same h = tt
 row_given (Some info) passed now is gs given ms of r one same h =
-    subst (λ (m : Result Row (List PathStep)). Gives (of info) r m)
+    subst (λ (m : Result Row (List PathStep)). IsResultOf (of info) r m)
     (ap (λ (n : ℤ). new_row n (spot_place given.spot) ms (plain_columns info)) is ∙ sym (row_of_one info now gs given ms one same)) h

@@ -32,7 +32,8 @@ use Rattle.ob_schema.specs.declared.field_type.FieldType.TheVariants as type
 use Rattle.ob_schema.specs.declared.info.FieldInfo.{FieldInfo}
 use Rattle.ob_orm.specs.Create.{given_value, is_stamp, new_value, placed}
 use Rattle.ob_orm.specs.CreateSteps.{IsFaultAt, IsGivable}
-use Rattle.ob_orm.specs.Parameters.{Gives, IsMalformedAt}
+use Rattle.ob_call.specs.Places.{IsMalformedAt}
+use Rattle.ob_call.specs.Results.{IsResultOf}
 use Rattle.ob_orm.proofs.CreateFields.{told, tell}
 
 -- ---- a value, where the field is no list
@@ -77,7 +78,7 @@ no_commands o f d os is no_list given =
 
 -- a value as it was read
 pub value_read : (o : Option FieldInfo) (f : FieldInfo) (d : Data) (place : FieldInfo → List PathStep) (v : Value) → o ≡ Some f → NoList o → GivenFrom o d (Ok (plain v))
-    → IfSome o (λ field. Gives (λ w. w) (Ok v) (placed (place field) (value_from field.field_type field.selection d)))
+    → IfSome o (λ field. IsResultOf (λ w. w) (Ok v) (placed (place field) (value_from field.field_type field.selection d)))
 value_read o f d place v is no_list given =
     let flat : is_list f.field_type ≡ false = told o f (λ field. is_list field.field_type ≡ false) is no_list in
     let from = told o f (λ info. given_from info.field_type info.selection d ≡ Ok (plain v)) is given in
@@ -85,33 +86,33 @@ value_read o f d place v is no_list given =
     (ap (placed (place f)) (plainly-plain (value_from f.field_type f.selection d) v (sym (given_plainly f.field_type f.selection d flat) ∙ from)))
 
 -- what tells a place gives it
-pub Gives-malformed : {A B : Type 0} (of : A → B) (place : List PathStep) (why : Refusal) (meant : Result B (List PathStep)) → IsMalformedAt place why → meant ≡ Err place → Gives of (Err why) meant
-Gives-malformed of place (refusal.Request told) meant at is = is ∙ ap Err (sym at)
-Gives-malformed of place (refusal.Right m op) meant at is = absurd at
-Gives-malformed of place (refusal.FieldRight m field) meant at is = absurd at
-Gives-malformed of place (refusal.Missing m id) meant at is = absurd at
-Gives-malformed of place (refusal.Rule m op id name) meant at is = absurd at
-Gives-malformed of place (refusal.Constraint b) meant at is = absurd at
-Gives-malformed of place refusal.Keeper meant at is = absurd at
-Gives-malformed of place refusal.NoMemory meant at is = tt
+pub IsResultOf-malformed : {A B : Type 0} (of : A → B) (place : List PathStep) (why : Refusal) (meant : Result B (List PathStep)) → IsMalformedAt place why → meant ≡ Err place → IsResultOf of (Err why) meant
+IsResultOf-malformed of place (refusal.Request told) meant at is = is ∙ ap Err (sym at)
+IsResultOf-malformed of place (refusal.Right m op) meant at is = absurd at
+IsResultOf-malformed of place (refusal.FieldRight m field) meant at is = absurd at
+IsResultOf-malformed of place (refusal.Missing m id) meant at is = absurd at
+IsResultOf-malformed of place (refusal.Rule m op id name) meant at is = absurd at
+IsResultOf-malformed of place (refusal.Constraint b) meant at is = absurd at
+IsResultOf-malformed of place refusal.Keeper meant at is = absurd at
+IsResultOf-malformed of place refusal.NoMemory meant at is = tt
 
 -- want of memory gives anything
-pub Gives-no_memory : {A B : Type 0} (of : A → B) (why : Refusal) (meant : Result B (List PathStep)) → why ≡ refusal.NoMemory → Gives of (Err why) meant
-Gives-no_memory {A = A} of why meant is = subst (λ (w : Refusal). Gives of (Err w) meant) (sym is) tt
+pub IsResultOf-no_memory : {A B : Type 0} (of : A → B) (why : Refusal) (meant : Result B (List PathStep)) → why ≡ refusal.NoMemory → IsResultOf of (Err why) meant
+IsResultOf-no_memory {A = A} of why meant is = subst (λ (w : Refusal). IsResultOf of (Err w) meant) (sym is) tt
 
 -- a fault of the value is one at its place
-fault_gives : (place : List PathStep) (fault : CodecFault) (why : Refusal) (r : Result Value CodecFault) → IsFaultAt place fault why → (fault ≢ codec.NoMemory → r ≡ Err fault) → Gives (λ w. w) (Err why) (placed place r)
-fault_gives place (codec.Shape below) why r at is = Gives-malformed (λ w. w) (place ++ below) why (placed place r) at (ap (placed place) (is (λ e. cc)))
-fault_gives place (codec.Range below) why r at is = Gives-malformed (λ w. w) (place ++ below) why (placed place r) at (ap (placed place) (is (λ e. cc)))
-fault_gives place (codec.Unknown below) why r at is = Gives-malformed (λ w. w) (place ++ below) why (placed place r) at (ap (placed place) (is (λ e. cc)))
-fault_gives place codec.NoMemory why r at is = Gives-no_memory (λ w. w) why (placed place r) at
+fault_gives : (place : List PathStep) (fault : CodecFault) (why : Refusal) (r : Result Value CodecFault) → IsFaultAt place fault why → (fault ≢ codec.NoMemory → r ≡ Err fault) → IsResultOf (λ w. w) (Err why) (placed place r)
+fault_gives place (codec.Shape below) why r at is = IsResultOf-malformed (λ w. w) (place ++ below) why (placed place r) at (ap (placed place) (is (λ e. cc)))
+fault_gives place (codec.Range below) why r at is = IsResultOf-malformed (λ w. w) (place ++ below) why (placed place r) at (ap (placed place) (is (λ e. cc)))
+fault_gives place (codec.Unknown below) why r at is = IsResultOf-malformed (λ w. w) (place ++ below) why (placed place r) at (ap (placed place) (is (λ e. cc)))
+fault_gives place codec.NoMemory why r at is = IsResultOf-no_memory (λ w. w) why (placed place r) at
 
 -- a value that wasn't read
 pub value_refused : (o : Option FieldInfo) (f : FieldInfo) (d : Data) (place : FieldInfo → List PathStep) (fault : CodecFault) (why : Refusal) → o ≡ Some f → NoList o → (fault ≢ codec.NoMemory → GivenFrom o d (Err fault)) → IsFaultAt (place f) fault why
-    → IfSome o (λ field. Gives (λ w. w) (Err why) (placed (place field) (value_from field.field_type field.selection d)))
+    → IfSome o (λ field. IsResultOf (λ w. w) (Err why) (placed (place field) (value_from field.field_type field.selection d)))
 value_refused o f d place fault why is no_list given at =
     let flat : is_list f.field_type ≡ false = told o f (λ field. is_list field.field_type ≡ false) is no_list in
-    tell o f (λ field. Gives (λ w. w) (Err why) (placed (place field) (value_from field.field_type field.selection d))) is
+    tell o f (λ field. IsResultOf (λ w. w) (Err why) (placed (place field) (value_from field.field_type field.selection d))) is
     (fault_gives (place f) fault why (value_from f.field_type f.selection d) at (λ apart. plainly-fault (value_from f.field_type f.selection d) fault
     (sym (given_plainly f.field_type f.selection d flat) ∙ told o f (λ info. given_from info.field_type info.selection d ≡ Err fault) is (given apart))))
 
@@ -135,17 +136,17 @@ member_of f name es r same at = sym (found name es r at ∙ ap (λ (n : List ℕ
 
 -- as what the object gives it is read
 pub new_given : (o : Option FieldInfo) (f : FieldInfo) (now : ℤ) (place : List PathStep) (es : List Entry) (name : List ℕ) (x : Bor Json) (r : Result Value Refusal) → o ≡ Some f → name ≡ f.name → is_stamp name ≡ false → FoundAt name es (Some x)
-    → IfSome o (λ field. Gives (λ w. w) r (placed (place ++ Key field.name ∷ []) (value_from field.field_type field.selection (view x.now))))
-    → IfSome o (λ field. Gives (λ w. w) r (new_value now place (members_view es) field))
+    → IfSome o (λ field. IsResultOf (λ w. w) r (placed (place ++ Key field.name ∷ []) (value_from field.field_type field.selection (view x.now))))
+    → IfSome o (λ field. IsResultOf (λ w. w) r (new_value now place (members_view es) field))
 new_given o f now place es name x r is same stamp at given =
-    let own = told o f (λ field. Gives (λ w. w) r (placed (place ++ Key field.name ∷ []) (value_from field.field_type field.selection (view x.now)))) is given in
+    let own = told o f (λ field. IsResultOf (λ w. w) r (placed (place ++ Key field.name ∷ []) (value_from field.field_type field.selection (view x.now)))) is given in
     let meant : new_value now place (members_view es) f ≡ placed (place ++ Key f.name ∷ []) (value_from f.field_type f.selection (view x.now)) =
     no_stamp now place (members_view es) f (ap is_stamp (sym same) ∙ stamp) ∙ ap (given_value (place ++ Key f.name ∷ []) f) (member_of f name es (Some x) same at) in
-    tell o f (λ field. Gives (λ w. w) r (new_value now place (members_view es) field)) is (subst (λ (m : Result Value (List PathStep)). Gives (λ w. w) r m) (sym meant) own)
+    tell o f (λ field. IsResultOf (λ w. w) r (new_value now place (members_view es) field)) is (subst (λ (m : Result Value (List PathStep)). IsResultOf (λ w. w) r m) (sym meant) own)
 
 -- its default where the object gives it nothing
 pub new_default : (o : Option FieldInfo) (f : FieldInfo) (now : ℤ) (place : List PathStep) (es : List Entry) (name : List ℕ) (v : Value) → o ≡ Some f → name ≡ f.name → is_stamp name ≡ false → FoundAt name es None
-    → v ≡ unwrap_or f.default (empty_value f.field_type) → IfSome o (λ field. Gives (λ w. w) (Ok v) (new_value now place (members_view es) field))
+    → v ≡ unwrap_or f.default (empty_value f.field_type) → IfSome o (λ field. IsResultOf (λ w. w) (Ok v) (new_value now place (members_view es) field))
 new_default o f now place es name v is same stamp at default =
     tell o f (λ field. new_value now place (members_view es) field ≡ Ok v) is
     (no_stamp now place (members_view es) f (ap is_stamp (sym same) ∙ stamp) ∙ ap (given_value (place ++ Key f.name ∷ []) f) (member_of f name es None same at) ∙ ap Ok (sym default))

@@ -6,7 +6,7 @@ use Rattle.std.specs.Result.{result_unwrap_or}
 use Rattle.std.proofs.lemmas.List.{drop_all, drop_more}
 use Rattle.std.proofs.lemmas.List.Elements.{All-cons, All-nil}
 use Rattle.std.proofs.lemmas.Option.{get_or_from_slice_get, slice_get-get_or, slice_get_within}
-use Rattle.ob_base.specs.Tally.{Tally, ticked}
+use Rattle.ob_base.specs.Tally.{Tally, ticked, ticked_times}
 use Rattle.ob_base.specs.declared.id.Cell.{Cell}
 use Rattle.ob_base.specs.declared.id.FieldNo.{FieldNo}
 use Rattle.ob_base.specs.declared.id.ModelNo.{ModelNo}
@@ -23,7 +23,7 @@ use Rattle.ob_schema.specs.declared.info.FieldInfo.{FieldInfo}
 use Rattle.ob_schema.specs.declared.info.ModelInfo.{ModelInfo}
 use Rattle.ob_orm.specs.Create.{cell_of, kind_of}
 use Rattle.ob_orm.specs.CreateSteps.{AreKept, BreaksCell, BreaksRow, GivesField, KeepsField, evaluations_of, gathered}
-use Rattle.ob_orm.specs.Evaluations.{computed_count, evaluated, is_computed}
+use Rattle.ob_orm.specs.Evaluations.{HasTicked, computed_count, is_computed}
 use Rattle.ob_orm.specs.Kept.{kept_values}
 use Rattle.ob_orm.specs.Scratch.{val, val_or_unset}
 use Rattle.ob_orm.specs.Sound.{HasValue}
@@ -148,14 +148,9 @@ computed_more info i f at = ap computed_in (left_more info i f at) ∙ by (is_co
   by false = omega arith
 
 -- evaluations one after the other
-pub evaluated-add : {L : Type 0} (a b : ℕ) (noted : L → L) (t : Tally L) → evaluated b noted (evaluated a noted t) ≡ evaluated (a + b) noted t
-evaluated-add zero b noted t = ap (λ (n : ℕ). evaluated n noted t) (let e : b ≡ zero + b = omega arith in e)
-evaluated-add (suc a) b noted t = evaluated-add a b noted (ticked noted t) ∙ ap (λ (n : ℕ). evaluated n noted t) (let e : suc (a + b) ≡ suc a + b = omega arith in e)
-
--- how often that was
-pub count-evaluated : {L : Type 0} (n : ℕ) (noted : L → L) (t : Tally L) → (evaluated n noted t).count ≡ t.count + n
-count-evaluated zero noted t = omega arith
-count-evaluated (suc n) noted t = count-evaluated n noted (ticked noted t) ∙ (let e : t.count + 1 + n ≡ t.count + suc n = omega arith in e)
+pub ticked_times-add : {L : Type 0} (a b : ℕ) (noted : L → L) (t : Tally L) → ticked_times b noted (ticked_times a noted t) ≡ ticked_times (a + b) noted t
+ticked_times-add zero b noted t = ap (λ (n : ℕ). ticked_times n noted t) (let e : b ≡ zero + b = omega arith in e)
+ticked_times-add (suc a) b noted t = ticked_times-add a b noted (ticked noted t) ∙ ap (λ (n : ℕ). ticked_times n noted t) (let e : suc (a + b) ≡ suc a + b = omega arith in e)
 
 -- ---- as the steps say it
 
@@ -245,35 +240,40 @@ step_passed models model fields i id values kept now same lt given stays far =
     (subst (KeptSoFar there.info id (gathered there.info values) (i + 1)) (sym stays)
     (kept_passed there.info id (gathered there.info values) i there.f kept there.field_is (step_gives models model fields i id values (Ok None) there given) (told o there.info (λ info. KeptSoFar info id (gathered info values) i kept) there.model_is far)))
 
--- the evaluations so far, with those that are left, are all
+-- so many evaluations so far, which with those that are left are all
+pub record TickedIn {L : Type 0} (info : ModelInfo) (noted : L → L) (i : ℕ) (now start : Tally L) : Type 0 where
+  pub times : ℕ
+  pub all : times + computed_in (drop i info.fields) ≡ computed_count info
+  pub is : now ≡ ticked_times times noted start
+
+-- of a model that may be there
 abbrev pub Ticked : {L : Type 0} → List ModelInfo → ModelNo → (L → L) → ℕ → Tally L → Tally L → Type 0
-Ticked models model noted i now start = IfSome (model_at models model) (λ info. evaluated (computed_in (drop i info.fields)) noted now ≡ evaluated (computed_count info) noted start)
+Ticked models model noted i now start = IfSome (model_at models model) (λ info. TickedIn info noted i now start)
 
 -- one more step
 pub step_ticked : {L : Type 0} (models : List ModelInfo) (model : ModelNo) (fields : List FieldInfo) (i : ℕ) (noted : L → L) (start now next : Tally L) → option_map (λ info. info.fields) (model_at models model) ≡ Some fields → i < length fields
-    → IfSome (field_at models model (record { 0 = i + 1 })) (λ field. next ≡ evaluated (evaluations_of field) noted now) → Ticked models model noted i now start → Ticked models model noted (i + 1) next start
+    → IfSome (field_at models model (record { 0 = i + 1 })) (λ field. next ≡ ticked_times (evaluations_of field) noted now) → Ticked models model noted i now start → Ticked models model noted (i + 1) next start
 step_ticked {L = L} models model fields i noted start now next same lt ticks far =
     let there = step_in models model fields i same lt in
     let o = model_at models model in
     let number : FieldNo = record { 0 = i + 1 } in
-    let more : next ≡ evaluated (evaluations_of there.f) noted now = told (field_at models model number) there.f (λ field. next ≡ evaluated (evaluations_of field) noted now) there.at ticks in
-    let rest = computed_in (drop (i + 1) there.info.fields) in
-    tell o there.info (λ info. evaluated (computed_in (drop (i + 1) info.fields)) noted next ≡ evaluated (computed_count info) noted start) there.model_is
-    (ap (evaluated rest noted) more ∙ evaluated-add (evaluations_of there.f) rest noted now
-    ∙ ap (λ (n : ℕ). evaluated n noted now) (sym (computed_more there.info i there.f there.field_is))
-    ∙ told o there.info (λ info. evaluated (computed_in (drop i info.fields)) noted now ≡ evaluated (computed_count info) noted start) there.model_is far)
+    let more : next ≡ ticked_times (evaluations_of there.f) noted now = told (field_at models model number) there.f (λ field. next ≡ ticked_times (evaluations_of field) noted now) there.at ticks in
+    let before : TickedIn there.info noted i now start = told o there.info (λ info. TickedIn info noted i now start) there.model_is far in
+    let own = computed_more there.info i there.f there.field_is in
+    let all = before.all in
+    tell o there.info (λ info. TickedIn info noted (i + 1) next start) there.model_is (record {
+      times = before.times + evaluations_of there.f;
+      all = omega arith;
+      is = more ∙ ap (ticked_times (evaluations_of there.f) noted) before.is ∙ ticked_times-add before.times (evaluations_of there.f) noted start;
+    })
 
 -- no more than all were carried out
 pub few_ticks : {L : Type 0} (models : List ModelInfo) (model : ModelNo) (i : ℕ) (noted : L → L) (start now : Tally L) → Ticked models model noted i now start
-    → IfSome (model_at models model) (λ info. now.count ≤ start.count + computed_count info)
+    → IfSome (model_at models model) (λ info. HasTicked (computed_count info) noted start now)
 few_ticks {L = L} models model i noted start now far = by (model_at models model) far where
-  by : (o : Option ModelInfo) → IfSome o (λ info. evaluated (computed_in (drop i info.fields)) noted now ≡ evaluated (computed_count info) noted start) → IfSome o (λ info. now.count ≤ start.count + computed_count info)
+  by : (o : Option ModelInfo) → IfSome o (λ info. TickedIn info noted i now start) → IfSome o (λ info. HasTicked (computed_count info) noted start now)
   by None far = tt
-  by (Some info) far =
-      let a = count-evaluated (computed_in (drop i info.fields)) noted now in
-      let b = count-evaluated (computed_count info) noted start in
-      let e : (evaluated (computed_in (drop i info.fields)) noted now).count ≡ (evaluated (computed_count info) noted start).count = ap (λ (t : Tally L). t.count) far in
-      omega arith
+  by (Some info) far = let all = far.all in (far.times, omega arith, far.is)
 
 -- ---- the end
 
@@ -287,20 +287,22 @@ all_kept models model fields i id values kept same past far = by (model_at model
 
 -- and evaluated
 pub all_ticked : {L : Type 0} (models : List ModelInfo) (model : ModelNo) (fields : List FieldInfo) (i : ℕ) (noted : L → L) (start now : Tally L) → option_map (λ info. info.fields) (model_at models model) ≡ Some fields → length fields ≤ i
-    → Ticked models model noted i now start → IfSome (model_at models model) (λ info. now ≡ evaluated (computed_count info) noted start)
+    → Ticked models model noted i now start → IfSome (model_at models model) (λ info. now ≡ ticked_times (computed_count info) noted start)
 all_ticked {L = L} models model fields i noted start now same past far = by (model_at models model) same far where
-  by : (o : Option ModelInfo) → option_map (λ info. info.fields) o ≡ Some fields → IfSome o (λ info. evaluated (computed_in (drop i info.fields)) noted now ≡ evaluated (computed_count info) noted start) → IfSome o (λ info. now ≡ evaluated (computed_count info) noted start)
+  by : (o : Option ModelInfo) → option_map (λ info. info.fields) o ≡ Some fields → IfSome o (λ info. TickedIn info noted i now start) → IfSome o (λ info. now ≡ ticked_times (computed_count info) noted start)
   by None same far = tt
   by (Some info) same far =
       let none : drop i info.fields ≡ [] = drop_all i info.fields (let e : info.fields ≡ fields = cc in omega (arith, ap length e)) in
-      sym (ap (λ (fs : List FieldInfo). evaluated (computed_in fs) noted now) none) ∙ far
+      let left : computed_in (drop i info.fields) ≡ 0 = ap computed_in none in
+      let all = far.all in
+      far.is ∙ ap (λ (n : ℕ). ticked_times n noted start) (let e : far.times ≡ computed_count info = omega arith in e)
 
 -- nothing is evaluated at first
 pub start_ticked : {L : Type 0} (models : List ModelInfo) (model : ModelNo) (noted : L → L) (start : Tally L) → Ticked models model noted 0 start start
 start_ticked {L = L} models model noted start = by (model_at models model) where
-  by : (o : Option ModelInfo) → IfSome o (λ info. evaluated (computed_in (drop 0 info.fields)) noted start ≡ evaluated (computed_count info) noted start)
+  by : (o : Option ModelInfo) → IfSome o (λ info. TickedIn info noted 0 start start)
   by None = tt
-  by (Some info) = refl
+  by (Some info) = record { times = 0; all = omega arith; is = refl }
 
 -- nor kept
 pub none_kept : (models : List ModelInfo) (model : ModelNo) (id : ℕ) (values kept : List Value) → kept ≡ [] → IfSome (model_at models model) (λ info. KeptSoFar info id (gathered info values) 0 kept)

@@ -27,10 +27,10 @@ use Rattle.ob_schema.specs.declared.field_type.FieldType.{FieldType}
 use Rattle.ob_schema.specs.declared.field_type.FieldType.TheVariants as type
 use Rattle.ob_schema.specs.declared.info.FieldInfo.{FieldInfo}
 use Rattle.ob_schema.specs.declared.info.ModelInfo.{ModelInfo}
-use Rattle.ob_orm.specs.Arguments.{◌>>=◌}
+use Rattle.ob_base.specs.Chain.{◌>>=◌}
 use Rattle.ob_orm.specs.Create.{is_stamp, new_row, new_value}
 use Rattle.ob_orm.specs.CreateSteps.{ArePlain, IsGivable, TakesValue, gathered, held_at}
-use Rattle.ob_orm.specs.Parameters.{Gives}
+use Rattle.ob_call.specs.Results.{IsResultOf}
 use Rattle.ob_orm.specs.Served.{IsServed}
 use Rattle.ob_orm.specs.Sound.{HasForms}
 use Rattle.ob_orm.specs.Tables.{Row}
@@ -218,16 +218,16 @@ if_right (Some info) P Q h = h.1
 -- a value that is wrong refuses the row
 pub taken_refused : (models : List ModelInfo) (model : ModelNo) (fields : List FieldInfo) (i : ℕ) (now : ℤ) (place : List PathStep) (ms : Members) (values : List Value) (why : Refusal) → option_map (λ info. info.fields) (model_at models model) ≡ Some fields → i < length fields
     → TakesAt models model i now place ms (Err why) → IfSome (model_at models model) (λ info. TakenSoFar now place ms info i values)
-    → (Of : Type 0) (of : ModelInfo → Of → Row) → IfSome (model_at models model) (λ info. Gives (of info) (Err why) (new_row now place ms (plain_columns info)))
+    → (Of : Type 0) (of : ModelInfo → Of → Row) → IfSome (model_at models model) (λ info. IsResultOf (of info) (Err why) (new_row now place ms (plain_columns info)))
 taken_refused models model fields i now place ms values why same lt takes far Of of =
     let there = step_in models model fields i same lt in
     let o = model_at models model in
     let number : FieldNo = record { 0 = i + 1 } in
     let own = told (field_at models model number) there.f (λ field. TakesValue field (new_value now place ms field) (Err why)) there.at takes in
     let before = told o there.info (λ info. TakenSoFar now place ms info i values) there.model_is far in
-    tell o there.info (λ info. Gives (of info) (Err why) (new_row now place ms (plain_columns info))) there.model_is
+    tell o there.info (λ info. IsResultOf (of info) (Err why) (new_row now place ms (plain_columns info))) there.model_is
     (by there why own (λ k f below at is. (get_or values k value.Nil, (before k f below at is).0))) where
-      by : (there : StepIn models model fields i) (why : Refusal) → (is_plain_kept there.f ≡ true) × Gives (λ (v : Value). v) (Err why) (new_value now place ms there.f) → TakenBefore now place ms i there.info.fields → Gives (of there.info) (Err why) (new_row now place ms (plain_columns there.info))
+      by : (there : StepIn models model fields i) (why : Refusal) → (is_plain_kept there.f ≡ true) × IsResultOf (λ (v : Value). v) (Err why) (new_value now place ms there.f) → TakenBefore now place ms i there.info.fields → IsResultOf (of there.info) (Err why) (new_row now place ms (plain_columns there.info))
       by there (refusal.Request e) (plain, wrong) before = row_refused now place ms 1 i there.info.fields there.f e before there.field_is plain wrong
       by there (refusal.Right m op) (plain, wrong) before = wrong
       by there (refusal.FieldRight m field) (plain, wrong) before = wrong

@@ -1,7 +1,5 @@
-pub mod ArgumentsForms
-pub mod ArgumentsTexts
-pub mod ArgumentsLaws
-pub mod ArgumentsSteps
+pub mod Expected
+pub mod RefusalTexts
 pub mod KeptHold
 pub mod ReadOnce
 pub mod ReadIds

@@ -7,26 +7,31 @@ use Rattle.std.proofs.lemmas.List.Elements.{All-cons, All-nil, All-head, All-tai
 use Rattle.std.proofs.lemmas.List.FromFn.{get_or-enumerate_from, length-enumerate_from}
 use Rattle.std.proofs.lemmas.Option.{slice_get-get_or}
 use Rattle.ob_base.specs.declared.id.FieldNo.{FieldNo}
+use Rattle.ob_base.specs.declared.place.PathStep.{PathStep}
 use Rattle.ob_base.specs.declared.refusal.Refusal.{Refusal}
 use Rattle.ob_base.specs.declared.refusal.Refusal.TheVariants as refusal
 use Rattle.ob_io.specs.Store.{Store}
 use Rattle.ob_schema.specs.Fields.{Column, columns}
 use Rattle.ob_schema.specs.Models.{model_at, numbered}
+use Rattle.ob_schema.specs.declared.info.FieldInfo.{FieldInfo}
 use Rattle.ob_schema.specs.declared.info.ModelInfo.{ModelInfo}
 use Rattle.serde_json.specs.Data.{Data, null, boolean, number, string, array, object}
 use Rattle.serde_json.specs.Find.{as_number, as_u64}
 use Rattle.serde_json.specs.View.{view}
 use Rattle.ob_orm.specs.Answer.{Called, ReadAnswers, ReadCause, Refuses, called_by}
-use Rattle.ob_orm.specs.Arguments as arguments
-use Rattle.ob_orm.specs.Arguments.{◌>>=◌, arguments_of, id_from, listed}
-use Rattle.ob_orm.specs.Parameters.{given_of}
+use Rattle.ob_call.specs.Arguments as arguments
+use Rattle.ob_base.specs.Chain.{◌>>=◌}
+use Rattle.ob_call.specs.Arguments.{AreFit, arguments_of}
+use Rattle.ob_call.specs.Forms.{fields_at, id_from, listed}
+use Rattle.ob_call.specs.ArgumentsSteps.{all_given_of, given_of}
+use Rattle.ob_call.specs.Results.{IsResultOf}
 use Rattle.ob_orm.specs.Read.{Asked, IsLeastMissing, ReadRefuses, TellsRows, asked_by, asked_columns, asked_of, columns_in, columns_named, ids_in, once, read_expects}
 use Rattle.ob_orm.specs.ReadParts.{columns_at}
 use Rattle.ob_orm.specs.ReadRows.{AnswersRows, IsMissingAmong, MissesLeast}
 use Rattle.ob_orm.specs.Tables.{Tables}
-use Rattle.ob_orm.specs.declared.arguments.Given.{Given}
-use Rattle.ob_orm.specs.declared.call.Call.{Call}
-use Rattle.ob_orm.proofs.ArgumentsLaws.{ReadGiven, read_given}
+use Rattle.ob_call.specs.declared.arguments.Given.{Given}
+use Rattle.ob_call.specs.declared.call.Call.{Call}
+use Rattle.ob_orm.proofs.Expected.{ReadGiven, at_info, read_given}
 use Rattle.ob_orm.proofs.ReadFetched.{Told}
 use Rattle.ob_orm.proofs.ReadNumbers.{numbers_in}
 use Rattle.ob_orm.proofs.ReadOnce.{All-once}
@@ -138,7 +143,7 @@ asked_there (Some info) given numbers known are = there_each info numbers (asked
 
 -- these are the arguments
 abbrev pub AreGiven : Option ModelInfo → Data → Data → List (Option Given) → Type 0
-AreGiven found args kw given = IfSome found (λ info. arguments_of info read_expects args kw ≡ Ok (map (option_map given_of) given))
+AreGiven found args kw given = IfSome found (λ info. arguments_of (read_expects info.fields) args kw ≡ Ok (all_given_of given))
 
 -- three arguments, the first of which is given
 pub record Three (given : List (Option Given)) : Type 0 where
@@ -156,10 +161,9 @@ three_of (Some first ∷ second ∷ []) ids fields load e = absurd cc
 three_of (Some first ∷ second ∷ third ∷ []) ids fields load e = record { first = first; second = second; third = third; are = refl }
 three_of (Some first ∷ second ∷ third ∷ more ∷ given) ids fields load e = absurd cc
 
--- the arguments of a read that are right
-pub three_given : (found : Option ModelInfo) (args kw : Data) (given : List (Option Given)) → IsSome found → AreGiven found args kw given → Three given
-three_given None args kw given known are = absurd cc
-three_given (Some info) args kw given known are = let is : ReadGiven info (map (option_map given_of) given) = read_given info args kw (map (option_map given_of) given) are in three_of given is.ids is.fields is.load is.three
+-- the arguments of a read that fit
+pub three_given : (fields : List FieldInfo) (given : List (Option Given)) → AreFit (read_expects fields) (all_given_of given) → Three given
+three_given fields given fit = let is : ReadGiven (all_given_of given) = read_given fields (all_given_of given) fit in three_of given is.ids is.fields is.load is.three
 
 -- what is asked for: these ids, and the fields of these numbers
 pub record Asks (info : ModelInfo) (args kw : Data) (ids : List ℕ) (numbers : List FieldNo) : Type 0 where
@@ -169,7 +173,7 @@ pub record Asks (info : ModelInfo) (args kw : Data) (ids : List ℕ) (numbers : 
   pub fields_are : asked.fields ≡ columns_at info numbers
 
 -- what the arguments ask for
-asks : (info : ModelInfo) (args kw : Data) (given : List (Option Given)) (three : Three given) (ids : List ℕ) (numbers : List FieldNo) → arguments_of info read_expects args kw ≡ Ok (map (option_map given_of) given)
+asks : (info : ModelInfo) (args kw : Data) (given : List (Option Given)) (three : Three given) (ids : List ℕ) (numbers : List FieldNo) → arguments_of (read_expects info.fields) args kw ≡ Ok (all_given_of given)
     → ids ≡ once (ids_in (view three.first.json.now)) → AreAsked (Some info) three.second numbers → Asks info args kw ids numbers
 asks info args kw given three ids numbers are ids_are numbers_are = record {
   asked = asked_by info (map (option_map given_of) (Some three.first ∷ three.second ∷ three.third ∷ []));
@@ -180,11 +184,10 @@ asks info args kw given three ids numbers are ids_are numbers_are = record {
 }
 
 -- the ids and numbers by the arguments at their places
-pub asks_in : (found : Option ModelInfo) (args kw : Data) (given : List (Option Given)) (first : Given) (second : Option Given) (ids : List ℕ) (numbers : List FieldNo) → IsSome found → AreGiven found args kw given
+pub asks_in : (found : Option ModelInfo) (args kw : Data) (given : List (Option Given)) (first : Given) (second : Option Given) (ids : List ℕ) (numbers : List FieldNo) → Three given → AreGiven found args kw given
     → Some first ≡ get_or given 0 (Some first) → second ≡ get_or given 1 second → ids ≡ once (ids_in (view first.json.now)) → AreAsked found second numbers → IfSome found (λ info. Asks info args kw ids numbers)
-asks_in None args kw given first second ids numbers known are one two ids_are numbers_are = tt
-asks_in (Some info) args kw given first second ids numbers known are one two ids_are numbers_are =
-    let three = three_given (Some info) args kw given refl are in
+asks_in None args kw given first second ids numbers three are one two ids_are numbers_are = tt
+asks_in (Some info) args kw given first second ids numbers three are one two ids_are numbers_are =
     let same_first : first ≡ three.first = let e : Some first ≡ Some three.first = one ∙ ap (λ (gs : List (Option Given)). get_or gs 0 (Some first)) three.are in cc in
     let same_second : second ≡ three.second = two ∙ ap (λ (gs : List (Option Given)). get_or gs 1 second) three.are in
     asks info args kw given three ids numbers are (ids_are ∙ ap (λ (g : Given). once (ids_in (view g.json.now))) same_first) (subst (λ (g : Option Given). AreAsked (Some info) g numbers) same_second numbers_are)
@@ -251,3 +254,40 @@ told_causes found call rose ids numbers (Ok json) a missing = tt
 told_causes found call rose ids numbers (Err why) a missing =
     Refuses-weaker rose rose (IsMissingAmong call.model ids) (λ cause. IfSome found (λ info. ReadCause (called_by call info) cause)) why (λ r. r)
     (λ cause h. known_map found (λ info. Asks info (view call.args.now) (view call.kw.now) ids numbers) (λ info. ReadCause (called_by call info) cause) (λ info b. cause_of (called_by call info) ids numbers b cause h) a) missing
+
+-- ---- arguments that are refused
+
+-- arguments that are wrong at a place ask for nothing
+abbrev IsWrongAt : Call → List PathStep → ModelInfo → Type 0
+IsWrongAt call place info = asked_of info (view call.args.now) (view call.kw.now) ≡ Err place
+
+wrong_at : (models : List ModelInfo) (call : Call) (place : List PathStep) → arguments_of (read_expects (fields_at models call.model)) (view call.args.now) (view call.kw.now) ≡ Err place → IfSome (model_at models call.model) (IsWrongAt call place)
+wrong_at models call place e =
+    known_map (model_at models call.model) (λ info. arguments_of (read_expects info.fields) (view call.args.now) (view call.kw.now) ≡ Err place) (IsWrongAt call place)
+    (λ info is. ap (λ (r : Result (List (Option arguments.Given)) (List PathStep)). r >>= λ gs. Ok (asked_by info gs)) is)
+    (at_info models call.model (λ fields. arguments_of (read_expects fields) (view call.args.now) (view call.kw.now) ≡ Err place) e)
+
+-- that is the cause
+pub denied_cause : {A : Type 0} (of : A → List (Option arguments.Given)) (models : List ModelInfo) (call : Call) (rose : Type 0) (why : Refusal)
+    → IsResultOf of (Err why) (arguments_of (read_expects (fields_at models call.model)) (view call.args.now) (view call.kw.now))
+    → Refuses rose (λ w. IfSome (model_at models call.model) (λ info. ReadCause (called_by call info) w)) why
+denied_cause of models call rose (refusal.Request place) e = wrong_at models call place e
+denied_cause of models call rose refusal.NoMemory e = tt
+denied_cause of models call rose _ e = absurd e
+
+-- and the machine's answer
+denied_over : {A : Type 0} (of : A → List (Option arguments.Given)) (models : List ModelInfo) (call : Call) (rose : Type 0) (why : Refusal) (tables : Tables)
+    → IsResultOf of (Err why) (arguments_of (read_expects (fields_at models call.model)) (view call.args.now) (view call.kw.now))
+    → IfSome (model_at models call.model) (λ info. ReadAnswers tables (called_by call info) rose (Err why))
+denied_over of models call rose (refusal.Request place) tables e = wrong_at models call place e
+denied_over of models call rose refusal.NoMemory tables e = everywhere (model_at models call.model) (λ info. ReadAnswers tables (called_by call info) rose (Err refusal.NoMemory)) (λ info. tt) where
+  everywhere : (o : Option ModelInfo) (P : ModelInfo → Type 0) → ((info : ModelInfo) → P info) → IfSome o P
+  everywhere None P each = tt
+  everywhere (Some info) P each = each info
+denied_over of models call rose _ tables e = absurd e
+
+pub denied_answer : {A : Type 0} (of : A → List (Option arguments.Given)) (models : List ModelInfo) (kept : Option Store) (call : Call) (rose : Type 0) (why : Refusal)
+    → IsResultOf of (Err why) (arguments_of (read_expects (fields_at models call.model)) (view call.args.now) (view call.kw.now))
+    → Told models kept (λ tables. IfSome (model_at models call.model) (λ info. ReadAnswers tables (called_by call info) rose (Err why)))
+denied_answer of models None call rose why e = tt
+denied_answer of models (Some store) call rose why e = λ tables stands sound. denied_over of models call rose why tables e

@@ -10,9 +10,9 @@ use Rattle.ob_base.specs.declared.id.FieldNo.{FieldNo}
 use Rattle.ob_base.specs.declared.memory.NoMemory.{NoMemory}
 use Rattle.ob_schema.specs.Fields.{Column}
 use Rattle.ob_schema.specs.declared.info.ModelInfo.{ModelInfo}
-use Rattle.ob_orm.specs.Arguments.{id_from, listed}
-use Rattle.ob_orm.specs.Parameters.{given_of}
-use Rattle.ob_orm.specs.declared.arguments.Given.{Given}
+use Rattle.ob_call.specs.Forms.{id_from, listed}
+use Rattle.ob_call.specs.ArgumentsSteps.{given_of}
+use Rattle.ob_call.specs.declared.arguments.Given.{Given}
 use Rattle.ob_orm.proofs.ReadNumbers.{numbers_in}
 use Rattle.ob_orm.specs.Read.{asked_columns, columns_in, columns_named, ids_in}
 

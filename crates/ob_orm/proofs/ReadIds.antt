@@ -9,7 +9,7 @@ use Rattle.std.proofs.lemmas.List.{append-nil, map-append, take_more}
 use Rattle.std.proofs.lemmas.List.Elements.{filter_map-append}
 use Rattle.serde_json.specs.View.{view}
 use Rattle.serde_json.specs.declared.value.Value.{Value}
-use Rattle.ob_orm.specs.Arguments.{id_from}
+use Rattle.ob_call.specs.Forms.{id_from}
 use Rattle.ob_orm.specs.Read.{once}
 use Rattle.ob_orm.proofs.ReadOnce.{has, has_push, once_new, once_old}
 

@@ -17,7 +17,7 @@ use Rattle.ob_schema.specs.Fields.{Column, columns}
 use Rattle.ob_schema.specs.Models.{numbered}
 use Rattle.ob_schema.specs.declared.info.FieldInfo.{FieldInfo}
 use Rattle.ob_schema.specs.declared.info.ModelInfo.{ModelInfo}
-use Rattle.ob_orm.specs.Arguments.{number_from}
+use Rattle.ob_call.specs.Forms.{number_from}
 use Rattle.ob_orm.specs.Read.{columns_named, is_named}
 use Rattle.ob_orm.specs.ReadParts.{flagged}
 
@@ -77,7 +77,7 @@ numbered-range fields (suc n) there = let past = slice_get-past fields n there i
 
 -- whether a text names the field of this number
 abbrev names : ModelInfo → Data → ℕ → Bool
-names info d number = option_map_or (λ named. named.0 == number) (number_from info d) false
+names info d number = option_map_or (λ named. named.0 == number) (number_from info.fields d) false
 
 -- the flags are set of the fields that the items before a place name
 pub record IsFlaggedTo (found : Option ModelInfo) (items : List Value) (i : ℕ) (flags : List Bool) : Type 0 where
@@ -119,7 +119,7 @@ named_more info items i item number lt is =
 
 -- the flag of the field that an item names is set
 pub IsFlaggedTo-more : (found : Option ModelInfo) (items : List Value) (i : ℕ) (flags : List Bool) (item : Value) (number : FieldNo) → i < length items → item ≡ get_or items i item
-    → IsSome (option_and_then (λ info. numbered info.fields number.0) found) → IfSome found (λ info. Some number ≡ number_from info (view item))
+    → IsSome (option_and_then (λ info. numbered info.fields number.0) found) → IfSome found (λ info. Some number ≡ number_from info.fields (view item))
     → IsFlaggedTo found items i flags → IsFlaggedTo found items (i + 1) (set flags (number.0 - 1) true)
 IsFlaggedTo-more None items i flags item number lt is there given so_far = absurd cc
 IsFlaggedTo-more (Some info) items i flags item number lt is there given so_far =
@@ -138,7 +138,7 @@ IsFlaggedTo-more (Some info) items i flags item number lt is there given so_far 
 
 -- an item that names no field sets no flag
 pub IsFlaggedTo-pass : (found : Option ModelInfo) (items : List Value) (i : ℕ) (flags : List Bool) (item : Value) → i < length items → item ≡ get_or items i item
-    → IfSome found (λ info. None ≡ number_from info (view item)) → IsFlaggedTo found items i flags → IsFlaggedTo found items (i + 1) flags
+    → IfSome found (λ info. None ≡ number_from info.fields (view item)) → IsFlaggedTo found items i flags → IsFlaggedTo found items (i + 1) flags
 IsFlaggedTo-pass None items i flags item lt is given so_far = record { few = so_far.few; named = tt }
 IsFlaggedTo-pass (Some info) items i flags item lt is given so_far =
     let p = λ (k : ℕ). is_named info (map view (take i items)) k in

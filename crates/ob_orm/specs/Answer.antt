@@ -13,19 +13,14 @@ use Rattle.ob_orm.specs.Tables.{Tables}
 use Rattle.ob_orm.specs.Sound.{IsSound}
 use Rattle.ob_orm.specs.Kept.{Kept}
 use Rattle.ob_orm.specs.Create.{CreateRefuses, Creates}
-use Rattle.ob_orm.specs.declared.call.Call.{Call}
+use Rattle.ob_call.specs.declared.call.Call.{Call}
 use Rattle.ob_orm.specs.Read.{Asked, asked_of, Reads}
 
 -- a refusal has this cause; the keeper's comes only where its count rose, and want of memory at any time
 abbrev pub Refuses : Type 0 → (Refusal → Type 0) → Refusal → Type 0
-Refuses rose P (refusal.Request place) = P (refusal.Request place)
-Refuses rose P (refusal.Right m op) = P (refusal.Right m op)
-Refuses rose P (refusal.FieldRight m field) = P (refusal.FieldRight m field)
-Refuses rose P (refusal.Missing m id) = P (refusal.Missing m id)
-Refuses rose P (refusal.Rule m op id name) = P (refusal.Rule m op id name)
-Refuses rose P (refusal.Constraint b) = P (refusal.Constraint b)
 Refuses rose P refusal.Keeper = rose
 Refuses rose P refusal.NoMemory = ⊤
+Refuses rose P why = P why
 
 -- The call that is handed in, by what it means.
 pub record Called : Type 0 where
@@ -50,12 +45,7 @@ ReadAnswers tables c rose (Err why) = Refuses rose (λ cause. Reads c.model c.in
 abbrev pub ReadCause : Called → Refusal → Type 0
 ReadCause c (refusal.Request place) = asked_of c.info c.args c.kw ≡ Err place
 ReadCause c (refusal.Missing m id) = (asked : Asked) × (asked_of c.info c.args c.kw ≡ Ok asked) × (m ≡ c.model) × Contains asked.ids id.0
-ReadCause c (refusal.Right m op) = ⊥
-ReadCause c (refusal.FieldRight m field) = ⊥
-ReadCause c (refusal.Rule m op id name) = ⊥
-ReadCause c (refusal.Constraint b) = ⊥
-ReadCause c refusal.Keeper = ⊥
-ReadCause c refusal.NoMemory = ⊥
+ReadCause c _ = ⊥
 
 -- an answer, its JSON seen as its data
 abbrev pub result_view : Result Value Refusal → Result Data Refusal

@@ -1,5 +1,7 @@
 -- The machine's `create`: one row of given values, under the model's next id.
 use Rattle.std.specs.Prelude.{◌≡◌, ℕ, ◌<◌, ℤ, List, [], ◌∷◌, ◌++◌, codes, bytes_eq, if◌then◌else◌, Bool, true, ◌||◌, Option, Some, None, Result, Ok, Err, Contains, ◌⊎◌, unwrap_or}
+use Rattle.ob_base.specs.Chain.{◌>>=◌}
+use Rattle.ob_base.specs.Limits.{max_id}
 use Rattle.ob_base.specs.declared.id.Cell.{Cell}
 use Rattle.ob_base.specs.declared.id.ModelNo.{ModelNo}
 use Rattle.ob_base.specs.declared.place.PathStep.{PathStep}
@@ -20,14 +22,14 @@ use Rattle.ob_schema.specs.declared.info.FieldInfo.{FieldInfo}
 use Rattle.ob_schema.specs.declared.info.ModelInfo.{ModelInfo}
 use Rattle.serde_json.specs.Data.{unsigned, Data, null, boolean, number, string, array, object, Members, no_members}
 use Rattle.serde_json.specs.Find.{get_member}
-use Rattle.ob_orm.specs.declared.forms.Form.TheVariants as form
-use Rattle.ob_orm.specs.Arguments.{◌>>=◌, Expected, Given, arguments_of}
+use Rattle.ob_call.specs.Arguments.{Expected, Given, arguments_of}
+use Rattle.ob_orm.specs.Values.{values_fault}
 use Rattle.ob_orm.specs.Tables.{Row, Tables, next_id, made}
 use Rattle.ob_orm.specs.Scratch.{val}
 
 -- what a create is called with: an object of values
-abbrev pub create_expects : List Expected
-create_expects = record { name = codes "vals"; required = true; form = form.Values } ∷ []
+abbrev pub create_expects : List FieldInfo → List Expected
+create_expects fields = record { name = codes "vals"; required = true; fault = values_fault fields } ∷ []
 
 -- the place below a value where it is not of its form
 abbrev pub place_of : CodecFault → List PathStep
@@ -61,22 +63,17 @@ new_row now place members (column ∷ more) = new_value now place members column
 
 -- the members of an object; nothing else has any
 abbrev pub members_of : Data → Members
-members_of null = no_members
-members_of (boolean b) = no_members
-members_of (number n) = no_members
-members_of (string text) = no_members
-members_of (array items) = no_members
 members_of (object members) = members
+members_of _ = no_members
 
 -- the row of the one argument
 abbrev pub row_from : ModelInfo → ℤ → List (Option Given) → Result Row (List PathStep)
-row_from info now [] = Ok []
-row_from info now (None ∷ gs) = Ok []
 row_from info now (Some g ∷ gs) = new_row now g.place (members_of g.json) (plain_columns info)
+row_from info now _ = Ok []
 
 -- the row that a create makes at a moment, or the first place that is wrong: of the arguments, then of the values
 abbrev pub created_row : ModelInfo → ℤ → (args kw : Data) → Result Row (List PathStep)
-created_row info now args kw = arguments_of info create_expects args kw >>= row_from info now
+created_row info now args kw = arguments_of (create_expects info.fields) args kw >>= row_from info now
 
 -- how a cell is broken whose formula has this fault
 abbrev pub kind_of : ValueFault → BrokenKind
@@ -101,19 +98,14 @@ pub record IsIdColumn (info : ModelInfo) (column : Column) : Type 0 where
 -- What the row would break under this id: the id is past its limit, or a field has no value.
 abbrev pub Breaks : ModelNo → ModelInfo → ℕ → Row → Broken → Type 0
 Breaks model info id row b =
-    ((4294967295 < id) × (column : Column) × IsIdColumn info column × (b ≡ record { kind = broken.Limit; cell = cell_of model id column.0 }))
+    ((max_id < id) × (column : Column) × IsIdColumn info column × (b ≡ record { kind = broken.Limit; cell = cell_of model id column.0 }))
     ⊎ ((column : Column) × (fault : ValueFault) × HasFault info id row column fault × (b ≡ record { kind = kind_of fault; cell = cell_of model id column.0 }))
 
 -- why a create at this moment is refused where the model's next id is this
 abbrev pub CreateRefuses : ModelNo → ModelInfo → ℤ → ℕ → (args kw : Data) → Refusal → Type 0
 CreateRefuses model info now next args kw (refusal.Request place) = created_row info now args kw ≡ Err place
 CreateRefuses model info now next args kw (refusal.Constraint b) = (row : Row) × (created_row info now args kw ≡ Ok row) × Breaks model info next row b
-CreateRefuses model info now next args kw (refusal.Right m op) = ⊥
-CreateRefuses model info now next args kw (refusal.FieldRight m field) = ⊥
-CreateRefuses model info now next args kw (refusal.Missing m id) = ⊥
-CreateRefuses model info now next args kw (refusal.Rule m op id name) = ⊥
-CreateRefuses model info now next args kw refusal.Keeper = ⊥
-CreateRefuses model info now next args kw refusal.NoMemory = ⊥
+CreateRefuses model info now next args kw _ = ⊥
 
 -- a create that is carried out: nothing is broken, and the row stands under the next id, which is the answer
 pub record IsCreated (model : ModelNo) (info : ModelInfo) (now : ℤ) (old : Tables) (args kw json : Data) (new : Tables) : Type 0 where

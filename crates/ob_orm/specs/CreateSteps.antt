@@ -4,7 +4,8 @@ use Rattle.std.specs.Str.{IsUtf8}
 use Rattle.ob_base.specs.declared.place.PathStep.{PathStep}
 use Rattle.ob_codec.specs.declared.fault.CodecFault.{CodecFault}
 use Rattle.ob_codec.specs.declared.fault.CodecFault.TheVariants as codec
-use Rattle.ob_orm.specs.Parameters.{Gives, IsMalformedAt}
+use Rattle.ob_call.specs.Places.{IsMalformedAt}
+use Rattle.ob_call.specs.Results.{IsResultOf}
 use Rattle.ob_base.specs.declared.id.Cell.{Cell}
 use Rattle.ob_base.specs.declared.id.ModelNo.{ModelNo}
 use Rattle.ob_base.specs.declared.refusal.Refusal.{Refusal}
@@ -51,7 +52,7 @@ pub record IsGivable (field : FieldInfo) : Type 0 where
 -- a plain value, where calls give the field one, or what is told of the place that is wrong
 abbrev pub TakesValue : FieldInfo → Result Value (List PathStep) → Result Value Refusal → Type 0
 TakesValue field meant (Ok v) = is_plain_kept field ≡ true → (meant ≡ Ok v) × Holds field v
-TakesValue field meant (Err why) = (is_plain_kept field ≡ true) × Gives (λ v. v) (Err why) meant
+TakesValue field meant (Err why) = (is_plain_kept field ≡ true) × IsResultOf (λ v. v) (Err why) meant
 
 -- the refusal tells a fault at its place below this one
 abbrev pub IsFaultAt : List PathStep → CodecFault → Refusal → Type 0
@@ -62,14 +63,8 @@ IsFaultAt place codec.NoMemory why = why ≡ refusal.NoMemory
 
 -- a text is UTF-8
 abbrev pub IsTextual : Value → Type 0
-IsTextual value.Nil = ⊤
-IsTextual (value.Bool b) = ⊤
-IsTextual (value.Int n) = ⊤
 IsTextual (value.Word text) = IsUtf8 text
-IsTextual (value.Day n) = ⊤
-IsTextual (value.Moment n) = ⊤
-IsTextual (value.Ref id) = ⊤
-IsTextual (value.Refs ids) = ⊤
+IsTextual _ = ⊤
 
 -- each field of the tree is among the values, and its value is of its kind
 abbrev pub HoldsOperands : List Value → TypedTree → Type 0
@@ -77,14 +72,9 @@ HoldsOperands values = EachField (λ number k. (1 ≤ number.0) × (number.0 ≤
 
 -- the cell is broken by what its value is, or memory is wanting
 abbrev pub BreaksCell : Cell → Result Value ValueFault → Refusal → Type 0
-BreaksCell cell meant (refusal.Request place) = ⊥
-BreaksCell cell meant (refusal.Right m op) = ⊥
-BreaksCell cell meant (refusal.FieldRight m field) = ⊥
-BreaksCell cell meant (refusal.Missing m id) = ⊥
-BreaksCell cell meant (refusal.Rule m op id name) = ⊥
 BreaksCell cell meant (refusal.Constraint b) = (fault : ValueFault) × (meant ≡ Err fault) × (b ≡ record { kind = kind_of fault; cell = cell })
-BreaksCell cell meant refusal.Keeper = ⊥
 BreaksCell cell meant refusal.NoMemory = ⊤
+BreaksCell cell meant _ = ⊥
 
 -- the value, or how its cell is broken, or want of memory
 abbrev pub GivesValue : Cell → Result Value ValueFault → Result Value Refusal → Type 0
@@ -117,14 +107,9 @@ changes_of models model id values = Put model (record { id = record { 0 = id }; 
 
 -- a field of the row has no value, or memory is wanting
 abbrev pub BreaksRow : ModelNo → ModelInfo → ℕ → Row → Refusal → Type 0
-BreaksRow model info id row (refusal.Request place) = ⊥
-BreaksRow model info id row (refusal.Right m op) = ⊥
-BreaksRow model info id row (refusal.FieldRight m field) = ⊥
-BreaksRow model info id row (refusal.Missing m i) = ⊥
-BreaksRow model info id row (refusal.Rule m op i name) = ⊥
 BreaksRow model info id row (refusal.Constraint b) = (column : Column) × (fault : ValueFault) × HasFault info id row column fault × (b ≡ record { kind = kind_of fault; cell = cell_of model id column.0 })
-BreaksRow model info id row refusal.Keeper = ⊥
 BreaksRow model info id row refusal.NoMemory = ⊤
+BreaksRow model info id row _ = ⊥
 
 -- the values that the row keeps, or what it would break, or want of memory
 abbrev pub GivesKept : ModelNo → ModelInfo → ℕ → Row → Result (List Value) Refusal → Type 0

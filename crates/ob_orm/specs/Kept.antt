@@ -21,14 +21,9 @@ kept_values info id row = map (λ column. val_or_unset column id row) (filter (�
 
 -- the rows that a value names
 abbrev pub targets_of : Value → List RecId
-targets_of value.Nil = []
-targets_of (value.Bool b) = []
-targets_of (value.Int n) = []
-targets_of (value.Word bytes) = []
-targets_of (value.Day n) = []
-targets_of (value.Moment n) = []
 targets_of (value.Ref id) = id ∷ []
 targets_of (value.Refs ids) = ids
+targets_of _ = []
 
 -- the links of a row: its plain kept fields with the rows that their values name
 abbrev pub links_of : ModelInfo → Row → List Link

@@ -3,15 +3,14 @@ pub mod Scratch
 pub mod Sound
 pub mod Kept
 pub mod Served
-pub mod Arguments
+pub mod Values
 pub mod Create
 pub mod Read
 pub mod RefusalText
 pub mod Answer
 pub mod Faults
 pub mod Evaluations
-pub mod Parameters
-pub mod ArgumentsSteps
+pub mod ReadForm
 pub mod ReadParts
 pub mod ReadRows
 pub mod CreateSteps

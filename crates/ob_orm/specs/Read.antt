@@ -2,36 +2,35 @@
 use Rattle.std.specs.Prelude.{◌≡◌, ℕ, ◌≤◌, ◌==◌, List, [], ◌∷◌, filter, not, codes, Bool, true, false, Option, Some, None, Result, Ok, Err, Contains, All, ⊤}
 use Rattle.std.specs.List.{filter_map, list_any}
 use Rattle.std.specs.Option.{option_map_or}
+use Rattle.ob_base.specs.Chain.{◌>>=◌}
 use Rattle.ob_base.specs.declared.id.ModelNo.{ModelNo}
 use Rattle.ob_base.specs.declared.place.PathStep.{PathStep}
 use Rattle.ob_base.specs.declared.refusal.Refusal.{Refusal}
 use Rattle.ob_base.specs.declared.refusal.Refusal.TheVariants as refusal
 use Rattle.ob_codec.specs.JsonForm.{Tells}
 use Rattle.ob_schema.specs.Fields.{Column, columns}
+use Rattle.ob_schema.specs.declared.info.FieldInfo.{FieldInfo}
 use Rattle.ob_schema.specs.declared.info.ModelInfo.{ModelInfo}
 use Rattle.serde_json.specs.Data.{unsigned, Data, null, boolean, number, string, array, object, Members, no_members, put}
 use Rattle.serde_json.specs.View.{items_of}
-use Rattle.ob_orm.specs.declared.forms.Form.TheVariants as form
-use Rattle.ob_orm.specs.Arguments.{◌>>=◌, Expected, Given, arguments_of, id_from, listed, number_from}
+use Rattle.ob_call.specs.Arguments.{Expected, Given, arguments_of}
+use Rattle.ob_call.specs.Forms.{id_from, ids_fault, listed, names_fault, number_from}
 use Rattle.ob_orm.specs.Tables.{Row, Tables, row_of}
 use Rattle.ob_orm.specs.Scratch.{val_or_unset}
 
 -- what a read is called with: ids, fields, and a way of loading that is not read
-abbrev pub read_expects : List Expected
-read_expects = record { name = codes "ids"; required = true; form = form.Ids } ∷ record { name = codes "fields"; required = false; form = form.Fields } ∷ record { name = codes "load"; required = false; form = form.Unread } ∷ []
+abbrev pub read_expects : List FieldInfo → List Expected
+read_expects fields = record { name = codes "ids"; required = true; fault = ids_fault } ∷ record { name = codes "fields"; required = false; fault = names_fault fields } ∷ record { name = codes "load"; required = false; fault = λ _. None } ∷ []
 
 -- the ids of an argument of that form
 abbrev pub ids_in : Data → List ℕ
-ids_in null = []
-ids_in (boolean b) = []
 ids_in (number n) = filter_map id_from (number n ∷ [])
-ids_in (string text) = []
 ids_in (array items) = filter_map id_from (listed items)
-ids_in (object _) = []
+ids_in _ = []
 
 -- whether one of these texts names the field of this number
 abbrev pub is_named : ModelInfo → List Data → ℕ → Bool
-is_named info names n = list_any (λ d. option_map_or (λ named. named.0 == n) (number_from info d) false) names
+is_named info names n = list_any (λ d. option_map_or (λ named. named.0 == n) (number_from info.fields d) false) names
 
 -- the fields that the texts of a list name, or all where it is empty
 abbrev pub columns_named : ModelInfo → List Data → List Column
@@ -40,12 +39,8 @@ columns_named info (d ∷ ds) = filter (λ column. is_named info (d ∷ ds) colu
 
 -- the fields of an argument of that form
 abbrev pub columns_in : ModelInfo → Data → List Column
-columns_in info null = []
-columns_in info (boolean b) = []
-columns_in info (number n) = []
-columns_in info (string text) = []
 columns_in info (array items) = columns_named info (listed items)
-columns_in info (object _) = []
+columns_in info _ = []
 
 -- each id once, at its first place
 abbrev pub once : List ℕ → List ℕ
@@ -64,14 +59,12 @@ asked_columns info (Some g) = columns_in info g.json
 
 -- what the arguments ask for; the ids are given
 abbrev pub asked_by : ModelInfo → List (Option Given) → Asked
-asked_by info [] = record { ids = []; fields = [] }
-asked_by info (None ∷ gs) = record { ids = []; fields = [] }
-asked_by info (Some ids ∷ []) = record { ids = once (ids_in ids.json); fields = columns info }
 asked_by info (Some ids ∷ fields ∷ gs) = record { ids = once (ids_in ids.json); fields = asked_columns info fields }
+asked_by info _ = record { ids = []; fields = [] }
 
 -- what a read asks for, or the first place that is wrong
 abbrev pub asked_of : ModelInfo → (args kw : Data) → Result Asked (List PathStep)
-asked_of info args kw = arguments_of info read_expects args kw >>= λ given. Ok (asked_by info given)
+asked_of info args kw = arguments_of (read_expects info.fields) args kw >>= λ given. Ok (asked_by info given)
 
 -- the object so far has what tells of these fields of a row, and becomes this object
 abbrev pub TellsFields : ℕ → Row → List Column → Members → Data → Type 0
@@ -85,9 +78,8 @@ TellsRow fields id row d = TellsFields id row fields (put (codes "id") (number (
 -- each id has a row, and an object that tells of it, in the order of the ids
 abbrev pub TellsRows : ModelNo → Tables → List Column → List ℕ → List Data → Type 0
 TellsRows model tables fields [] [] = ⊤
-TellsRows model tables fields [] (d ∷ ds) = ⊥
-TellsRows model tables fields (id ∷ ids) [] = ⊥
 TellsRows model tables fields (id ∷ ids) (d ∷ ds) = (row : Row) × (row_of tables model id ≡ Some row) × TellsRow fields id row d × TellsRows model tables fields ids ds
+TellsRows model tables fields _ _ = ⊥
 
 -- the least of the ids that no row has
 pub record IsLeastMissing (model : ModelNo) (tables : Tables) (ids : List ℕ) (id : ℕ) : Type 0 where
@@ -99,12 +91,7 @@ pub record IsLeastMissing (model : ModelNo) (tables : Tables) (ids : List ℕ) (
 abbrev pub ReadRefuses : ModelNo → ModelInfo → Tables → (args kw : Data) → Refusal → Type 0
 ReadRefuses model info tables args kw (refusal.Request place) = asked_of info args kw ≡ Err place
 ReadRefuses model info tables args kw (refusal.Missing m id) = (asked : Asked) × (asked_of info args kw ≡ Ok asked) × (m ≡ model) × IsLeastMissing model tables asked.ids id.0
-ReadRefuses model info tables args kw (refusal.Constraint b) = ⊥
-ReadRefuses model info tables args kw (refusal.Right m op) = ⊥
-ReadRefuses model info tables args kw (refusal.FieldRight m field) = ⊥
-ReadRefuses model info tables args kw (refusal.Rule m op id name) = ⊥
-ReadRefuses model info tables args kw refusal.Keeper = ⊥
-ReadRefuses model info tables args kw refusal.NoMemory = ⊥
+ReadRefuses model info tables args kw _ = ⊥
 
 -- The machine answers a read with the objects of the rows, in the order of their ids,
 -- or with why not.

@@ -27,9 +27,8 @@ spread (field ∷ fields) id kept = if is_id field.origin then value.Int (pos id
 -- one value for each field, in their order, that the field may hold; the id's stands for itself
 abbrev pub HaveAll : List FieldInfo → List Value → Type 0
 HaveAll [] [] = ⊤
-HaveAll [] (v ∷ values) = ⊥
-HaveAll (field ∷ fields) [] = ⊥
 HaveAll (field ∷ fields) (v ∷ values) = (is_id field.origin ≡ false → Holds field v) × HaveAll fields values
+HaveAll _ _ = ⊥
 
 -- the value of a field: the row's id, or what stands at the field's number
 abbrev pub value_told : FieldInfo → FieldNo → ℕ → List Value → Value

@@ -22,13 +22,7 @@ AreValuesOf info id (Some values) found = (row : Row) × (found ≡ Some row) ×
 -- why not all rows are told: the least id that has none
 abbrev pub MissesLeast : ModelNo → Tables → List ℕ → Refusal → Type 0
 MissesLeast model tables ids (refusal.Missing m id) = (m ≡ model) × IsLeastMissing model tables ids id.0
-MissesLeast model tables ids (refusal.Request place) = ⊥
-MissesLeast model tables ids (refusal.Right m op) = ⊥
-MissesLeast model tables ids (refusal.FieldRight m field) = ⊥
-MissesLeast model tables ids (refusal.Rule m op id name) = ⊥
-MissesLeast model tables ids (refusal.Constraint b) = ⊥
-MissesLeast model tables ids refusal.Keeper = ⊥
-MissesLeast model tables ids refusal.NoMemory = ⊥
+MissesLeast model tables ids _ = ⊥
 
 -- the objects that tell of the rows of these ids in their order, or why not
 abbrev pub AnswersRows : ModelNo → Tables → List Column → List ℕ → Type 0 → Result Data Refusal → Type 0
@@ -38,10 +32,4 @@ AnswersRows model tables fields ids rose (Err why) = Refuses rose (MissesLeast m
 -- an id that is missing is one of these
 abbrev pub IsMissingAmong : ModelNo → List ℕ → Refusal → Type 0
 IsMissingAmong model ids (refusal.Missing m id) = (m ≡ model) × Contains ids id.0
-IsMissingAmong model ids (refusal.Request place) = ⊥
-IsMissingAmong model ids (refusal.Right m op) = ⊥
-IsMissingAmong model ids (refusal.FieldRight m field) = ⊥
-IsMissingAmong model ids (refusal.Rule m op id name) = ⊥
-IsMissingAmong model ids (refusal.Constraint b) = ⊥
-IsMissingAmong model ids refusal.Keeper = ⊥
-IsMissingAmong model ids refusal.NoMemory = ⊥
+IsMissingAmong model ids _ = ⊥

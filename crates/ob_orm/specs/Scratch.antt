@@ -1,6 +1,7 @@
 -- The value of each cell of a row, from the row's plain values alone.
 use Rattle.std.specs.Prelude.{ℕ, nat_le, pos, length, if◌then◌else◌, Bool, true, Result, Ok, Err}
 use Rattle.std.specs.Result.{result_unwrap_or}
+use Rattle.ob_base.specs.Limits.{max_char_bytes, max_text_bytes}
 use Rattle.ob_base.specs.declared.value.Value.{Value}
 use Rattle.ob_base.specs.declared.value.Value.TheVariants as value
 use Rattle.ob_expr.specs.Checking.{typed_tree_of}
@@ -15,27 +16,13 @@ use Rattle.ob_orm.specs.Tables.{Row, plain}
 
 -- whether a value is no text of more bytes than this
 abbrev pub is_short : ℕ → Value → Bool
-is_short limit value.Nil = true
-is_short limit (value.Bool b) = true
-is_short limit (value.Int n) = true
 is_short limit (value.Word text) = nat_le (length text) limit
-is_short limit (value.Day n) = true
-is_short limit (value.Moment n) = true
-is_short limit (value.Ref id) = true
-is_short limit (value.Refs ids) = true
+is_short limit _ = true
 
 -- how many bytes a text of the type may have
 abbrev pub text_limit : FieldType → ℕ
-text_limit type.Boolean = 8192
-text_limit type.Integer = 8192
-text_limit type.Char = 8192
-text_limit type.Text = 65536
-text_limit type.Date = 8192
-text_limit type.Datetime = 8192
-text_limit type.Selection = 8192
-text_limit type.Many2one = 8192
-text_limit type.One2many = 8192
-text_limit type.Many2many = 8192
+text_limit type.Text = max_text_bytes
+text_limit _ = max_char_bytes
 
 -- a value that a field of the type may hold, or that it is too long
 abbrev pub limited : FieldType → Result Value ValueFault → Result Value ValueFault

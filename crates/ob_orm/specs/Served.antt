@@ -9,8 +9,7 @@ use Rattle.ob_schema.specs.declared.info.Origin.TheVariants as origin
 -- the value is the row's id
 abbrev pub is_id : Origin → Bool
 is_id origin.Id = true
-is_id origin.Plain = false
-is_id (origin.Computed formula) = false
+is_id _ = false
 
 -- no relation and nothing required, each field kept but the id, and calls may make rows
 pub record IsServed (info : ModelInfo) : Type 0 where

@@ -11,9 +11,8 @@ use Rattle.ob_orm.specs.Scratch.{val}
 -- the row has one value for each of these fields that the field may hold, in their order, and no other
 abbrev pub HasForms : List Column → Row → Type 0
 HasForms [] [] = ⊤
-HasForms [] (cell ∷ row) = ⊥
-HasForms (column ∷ columns) [] = ⊥
 HasForms (column ∷ columns) (cell ∷ row) = (cell.0 ≡ column.0) × Holds column.1 cell.1 × HasForms columns row
+HasForms _ _ = ⊥
 
 -- a field has a value from scratch, which it may hold
 abbrev pub HasValue : ℕ → Row → Column → Type 0

@@ -5,15 +5,13 @@ ghost use Rattle.std.specs.List.{filter_map};
 ghost use Rattle.serde_json.specs.View.{view};
 ghost use Rattle.ob_schema.specs.Fields.{columns};
 ghost use Rattle.ob_schema.specs.Models.{HasField, HasModel, model_at};
-ghost use Rattle.ob_orm.specs.Arguments.{id_from, number_from};
-ghost use Rattle.ob_orm.specs.Parameters.{given_of};
+ghost use Rattle.ob_call.specs.ArgumentsSteps.{given_of};
+ghost use Rattle.ob_call.specs.Forms.{id_from, number_from};
 ghost use Rattle.ob_orm.specs.Read.{asked_columns, columns_named, ids_in, is_named, once};
 ghost use Rattle.ob_orm.specs.ReadParts.{flagged};
 
-use crate::arguments::Given;
-use crate::call::Json;
-use crate::forms::id_of;
 use ob_base::{FieldNo, ModelNo, NoMemory};
+use ob_call::{Given, Json, id_of};
 use ob_schema::Schema;
 use std::alloc::Global;
 use std::collections::BTreeSet;
@@ -132,7 +130,7 @@ fn named_flags(
 fn field_named(schema: &Schema, model: ModelNo, json: &Json) -> Option<FieldNo>
     requires { HasModel schema.now model }
     ensures named { IfSome (model_at schema.now model)
-        (λ info. result ≡ number_from info (view json.now)) }
+        (λ info. result ≡ number_from info.fields (view json.now)) }
     ensures there { IfSome result (HasField schema.now model) }
 {
     schema.field(model, json.as_str()?)

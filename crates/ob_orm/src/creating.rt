@@ -1,8 +1,9 @@
 //! `create`: one row under the model's next id.
 
-ghost use Rattle.std.specs.Prelude.{◌≡◌, ◌+◌, ◌≤◌, ℕ, false, All, IfOk, IfErr, IfSome, OnOk, Option, option_map};
+ghost use Rattle.std.specs.Prelude.{◌≡◌, ◌≤◌, ℕ, false, All, IfOk, IfErr, IfSome, OnOk, Option, option_map};
 ghost use Rattle.serde_json.specs.View.{view};
 ghost use Rattle.serde_json.specs.Written.{has_float};
+ghost use Rattle.ob_base.specs.Tally.{ticked_times};
 ghost use Rattle.ob_base.specs.Times.{IsMoment};
 ghost use Rattle.ob_io.specs.Cause.{Rose};
 ghost use Rattle.ob_io.specs.Store.{IsChangeFit, Store, all_changed};
@@ -12,22 +13,21 @@ ghost use Rattle.ob_schema.specs.Models.{HasModel, IsModel, kept_at, model_at};
 ghost use Rattle.ob_orm.specs.Answer.{CreateAnswers, CreateCause, Refuses, called_by};
 ghost use Rattle.ob_orm.specs.Create.{IsIdColumn, cell_of};
 ghost use Rattle.ob_orm.specs.CreateSteps.{changes_of};
-ghost use Rattle.ob_orm.specs.Evaluations.{computed_count, evaluated};
+ghost use Rattle.ob_orm.specs.Evaluations.{HasTicked, computed_count};
 ghost use Rattle.ob_orm.specs.Kept.{Kept, OthersStay};
 ghost use Rattle.ob_orm.specs.Served.{IsServed};
 ghost use Rattle.ob_orm.specs.Sound.{IsSound};
 ghost use Rattle.ob_orm.specs.Tables.{Tables};
 
-use crate::arguments::{Parameter, arguments};
-use crate::call::{Call, Json};
 use crate::evaluating::kept_values;
 use crate::fault::keeper_refusal;
-use crate::forms::Form;
 use crate::new_row::plain_values;
+use crate::values::Values;
 use ob_base::limits::MAX_ID;
 use ob_base::{
     Broken, BrokenKind, Cell, Ledger, ModelNo, NoMemory, RecId, Refusal, Sequence, Steps, Value,
 };
+use ob_call::{Call, Json, Parameter, arguments_of};
 use ob_codec::row_bytes;
 use ob_io::{Change, Keeper, KeptRow};
 use ob_schema::Schema;
@@ -44,7 +44,8 @@ pub struct Created {
 /// isn't given has its default, else it is unset, false or 0. Answers the row's id, and
 /// changes nothing yet: the changes are the caller's to commit. Refused are arguments of
 /// another form, at their place; an id past its limit; and values over which a computed
-/// field has none.
+/// field has none. The caller sees to it that the model serves calls, and that the moment
+/// lies within the years 0001 to 9999.
 pub fn create<K: Keeper, L: Ledger>(
     alloc: Global,
     keeper: &mut K,
@@ -70,18 +71,23 @@ pub fn create<K: Keeper, L: Ledger>(
     ensures others { IfOk result (λ created. (before : Option Store)
         → OthersStay call.entry.now.model before (option_map (all_changed created.changes) before)) }
 
-    // It keeps nothing by itself, and evaluates each computed field at most once, where it is carried out exactly once.
+    // It keeps nothing by itself.
     ensures same { K.kept keeper.new ≡ K.kept keeper.old }
     ensures count { K.faults keeper.old ≤ K.faults keeper.new }
-    ensures ticks { IfSome (model_at schema.now call.entry.now.model) (λ info. steps.new.count ≤ steps.old.count + computed_count info) }
-    ensures evaluations { OnOk result (IfSome (model_at schema.now call.entry.now.model) (λ info. steps.new ≡ evaluated (computed_count info) L.noted steps.old)) }
+
+    // It evaluates each computed field at most once, each evaluation noted in the ledger; where it is carried out exactly once.
+    ensures ticks { IfSome (model_at schema.now call.entry.now.model) (λ info. HasTicked (computed_count info) L.noted steps.old steps.new) }
+    ensures evaluations { OnOk result (IfSome (model_at schema.now call.entry.now.model) (λ info. steps.new ≡ ticked_times (computed_count info) L.noted steps.old)) }
 {
     let expected = [Parameter {
         name: "vals",
         required: true,
-        form: Form::Values,
+        form: Values {
+            schema,
+            model: call.model,
+        },
     }];
-    let given = arguments(alloc, schema, call.model, &expected, call.args, call.kw)?;
+    let given = arguments_of(alloc, &expected, call.args, call.kw)?;
     let plain = plain_values(alloc, schema, call.model, call.now, given.as_slice())?;
     let id = keeper.next_id(call.model).map_err(keeper_refusal)?;
     if id > MAX_ID {

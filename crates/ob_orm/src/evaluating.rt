@@ -1,12 +1,12 @@
 //! The computed values of a row, each evaluated once over the row's plain values.
 
-ghost use Rattle.std.specs.Prelude.{◌≡◌, ◌+◌, ◌≤◌, IfOk, IfSome, OnOk, Ok};
-ghost use Rattle.ob_base.specs.Tally.{ticked};
+ghost use Rattle.std.specs.Prelude.{◌≡◌, ◌≤◌, IfOk, IfSome, OnOk, Ok};
+ghost use Rattle.ob_base.specs.Tally.{ticked, ticked_times};
 ghost use Rattle.ob_expr.specs.Checking.{IsWellKinded, typed_tree_of};
 ghost use Rattle.ob_expr.specs.Meaning.{meaning};
 ghost use Rattle.ob_schema.specs.Models.{HasField, HasModel, IsModel, field_at, model_at};
 ghost use Rattle.ob_orm.specs.CreateSteps.{ArePlain, GivesField, GivesKept, GivesValue, HoldsOperands, IsTextual, evaluations_of, gathered, held_at};
-ghost use Rattle.ob_orm.specs.Evaluations.{computed_count, evaluated};
+ghost use Rattle.ob_orm.specs.Evaluations.{HasTicked, computed_count};
 ghost use Rattle.ob_orm.specs.Scratch.{limited, text_limit};
 ghost use Rattle.ob_orm.specs.Served.{IsServed};
 
@@ -60,9 +60,9 @@ pub(crate) fn kept_values<L: Ledger>(
     ensures kept { IfSome (model_at schema.now model)
         (λ info. GivesKept model info id (gathered info plain.now) result) }
     ensures ticks { IfSome (model_at schema.now model)
-        (λ info. steps.new.count ≤ steps.old.count + computed_count info) }
+        (λ info. HasTicked (computed_count info) L.noted steps.old steps.new) }
     ensures evaluations { OnOk result (IfSome (model_at schema.now model)
-        (λ info. steps.new ≡ evaluated (computed_count info) L.noted steps.old)) }
+        (λ info. steps.new ≡ ticked_times (computed_count info) L.noted steps.old)) }
 {
     let mut kept = Sequence::new(alloc);
     let count = schema.model_info(model).fields.len();
@@ -102,7 +102,7 @@ fn field_value<L: Ledger>(
         (λ info. IfSome (field_at schema.now cell.model cell.field)
         (λ field. GivesField (cell.field.0, field) cell (gathered info plain.now) result)) }
     ensures evaluations { IfSome (field_at schema.now cell.model cell.field)
-        (λ field. steps.new ≡ evaluated (evaluations_of field) L.noted steps.old) }
+        (λ field. steps.new ≡ ticked_times (evaluations_of field) L.noted steps.old) }
 {
     let field = schema.info(cell.model, cell.field);
     match &field.origin {

@@ -1,8 +1,7 @@
 //! The plain values of a new row: what the object gives, defaults, and the moments of its
 //! making. They stand by the numbers of the model's fields; what isn't plain is unset here.
 
-ghost use Rattle.std.specs.Prelude.{◌≡◌, ◌∷◌, ◌++◌, [], IfOk, IfSome, OnOk, Ok, false, map, option_map, unwrap_or};
-ghost use Rattle.serde_json.specs.Data.{Data};
+ghost use Rattle.std.specs.Prelude.{◌≡◌, ◌∷◌, ◌++◌, [], IfOk, IfSome, OnOk, Ok, false, unwrap_or};
 ghost use Rattle.serde_json.specs.View.{members_view, view};
 ghost use Rattle.ob_base.specs.Times.{IsMoment};
 ghost use Rattle.ob_base.specs.declared.place.PathStep.TheVariants.{Key};
@@ -10,16 +9,17 @@ ghost use Rattle.ob_codec.specs.JsonForm.{empty_value, value_from};
 ghost use Rattle.ob_schema.specs.Fields.{Holds, plain_columns};
 ghost use Rattle.ob_schema.specs.Models.{HasField, HasModel, IsModel, field_at, model_at};
 ghost use Rattle.ob_schema.specs.Types.{is_list};
-ghost use Rattle.ob_orm.specs.Arguments.{arguments_of};
 ghost use Rattle.ob_orm.specs.Create.{create_expects, is_stamp, new_row, new_value, placed, row_from};
 ghost use Rattle.ob_orm.specs.CreateSteps.{ArePlain, IsFaultAt, IsGivable, TakesValue, gathered};
-ghost use Rattle.ob_orm.specs.Parameters.{Gives, given_of, spot_place};
+ghost use Rattle.ob_call.specs.Arguments.{AreFit};
+ghost use Rattle.ob_call.specs.ArgumentsSteps.{all_given_of};
+ghost use Rattle.ob_call.specs.Forms.{fields_at};
+ghost use Rattle.ob_call.specs.Places.{spot_place};
+ghost use Rattle.ob_call.specs.Results.{IsResultOf};
 ghost use Rattle.ob_orm.specs.Served.{IsServed};
 
-use crate::arguments::Given;
-use crate::call::Json;
-use crate::places::{Spot, malformed_value};
 use ob_base::{FieldNo, ModelNo, NoMemory, Refusal, Value};
+use ob_call::{Below, Given, Json, Spot, malformed_below};
 use ob_codec::{CodecFault, Input, from_json};
 use ob_schema::{FieldInfo, FieldType, Schema};
 use serde_json::Map;
@@ -44,11 +44,10 @@ pub(crate) fn plain_values(
     requires model { HasModel schema.now model }
     requires served { IfSome (model_at schema.now model) IsServed }
     requires moment { IsMoment now }
-    requires given { IfSome (model_at schema.now model) (λ info. (args kw : Data)
-        × (arguments_of info create_expects args kw ≡ Ok (map (option_map given_of) given.now))) }
+    requires given { AreFit (create_expects (fields_at schema.now model)) (all_given_of given.now) }
     ensures value { IfSome (model_at schema.now model)
-        (λ info. Gives (λ values. gathered info values.items) result
-        (row_from info now (map (option_map given_of) given.now))) }
+        (λ info. IsResultOf (λ values. gathered info values.items) result
+        (row_from info now (all_given_of given.now))) }
     ensures plain { IfOk result (λ values. IfSome (model_at schema.now model)
         (λ info. ArePlain info values.items)) }
     ensures valid { OnOk result (IfSome (model_at schema.now model) IsModel) }
@@ -78,7 +77,7 @@ fn all_values(
     requires served { IfSome (model_at schema.now model) IsServed }
     requires moment { IsMoment row.now.now }
     ensures value { IfSome (model_at schema.now model)
-        (λ info. Gives (λ values. gathered info values.items) result
+        (λ info. IsResultOf (λ values. gathered info values.items) result
         (new_row row.entry.now.now (spot_place row.entry.now.spot)
         (members_view row.entry.now.members.now.entries) (plain_columns info))) }
     ensures plain { IfOk result (λ values. IfSome (model_at schema.now model)
@@ -131,7 +130,7 @@ fn new_value(
     requires givable { IfSome (field_at schema.now model number) IsGivable }
     requires moment { IsMoment row.now.now }
     ensures value { IfSome (field_at schema.now model number)
-        (λ field. Gives (λ value. value) result (new_value row.entry.now.now (spot_place row.entry.now.spot)
+        (λ field. IsResultOf (λ value. value) result (new_value row.entry.now.now (spot_place row.entry.now.spot)
         (members_view row.entry.now.members.now.entries) field)) }
     ensures holds { IfOk result (λ value. IfSome (field_at schema.now model number)
         (λ field. Holds field value)) }
@@ -170,7 +169,7 @@ fn given_value(
     requires no_list { IfSome (field_at schema.now model number)
         (λ field. is_list field.field_type ≡ false) }
     ensures value { IfSome (field_at schema.now model number)
-        (λ field. Gives (λ value. value) result
+        (λ field. IsResultOf (λ value. value) result
         (placed (spot_place spot.entry ++ Key field.name ∷ [])
         (value_from field.field_type field.selection (view json.now)))) }
     ensures holds { IfOk result (λ value. IfSome (field_at schema.now model number)
@@ -190,7 +189,7 @@ fn fault_refusal(alloc: Global, spot: Spot<'_>, name: &str, fault: &CodecFault) 
 {
     match fault {
         CodecFault::Shape(place) | CodecFault::Range(place) | CodecFault::Unknown(place) => {
-            malformed_value(alloc, spot, name, place)
+            malformed_below(alloc, spot, Below::Key(name), place)
         }
         CodecFault::NoMemory => Refusal::NoMemory,
     }

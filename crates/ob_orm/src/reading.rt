@@ -1,6 +1,6 @@
 //! `read`: the named fields of the named rows.
 
-ghost use Rattle.std.specs.Prelude.{◌≡◌, ◌≤◌, false, map, min, All, IfOk, IfErr, IfSome, Some};
+ghost use Rattle.std.specs.Prelude.{◌≡◌, ◌≤◌, false, min, All, IfOk, IfErr, IfSome, Some};
 ghost use Rattle.std.specs.Option.{option_map_or};
 ghost use Rattle.serde_json.specs.View.{view};
 ghost use Rattle.serde_json.specs.Written.{has_float};
@@ -10,21 +10,18 @@ ghost use Rattle.ob_schema.specs.Fields.{kept_fields};
 ghost use Rattle.ob_schema.specs.Models.{HasField, HasModel, model_at};
 ghost use Rattle.ob_orm.specs.Answer.{ReadAnswers, ReadCause, Refuses, called_by, result_view};
 ghost use Rattle.ob_orm.specs.Kept.{Kept, kept_values};
-ghost use Rattle.ob_orm.specs.Parameters.{expected_of};
-ghost use Rattle.ob_orm.specs.Read.{read_expects};
 ghost use Rattle.ob_orm.specs.ReadParts.{HaveAll, columns_at};
 ghost use Rattle.ob_orm.specs.ReadRows.{AnswersRows, AreValuesOf, IsMissingAmong};
 ghost use Rattle.ob_orm.specs.Served.{IsServed};
 ghost use Rattle.ob_orm.specs.Sound.{IsSound, IsSoundRow};
 ghost use Rattle.ob_orm.specs.Tables.{Row, Tables, row_of};
 
-use crate::arguments::{Parameter, arguments};
 use crate::asked::{asked_fields, asked_ids};
-use crate::call::{Call, Json};
 use crate::fault::keeper_refusal;
-use crate::forms::Form;
+use crate::read_form::read_parameters;
 use crate::told_rows::{row_object, row_values};
 use ob_base::{FieldNo, Ledger, ModelNo, NoMemory, RecId, Refusal, Steps, Value};
+use ob_call::{Call, Json, arguments_of};
 use ob_codec::{RowFault, row_of};
 use ob_io::Keeper;
 use ob_schema::Schema;
@@ -33,7 +30,8 @@ use std::alloc::Global;
 /// Answers one object for each named row, in the order of the ids, each id once at its
 /// first place: the id and the named fields, or all fields where none is named. Refused are
 /// arguments of another form, at their place, and ids that no row has, the least of which
-/// is named. Nothing is evaluated, since all fields are kept.
+/// is named. Nothing is evaluated, since all fields are kept. The caller sees to it that the
+/// model serves calls.
 pub fn read<K: Keeper, L: Ledger>(
     alloc: Global,
     keeper: &mut K,
@@ -58,8 +56,8 @@ pub fn read<K: Keeper, L: Ledger>(
     ensures count { K.faults keeper.old ≤ K.faults keeper.new }
     ensures steps { _steps.new ≡ _steps.old }
 {
-    let expected = read_parameters();
-    let given = arguments(alloc, schema, call.model, &expected, call.args, call.kw)?;
+    let expected = read_parameters(schema, call.model);
+    let given = arguments_of(alloc, &expected, call.args, call.kw)?;
     let Some(ids) = &given[0] else {
         unreachable!();
     };
@@ -73,29 +71,6 @@ pub fn read<K: Keeper, L: Ledger>(
         ids.as_slice(),
         fields.as_slice(),
     )
-}
-
-/// What a read is called with: ids, fields, and a way of loading that is not read.
-fn read_parameters() -> [Parameter; 3]
-    ensures { map expected_of result ≡ read_expects }
-{
-    [
-        Parameter {
-            name: "ids",
-            required: true,
-            form: Form::Ids,
-        },
-        Parameter {
-            name: "fields",
-            required: false,
-            form: Form::Fields,
-        },
-        Parameter {
-            name: "load",
-            required: false,
-            form: Form::Unread,
-        },
-    ]
 }
 
 fn no_memory(_: NoMemory) -> Refusal

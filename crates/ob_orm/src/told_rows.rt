@@ -14,8 +14,8 @@ ghost use Rattle.ob_orm.specs.Scratch.{val_or_unset};
 ghost use Rattle.ob_orm.specs.Served.{is_id};
 ghost use Rattle.ob_orm.specs.Tables.{Row};
 
-use crate::call::Json;
 use ob_base::{FieldNo, ModelNo, NoMemory, Value};
+use ob_call::Json;
 use ob_codec::to_json;
 use ob_schema::{FieldInfo, Origin, Schema};
 use serde_json::Map;

@@ -7,7 +7,7 @@ use Rattle.ob_schema.specs.Fields.{plain_columns}
 use Rattle.ob_schema.specs.Models.{IsModel, model_at}
 use Rattle.ob_orm.specs.Create.{new_row}
 use Rattle.ob_orm.specs.CreateSteps.{ArePlain, gathered}
-use Rattle.ob_orm.specs.Parameters.{spot_place}
+use Rattle.ob_call.specs.Places.{spot_place}
 use Rattle.ob_orm.proofs.CreateKept.{field_there, fields_at}
 use Rattle.ob_orm.proofs.CreateFields.{tell}
 use Rattle.ob_orm.proofs.CreateNewRow.{givable_at, if_left, if_right, taken_all, taken_more, taken_refused}

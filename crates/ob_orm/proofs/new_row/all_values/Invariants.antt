@@ -2,7 +2,7 @@ use Rattle.std.proofs.Common.{◌≡◌, length}
 use Rattle.std.specs.Prelude.{IfSome}
 use Rattle.serde_json.specs.View.{members_view}
 use Rattle.ob_schema.specs.Models.{model_at}
-use Rattle.ob_orm.specs.Parameters.{spot_place}
+use Rattle.ob_call.specs.Places.{spot_place}
 use Rattle.ob_orm.proofs.CreateNewRow.{TakenSoFar}
 use Rattle.ob_orm.proofs.new_row.all_values.Given as goal
 

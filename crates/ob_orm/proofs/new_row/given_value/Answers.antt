@@ -4,7 +4,7 @@ use Rattle.ob_base.specs.declared.place.PathStep.TheVariants.{Key}
 use Rattle.ob_codec.specs.Input.{given_of, order_of}
 use Rattle.ob_schema.specs.Models.{field_at}
 use Rattle.ob_orm.specs.CreateSteps.{IsFaultAt}
-use Rattle.ob_orm.specs.Parameters.{spot_place}
+use Rattle.ob_call.specs.Places.{spot_place}
 use Rattle.ob_orm.proofs.CreateGiven.{GivenFrom, no_commands, value_read, value_refused}
 use Rattle.ob_orm.proofs.new_row.given_value.Goals as goal
 

@@ -1,6 +1,6 @@
 use Rattle.std.proofs.Common.{◌∙◌, sym}
 use Rattle.ob_schema.specs.Models.{field_at}
-use Rattle.ob_orm.specs.Parameters.{spot_place}
+use Rattle.ob_call.specs.Places.{spot_place}
 use Rattle.ob_orm.proofs.CreateGiven.{default_holds, new_default, new_given}
 use Rattle.ob_orm.proofs.new_row.new_value.Goals as goal
 

@@ -1,6 +1,6 @@
 use Rattle.std.proofs.Common.{decimal, ◌∙◌}
 use Rattle.std.proofs.lemmas.Result.{IfOk-weaker}
-use Rattle.ob_orm.proofs.ArgumentsTexts.{broken_at}
+use Rattle.ob_orm.proofs.RefusalTexts.{broken_at}
 use Rattle.ob_orm.specs.RefusalText.{field_name, model_name}
 use Rattle.ob_orm.proofs.refusal_texts.broken_cell.Goals as goal
 

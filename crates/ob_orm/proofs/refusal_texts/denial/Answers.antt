@@ -1,7 +1,7 @@
 use Rattle.std.proofs.Common.{decimal, ◌∙◌}
 use Rattle.std.proofs.lemmas.Result.{IfOk-weaker}
 use Rattle.ob_base.specs.Names.{op_name}
-use Rattle.ob_orm.proofs.ArgumentsTexts.{denied, denied_by}
+use Rattle.ob_orm.proofs.RefusalTexts.{denied, denied_by}
 use Rattle.ob_orm.specs.RefusalText.{model_name}
 use Rattle.ob_orm.proofs.refusal_texts.denial.Goals as goal
 

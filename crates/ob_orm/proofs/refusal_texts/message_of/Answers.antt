@@ -1,6 +1,6 @@
 use Rattle.std.proofs.Common.{decimal, ◌∙◌}
 use Rattle.std.proofs.lemmas.Result.{IfOk-weaker}
-use Rattle.ob_orm.proofs.ArgumentsTexts.{no_right_on, not_there}
+use Rattle.ob_orm.proofs.RefusalTexts.{no_right_on, not_there}
 use Rattle.ob_orm.specs.RefusalText.{field_name, model_name}
 use Rattle.ob_orm.proofs.refusal_texts.message_of.Goals as goal
 

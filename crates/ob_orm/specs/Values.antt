@@ -1,0 +1,32 @@
+-- The form of an object of values for fields of a model.
+use Rattle.std.specs.Prelude.{ℕ, ◌&&◌, List, [], ◌∷◌, Bool, false, not, if◌then◌else◌, Option, Some, None, option_and_then}
+use Rattle.std.specs.Option.{option_map_or}
+use Rattle.ob_base.specs.declared.place.PathStep.{PathStep}
+use Rattle.ob_base.specs.declared.place.PathStep.TheVariants.{Key}
+use Rattle.serde_json.specs.Data.{Data, object}
+use Rattle.ob_schema.specs.Fields.{is_plain_kept}
+use Rattle.ob_schema.specs.Models.{field_named, numbered}
+use Rattle.ob_schema.specs.declared.info.FieldInfo.{FieldInfo}
+use Rattle.ob_call.specs.Arguments.{entries}
+
+-- the field of a name
+abbrev pub field_of : List FieldInfo → List ℕ → Option FieldInfo
+field_of fields name = option_and_then (λ number. numbered fields number.0) (field_named fields name)
+
+-- whether calls give values to a field: it is plain, and not managed
+abbrev pub is_free : FieldInfo → Bool
+is_free field = is_plain_kept field && not field.managed
+
+-- whether calls give a value to the field of this name
+abbrev pub is_given : List FieldInfo → List ℕ → Bool
+is_given fields name = option_map_or is_free (field_of fields name) false
+
+-- the place of the first key that a test refuses
+abbrev pub first_key : (List ℕ → Bool) → List (List ℕ × Data) → Option (List PathStep)
+first_key test [] = None
+first_key test (e ∷ es) = if test e.0 then first_key test es else Some (Key e.0 ∷ [])
+
+-- an object of values, each for one of these fields that calls give
+abbrev pub values_fault : List FieldInfo → Data → Option (List PathStep)
+values_fault fields (object members) = first_key (is_given fields) (entries members)
+values_fault fields _ = Some []
