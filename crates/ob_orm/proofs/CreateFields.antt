@@ -1,6 +1,6 @@
 -- A field by its number: what a new row keeps of it.
 use Rattle.std.proofs.Common.{◌≡◌, ℕ, zero, suc, ◌-◌, ◌<◌, ◌≤◌, ◌||◌, ◌&&◌, true, List, length, get_or, Option, Some, None, Result, Ok, Err, pos, w64, refl, sym, ap, subst, ◌∙◌, arith}
-use Rattle.std.specs.Prelude.{All, FitsSigned, IfSome, option_and_then, slice_get}
+use Rattle.std.specs.Prelude.{All, Bool, FitsSigned, IfSome, option_and_then, slice_get}
 use Rattle.std.proofs.lemmas.Int.{ints}
 use Rattle.std.proofs.lemmas.List.{get_or_default}
 use Rattle.std.proofs.lemmas.Option.{get_or_from_slice_get, slice_get_within}
@@ -13,6 +13,7 @@ use Rattle.ob_base.specs.declared.value.Value.TheVariants as value
 use Rattle.ob_expr.specs.Checking as checking
 use Rattle.ob_expr.specs.Checking.{EachField, TypedTree, typed_tree_of, IsWellKinded}
 use Rattle.ob_expr.specs.Meaning.{HasKind, ValueFault, meaning}
+use Rattle.ob_expr.specs.Reads.{MayRead}
 use Rattle.ob_schema.specs.Fields.{Holds, is_kept, is_kept_from, is_own, is_plain_from, is_plain_kept}
 use Rattle.ob_schema.specs.Values.{IsValueOf}
 use Rattle.ob_schema.specs.declared.field_type.FieldType.{FieldType}
@@ -39,10 +40,11 @@ told {X = X} o x P is known = let there : IfSome (Some x) P = subst (λ (p : Opt
 pub tell : {X : Type 0} (o : Option X) (x : X) (P : X → Type 0) → o ≡ Some x → P x → IfSome o P
 tell {X = X} o x P is known = subst (λ (p : Option X). IfSome p P) (sym is) known
 
--- the fields that a tree has, each of which may be read
-pub readable_operands : (values : List Value) (tree : TypedTree) → HoldsOperands values tree → EachField (λ number k. (1 ≤ number.0) × (number.0 ≤ length values)) tree
-readable_operands values (checking.field number k) held = (held.0, held.1)
-readable_operands values (checking.times left right) held = (readable_operands values left held.0, readable_operands values right held.1)
+-- the fields that a tree has, each of which may be read, whatever the cells hold
+pub readable_operands : (has_value : Cell → Bool) (value_of : Cell → Value) (cell : Cell) (values : List Value) (tree : TypedTree) → HoldsOperands values tree → MayRead has_value value_of cell (λ c. (1 ≤ c.field.0) × (c.field.0 ≤ length values)) tree
+readable_operands has_value value_of cell values (checking.field number k) held = (held.0, held.1)
+readable_operands has_value value_of cell values (checking.times left right) held =
+    (readable_operands has_value value_of cell values left held.0, λ _. readable_operands has_value value_of cell values right held.1)
 
 -- and holds a value of its kind
 pub kinds_of_operands : (values : List Value) (tree : TypedTree) → HoldsOperands values tree → EachField (λ number k. HasKind k (held_at values number.0)) tree

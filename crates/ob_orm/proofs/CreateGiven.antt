@@ -17,10 +17,10 @@ use Rattle.ob_base.specs.declared.refusal.Refusal.{Refusal}
 use Rattle.ob_base.specs.declared.refusal.Refusal.TheVariants as refusal
 use Rattle.ob_base.specs.declared.value.Value.{Value}
 use Rattle.ob_base.specs.declared.value.Value.TheVariants as value
-use Rattle.ob_codec.specs.Commands.{orders_of}
-use Rattle.ob_codec.specs.Input.{Given, Order, orders, plain}
-use Rattle.ob_codec.specs.JsonForm.{empty_value, given_from, value_from}
-use Rattle.ob_codec.specs.Steps.{◌>>=◌}
+use Rattle.ob_codec.specs.JsonForm.{IsInput, IsInputFault, empty_value, value_from}
+use Rattle.ob_codec.specs.declared.input.Command.{Command}
+use Rattle.ob_codec.specs.declared.input.Input.{Input}
+use Rattle.ob_codec.specs.declared.input.Input.TheVariants as input
 use Rattle.ob_codec.specs.declared.fault.CodecFault.{CodecFault}
 use Rattle.ob_codec.specs.declared.fault.CodecFault.TheVariants as codec
 use Rattle.ob_schema.specs.Fields.{Holds}
@@ -38,52 +38,30 @@ use Rattle.ob_orm.proofs.CreateFields.{told, tell}
 
 -- ---- a value, where the field is no list
 
--- what was given by what was read
-abbrev plainly : Result Value CodecFault → Result Given CodecFault
-plainly r = r >>= λ v. Ok (plain v)
+-- what JSON gives a field
+abbrev pub GivesInput : Option FieldInfo → Data → Input → Type 0
+GivesInput o d given = IfSome o (λ info. IsInput info.field_type info.selection d given)
 
--- a field that is no list is given a value
-given_plainly : (t : FieldType) (choices : List Choice) (d : Data) → is_list t ≡ false → given_from t choices d ≡ plainly (value_from t choices d)
-unfolding given_from
-given_plainly t choices d no_list = ap (λ (b : Bool). cond b (orders_of d >>= λ os. Ok (orders os)) (plainly (value_from t choices d))) no_list
-
--- which was read
-plainly-plain : (r : Result Value CodecFault) (v : Value) → plainly r ≡ Ok (plain v) → r ≡ Ok v
-plainly-plain (Err e) v is = absurd cc
-plainly-plain (Ok w) v is = (let same : w ≡ v = cc in ap Ok same)
-
--- or whose fault is told
-plainly-fault : (r : Result Value CodecFault) (e : CodecFault) → plainly r ≡ Err e → r ≡ Err e
-plainly-fault (Ok v) e is = absurd cc
-plainly-fault (Err f) e is = (let same : f ≡ e = cc in ap Err same)
-
--- and never commands
-plainly-orders : (r : Result Value CodecFault) (os : List Order) → plainly r ≡ Ok (orders os) → ⊥
-plainly-orders (Err e) os is = cc
-plainly-orders (Ok w) os is = cc
-
--- what is told of the JSON of a field
-abbrev pub GivenFrom : Option FieldInfo → Data → Result Given CodecFault → Type 0
-GivenFrom o d r = IfSome o (λ info. given_from info.field_type info.selection d ≡ r)
+-- the fault for which it gives nothing
+abbrev pub GivesFault : Option FieldInfo → Data → CodecFault → Type 0
+GivesFault o d fault = IfSome o (λ info. IsInputFault info.field_type info.selection d fault)
 
 abbrev pub NoList : Option FieldInfo → Type 0
 NoList o = IfSome o (λ field. is_list field.field_type ≡ false)
 
 -- commands are given to lists alone
-pub no_commands : (o : Option FieldInfo) (f : FieldInfo) (d : Data) (os : List Order) → o ≡ Some f → NoList o → GivenFrom o d (Ok (orders os)) → ⊥
-no_commands o f d os is no_list given =
+pub no_commands : (o : Option FieldInfo) (f : FieldInfo) (d : Data) (commands : List Command) → o ≡ Some f → NoList o → GivesInput o d (input.Commands commands) → ⊥
+no_commands o f d commands is no_list given =
     let flat : is_list f.field_type ≡ false = told o f (λ field. is_list field.field_type ≡ false) is no_list in
-    let from = told o f (λ info. given_from info.field_type info.selection d ≡ Ok (orders os)) is given in
-    plainly-orders (value_from f.field_type f.selection d) os (sym (given_plainly f.field_type f.selection d flat) ∙ from)
+    let own = told o f (λ info. IsInput info.field_type info.selection d (input.Commands commands)) is given in
+    true≢false (sym own.0 ∙ flat)
 
 -- a value as it was read
-pub value_read : (o : Option FieldInfo) (f : FieldInfo) (d : Data) (place : FieldInfo → List PathStep) (v : Value) → o ≡ Some f → NoList o → GivenFrom o d (Ok (plain v))
+pub value_read : (o : Option FieldInfo) (f : FieldInfo) (d : Data) (place : FieldInfo → List PathStep) (v : Value) → o ≡ Some f → GivesInput o d (input.Plain v)
     → IfSome o (λ field. IsResultOf (λ w. w) (Ok v) (placed (place field) (value_from field.field_type field.selection d)))
-value_read o f d place v is no_list given =
-    let flat : is_list f.field_type ≡ false = told o f (λ field. is_list field.field_type ≡ false) is no_list in
-    let from = told o f (λ info. given_from info.field_type info.selection d ≡ Ok (plain v)) is given in
-    tell o f (λ field. placed (place field) (value_from field.field_type field.selection d) ≡ Ok v) is
-    (ap (placed (place f)) (plainly-plain (value_from f.field_type f.selection d) v (sym (given_plainly f.field_type f.selection d flat) ∙ from)))
+value_read o f d place v is given =
+    let own = told o f (λ info. IsInput info.field_type info.selection d (input.Plain v)) is given in
+    tell o f (λ field. placed (place field) (value_from field.field_type field.selection d) ≡ Ok v) is (ap (placed (place f)) own.1)
 
 -- what tells a place gives it
 pub IsResultOf-malformed : {A B : Type 0} (of : A → B) (place : List PathStep) (why : Refusal) (meant : Result B (List PathStep)) → IsMalformedAt place why → meant ≡ Err place → IsResultOf of (Err why) meant
@@ -108,13 +86,13 @@ fault_gives place (codec.Unknown below) why r at is = IsResultOf-malformed (λ w
 fault_gives place codec.NoMemory why r at is = IsResultOf-no_memory (λ w. w) why (placed place r) at
 
 -- a value that wasn't read
-pub value_refused : (o : Option FieldInfo) (f : FieldInfo) (d : Data) (place : FieldInfo → List PathStep) (fault : CodecFault) (why : Refusal) → o ≡ Some f → NoList o → (fault ≢ codec.NoMemory → GivenFrom o d (Err fault)) → IsFaultAt (place f) fault why
+pub value_refused : (o : Option FieldInfo) (f : FieldInfo) (d : Data) (place : FieldInfo → List PathStep) (fault : CodecFault) (why : Refusal) → o ≡ Some f → NoList o → (fault ≢ codec.NoMemory → GivesFault o d fault) → IsFaultAt (place f) fault why
     → IfSome o (λ field. IsResultOf (λ w. w) (Err why) (placed (place field) (value_from field.field_type field.selection d)))
 value_refused o f d place fault why is no_list given at =
     let flat : is_list f.field_type ≡ false = told o f (λ field. is_list field.field_type ≡ false) is no_list in
     tell o f (λ field. IsResultOf (λ w. w) (Err why) (placed (place field) (value_from field.field_type field.selection d))) is
-    (fault_gives (place f) fault why (value_from f.field_type f.selection d) at (λ apart. plainly-fault (value_from f.field_type f.selection d) fault
-    (sym (given_plainly f.field_type f.selection d flat) ∙ told o f (λ info. given_from info.field_type info.selection d ≡ Err fault) is (given apart))))
+    (fault_gives (place f) fault why (value_from f.field_type f.selection d) at (λ apart.
+    let own = told o f (λ info. IsInputFault info.field_type info.selection d fault) is (given apart) in own.value flat))
 
 -- ---- the value of a field of a new row
 

@@ -9,7 +9,7 @@ use Rattle.std.specs.Result.{result_unwrap_or}
 use Rattle.std.proofs.lemmas.List.{drop_more, drop_all}
 use Rattle.std.proofs.lemmas.Option.{same_Some}
 use Rattle.serde_json.specs.Data.{unsigned, Data, number as told_number, object, Items, no_items, item, Members, no_members, member, put}
-use Rattle.serde_json.specs.View.{view, members_view}
+use Rattle.serde_json.specs.View.{items_of, view, members_view}
 use Rattle.serde_json.specs.Written.{has_float, items_have_float, members_have_float}
 use Rattle.serde_json.specs.declared.value.Value.{Value as Json}
 use Rattle.serde_json.proofs.Views.{Entry, members_view-insert_entry}
@@ -17,8 +17,8 @@ use Rattle.ob_base.specs.declared.id.FieldNo.{FieldNo}
 use Rattle.ob_base.specs.declared.id.RecId.{RecId}
 use Rattle.ob_base.specs.declared.value.Value.{Value}
 use Rattle.ob_base.specs.declared.value.Value.TheVariants as value
-use Rattle.ob_codec.specs.Commands.{listed}
-use Rattle.ob_codec.specs.JsonForm.{Tells}
+use Rattle.ob_codec.specs.CommandForms.{id_json}
+use Rattle.ob_codec.specs.JsonForm.{IsJsonOf}
 use Rattle.ob_schema.specs.Fields.{Column, columns}
 use Rattle.ob_schema.specs.Models.{numbered}
 use Rattle.ob_schema.specs.declared.info.FieldInfo.{FieldInfo}
@@ -64,16 +64,12 @@ put_plain k d (member l e ms) p q =
     (both_plain (has_float e) (members_have_float (put k d ms)) (left_plain (has_float e) (members_have_float ms) q) (put_plain k d ms p (right_plain (has_float e) (members_have_float ms) q)))
 
 -- ids are no floats
-ids_plain : (items : Items) (ids : List RecId) → listed items ≡ map (λ id. told_number (unsigned id.0)) ids → items_have_float items ≡ false
-ids_plain no_items ids e = refl
-ids_plain (item d items) [] e = absurd cc
-ids_plain (item d items) (id ∷ ids) e =
-    let first : d ≡ told_number (unsigned id.0) = cc in
-    let rest : listed items ≡ map (λ i. told_number (unsigned i.0)) ids = cc in
-    both_plain (has_float d) (items_have_float items) (ap has_float first) (ids_plain items ids rest)
+ids_plain : (ids : List RecId) → items_have_float (items_of (map id_json ids)) ≡ false
+ids_plain [] = refl
+ids_plain (id ∷ ids) = ids_plain ids
 
--- what tells of a value has no float
-value_plain : (v : Value) (d : Data) → Tells v d → has_float d ≡ false
+-- the JSON of a value has no float
+value_plain : (v : Value) (d : Data) → IsJsonOf v d → has_float d ≡ false
 value_plain value.Nil d told = ap has_float told
 value_plain (value.Bool b) d told = ap has_float told
 value_plain (value.Int (pos n)) d told = ap has_float told
@@ -82,7 +78,7 @@ value_plain (value.Word text) d told = ap has_float told
 value_plain (value.Day n) d told = ap has_float told.1
 value_plain (value.Moment n) d told = ap has_float told.1
 value_plain (value.Ref id) d told = ap has_float told
-value_plain (value.Refs ids) d told = ap has_float told.1 ∙ ids_plain told.0 ids told.2
+value_plain (value.Refs ids) d told = ap has_float told ∙ ids_plain ids
 
 -- ---- a value that is told is the row's
 
@@ -132,21 +128,21 @@ next_number info numbers i number field lt is there =
 
 -- one field more is told
 one_told : (found : Option ModelInfo) (numbers : List FieldNo) (id : ℕ) (values : List Value) (i : ℕ) (old : Members) (own : Data) (number : FieldNo) (field : FieldInfo)
-    → i < length numbers → number ≡ get_or numbers i number → field_in found number ≡ Some field → Tells (value_told field number id values) own
+    → i < length numbers → number ≡ get_or numbers i number → field_in found number ≡ Some field → IsJsonOf (value_told field number id values) own
     → IfSome found (λ info. (row : Row) → values ≡ values_of info id row → (d : Data) → TellsFields id row (columns_at info (drop i numbers)) old d → TellsRow (columns_at info numbers) id row d)
     → IfSome found (λ info. (row : Row) → values ≡ values_of info id row → (d : Data) → TellsFields id row (columns_at info (drop (i + 1) numbers)) (put field.name own old) d → TellsRow (columns_at info numbers) id row d)
 one_told None numbers id values i old own number field lt is there told so_far = absurd cc
 one_told (Some info) numbers id values i old own number field lt is there told so_far = λ row e d more.
     so_far row e d (subst (λ (cs : List Column). TellsFields id row cs old d) (sym (next_number info numbers i number field lt is there))
-    (own, subst (λ (v : Value). Tells v own) (same_value info number field id row values there e) told, more))
+    (own, subst (λ (v : Value). IsJsonOf v own) (same_value info number field id row values there e) told, more))
 
 -- one field more is put into the object
 pub IsToldTo-more : (found : Option ModelInfo) (numbers : List FieldNo) (id : ℕ) (values : List Value) (i : ℕ) (old new : List Entry) (key : String Global) (own : Json) (number : FieldNo) (field : FieldInfo)
     → i < length numbers → number ≡ get_or numbers i number → field_in found number ≡ Some field → new ≡ insert_entry string_cmp old key own → string_bytes key ≡ field.name
-    → IfSome (field_in found number) (λ f. Tells (value_told f number id values) (view own))
+    → IfSome (field_in found number) (λ f. IsJsonOf (value_told f number id values) (view own))
     → IsToldTo found numbers id values i (members_view old) → IsToldTo found numbers id values (i + 1) (members_view new)
 IsToldTo-more found numbers id values i old new key own number field lt is there made named given so_far =
-    let told : Tells (value_told field number id values) (view own) = rw there at given in
+    let told : IsJsonOf (value_told field number id values) (view own) = rw there at given in
     let next : members_view new ≡ put field.name (view own) (members_view old) =
     ap members_view made ∙ members_view-insert_entry old key own ∙ ap (λ (k : List ℕ). put k (view own) (members_view old)) named in
     rw next (record {

@@ -7,7 +7,7 @@ use Rattle.serde_json.specs.View.{view}
 use Rattle.serde_json.specs.declared.value.Value.{Value as Json}
 use Rattle.ob_base.specs.declared.id.FieldNo.{FieldNo}
 use Rattle.ob_base.specs.declared.memory.NoMemory.{NoMemory}
-use Rattle.ob_codec.specs.JsonForm.{Tells}
+use Rattle.ob_codec.specs.JsonForm.{IsJsonOf}
 use Rattle.ob_base.specs.declared.value.Value.{Value}
 use Rattle.ob_base.specs.declared.value.Value.TheVariants as value
 use Rattle.ob_codec.specs.RowForm.{HoldAll}
@@ -59,8 +59,8 @@ value_holds (Some info) number field values v there own is have =
 
 -- what tells of the value at a field's number tells of the field
 pub told_kept : (found : Option FieldInfo) (field : FieldInfo) (number : FieldNo) (id : ℕ) (values : List Value) (v : Value) (r : Result Json NoMemory) → found ≡ Some field → is_id field.origin ≡ false
-    → v ≡ get_or values (number.0 - 1) v → number.0 - 1 < length values → IfOk r (λ json. Tells v (view json)) → IfOk r (λ json. IfSome found (λ f. Tells (value_told f number id values) (view json)))
+    → v ≡ get_or values (number.0 - 1) v → number.0 - 1 < length values → IfOk r (λ json. IsJsonOf v (view json)) → IfOk r (λ json. IfSome found (λ f. IsJsonOf (value_told f number id values) (view json)))
 told_kept found field number id values v (Err e) there own is lt told = tt
 told_kept found field number id values v (Ok json) there own is lt told =
     let same : v ≡ get_or values (number.0 - 1) value.Nil = get_or_read values (number.0 - 1) v lt is value.Nil in
-    rw (there, own) (subst (λ (x : Value). Tells x (view json)) same told)
+    rw (there, own) (subst (λ (x : Value). IsJsonOf x (view json)) same told)

@@ -7,7 +7,7 @@ use Rattle.ob_base.specs.declared.id.ModelNo.{ModelNo}
 use Rattle.ob_base.specs.declared.place.PathStep.{PathStep}
 use Rattle.ob_base.specs.declared.refusal.Refusal.{Refusal}
 use Rattle.ob_base.specs.declared.refusal.Refusal.TheVariants as refusal
-use Rattle.ob_codec.specs.JsonForm.{Tells}
+use Rattle.ob_codec.specs.JsonForm.{IsJsonOf}
 use Rattle.ob_schema.specs.Fields.{Column, columns}
 use Rattle.ob_schema.specs.declared.info.FieldInfo.{FieldInfo}
 use Rattle.ob_schema.specs.declared.info.ModelInfo.{ModelInfo}
@@ -69,7 +69,7 @@ asked_of info args kw = arguments_of (read_expects info.fields) args kw >>= λ g
 -- the object so far has what tells of these fields of a row, and becomes this object
 abbrev pub TellsFields : ℕ → Row → List Column → Members → Data → Type 0
 TellsFields id row [] members d = d ≡ object members
-TellsFields id row (column ∷ more) members d = (own : Data) × Tells (val_or_unset column id row) own × TellsFields id row more (put column.1.name own members) d
+TellsFields id row (column ∷ more) members d = (own : Data) × IsJsonOf (val_or_unset column id row) own × TellsFields id row more (put column.1.name own members) d
 
 -- the object that tells of a row: its id and these fields
 abbrev pub TellsRow : List Column → ℕ → Row → Data → Type 0

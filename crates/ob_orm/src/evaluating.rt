@@ -27,12 +27,14 @@ struct PlainValues<'a> {
 }
 
 impl Reads for PlainValues<'_> {
-    ghost use Rattle.std.specs.Prelude.{⊤, ◌-◌, ◌≤◌, length, get_or};
+    ghost use Rattle.std.specs.Prelude.{⊤, ◌-◌, ◌≤◌, length, get_or, true};
     ghost use Rattle.ob_base.specs.declared.value.Value.TheVariants.{Nil};
 
     type Fault = NoMemory;
 
     ghost value_of = { λ reads cell. get_or reads.values.now (cell.field.0 - 1) Nil };
+
+    ghost has_value = { λ _ _. true };
 
     ghost can_read = { λ reads cell. (1 ≤ cell.field.0) × (cell.field.0 ≤ length reads.values.now) };
 

@@ -4,7 +4,7 @@
 ghost use Rattle.std.specs.Prelude.{◌≡◌, ◌≤◌, ◌||◌, false, filter, map, true, All, IfOk, IfSome};
 ghost use Rattle.serde_json.specs.View.{view};
 ghost use Rattle.serde_json.specs.Written.{has_float};
-ghost use Rattle.ob_codec.specs.JsonForm.{Tells};
+ghost use Rattle.ob_codec.specs.JsonForm.{IsJsonOf};
 ghost use Rattle.ob_codec.specs.RowForm.{HoldAll};
 ghost use Rattle.ob_schema.specs.Fields.{columns, is_kept};
 ghost use Rattle.ob_schema.specs.Models.{HasField, field_at, model_at};
@@ -16,7 +16,7 @@ ghost use Rattle.ob_orm.specs.Tables.{Row};
 
 use ob_base::{FieldNo, ModelNo, NoMemory, Value};
 use ob_call::Json;
-use ob_codec::to_json;
+use ob_codec::{to_json, type_and_limits};
 use ob_schema::{FieldInfo, Origin, Schema};
 use serde_json::Map;
 use std::alloc::Global;
@@ -94,10 +94,11 @@ fn told_value(
     requires field { HasField schema.now model number }
     requires values { IfSome (model_at schema.now model) (λ info. HaveAll info.fields values.now) }
     ensures { IfOk result (λ json. IfSome (field_at schema.now model number)
-        (λ field. Tells (value_told field number id values.now) (view json))) }
+        (λ field. IsJsonOf (value_told field number id values.now) (view json))) }
 {
     if is_id(schema.info(model, number)) {
         return Ok(Json::from(id));
     }
+    type_and_limits();
     to_json(alloc, schema, model, number, &values[number.0 as usize - 1])
 }

@@ -1,26 +1,25 @@
-use Rattle.std.proofs.Common.{◌++◌, ◌∷◌, [], Ok, map, subst}
+use Rattle.std.proofs.Common.{◌++◌, ◌∷◌, [], subst}
 use Rattle.serde_json.specs.View.{view}
 use Rattle.ob_base.specs.declared.place.PathStep.TheVariants.{Key}
-use Rattle.ob_codec.specs.Input.{given_of, order_of}
 use Rattle.ob_schema.specs.Models.{field_at}
 use Rattle.ob_orm.specs.CreateSteps.{IsFaultAt}
 use Rattle.ob_call.specs.Places.{spot_place}
-use Rattle.ob_orm.proofs.CreateGiven.{GivenFrom, no_commands, value_read, value_refused}
+use Rattle.ob_orm.proofs.CreateGiven.{GivesInput, no_commands, value_read, value_refused}
 use Rattle.ob_orm.proofs.new_row.given_value.Goals as goal
 
 pub unreachable-requires : goal.unreachable-requires
 unreachable-requires c =
     let o = field_at c.args.schema.now c.args.model c.args.number in
     let d = view c.args.json.now in
-    no_commands o c.info.result.now d (map order_of c.in-Ok-Commands.field-0-0) c.info.ensures c.requires.no_list
-    (subst (λ i. GivenFrom o d (Ok (given_of i))) c.in-Ok-Commands.field-0-is c.in-Ok-Commands.ensures.given)
+    no_commands o c.info.result.now d c.in-Ok-Commands.field-0-0 c.info.ensures c.requires.no_list
+    (subst (GivesInput o d) c.in-Ok-Commands.field-0-is c.in-Ok-Commands.ensures.given)
 
 pub returns-in-Ok-Plain-clause-value : goal.returns-in-Ok-Plain-clause-value
 returns-in-Ok-Plain-clause-value c =
     let o = field_at c.args.schema.now c.args.model c.args.number in
     let d = view c.args.json.now in
-    rw c.in-Ok-Plain.value-is (value_read o c.info.result.now d (λ field. spot_place c.args.spot ++ Key field.name ∷ []) c.in-Ok-Plain.value c.info.ensures c.requires.no_list
-    (subst (λ i. GivenFrom o d (Ok (given_of i))) c.in-Ok-Plain.field-0-is c.in-Ok-Plain.ensures.given))
+    rw c.in-Ok-Plain.value-is (value_read o c.info.result.now d (λ field. spot_place c.args.spot ++ Key field.name ∷ []) c.in-Ok-Plain.value c.info.ensures
+    (subst (GivesInput o d) c.in-Ok-Plain.field-0-is c.in-Ok-Plain.ensures.given))
 
 pub returns-in-Err-clause-value : goal.returns-in-Err-clause-value
 returns-in-Err-clause-value c =
