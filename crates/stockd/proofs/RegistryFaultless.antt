@@ -22,7 +22,8 @@ use Rattle.ob_schema.specs.declared.field_type.FieldType.TheVariants as type
 use Rattle.ob_schema.specs.Names.{is_field_name, is_model_name}
 use Rattle.ob_schema.specs.Definitions.{has_field, is_automatic}
 use Rattle.ob_schema.specs.Keys.{fits}
-use Rattle.ob_schema.specs.Faults.{IsFirst, IsFaulty, IsInverse, is_dotted, is_unserved, AtEntry, AtField, HasExpression, HasTerm, HasTooMuch, HasTree, HasTyped, HasUnknownInverse, HasUnknownRelation, HasWrongInverse, HasWrongKey, HasWrongKeys, HasWrongKind, HasWrongPath, IsDeclaredTwice, IsFaultless, IsNamedBefore, IsPastLimit, IsTextFault, NamesNoField, NamesNoModel}
+use Rattle.ob_schema.specs.Faults.{IsFirst, IsFaulty, IsInverse, is_dotted, is_unserved, AtEntry, AtField, HasExpression, HasTerm, HasTooMuch, HasTree, HasTyped, HasUnknownInverse}
+use Rattle.ob_schema.specs.Faults.{HasUnknownRelation, HasWrongInverse, HasWrongKey, HasWrongKeys, HasWrongKind, HasWrongPath, IsDeclaredTwice, IsFaultless, IsNamedBefore, IsPastLimit, IsTextFault, NamesNoField, NamesNoModel}
 use Rattle.ob_schema.specs.Formulas.{IsExpression, computed_numbers, depends_on, fields_read, found_in, names_computed, number_of}
 use Rattle.stockd.specs.Model.{line_def, line_defs, plain_field, subtotal_field}
 use Rattle.stockd.proofs.RegistryText.{no_text_fault, one_tree, subtotal_expression, subtotal_tree}
@@ -69,7 +70,8 @@ any_of_none : {X : Type 0} (P : X → Type 0) → Any P [] → ⊥
 any_of_none P (k, x, low, at, has) = absurd (omega arith)
 
 -- a fact of each declared field
-each_field : (P : FieldDef → Type 0) → P (plain_field (codes "name") type.Char) → P (plain_field (codes "qty") type.Integer) → P (plain_field (codes "price") type.Integer) → P subtotal_field → (f : FieldDef) → Contains line_def.fields f → P f
+each_field : (P : FieldDef → Type 0) → P (plain_field (codes "name") type.Char) → P (plain_field (codes "qty") type.Integer) → P (plain_field (codes "price") type.Integer) → P subtotal_field
+    → (f : FieldDef) → Contains line_def.fields f → P f
 each_field P name qty price subtotal f among = each_of_four P (plain_field (codes "name") type.Char) (plain_field (codes "qty") type.Integer) (plain_field (codes "price") type.Integer) subtotal_field name qty price subtotal f among
 
 -- a test that holds doesn't fail
@@ -206,7 +208,8 @@ subtotal_inverse target inverse is = let given = is.given in absurd (cc)
 -- the names that it uses are fields
 subtotal_names : NamesNoField line_defs line_def subtotal_field → ⊥
 subtotal_names (inl (tree, has, at, refused)) = subtotal_passes tree (type_fault.Name at) has refused
-subtotal_names (inr unknown) = any_of_two (λ path. (is_dotted path ≡ false) × (has_field line_def path ≡ false)) (codes "qty") (codes "price") (λ u. not_false (has_field line_def (codes "qty")) refl u.1) (λ u. not_false (has_field line_def (codes "price")) refl u.1) unknown
+subtotal_names (inr unknown) = any_of_two (λ path. (is_dotted path ≡ false) × (has_field line_def path ≡ false)) (codes "qty") (codes "price") (λ u. not_false (has_field line_def (codes "qty")) refl
+    u.1) (λ u. not_false (has_field line_def (codes "price")) refl u.1) unknown
 
 -- its expression is an integer, as it is
 subtotal_kind : HasWrongKind line_defs line_def subtotal_field → ⊥
