@@ -25,8 +25,9 @@ ghost use Rattle.stockd.specs.Texts.{malformed_text, no_memory_text, outcome_tex
 use crate::places::{body_place, element_place};
 use crate::request::{Method, ModelCall, call_of};
 use ob_base::{Ledger, NoMemory, RecId, Refusal, Steps, Word};
+use ob_call::Call;
 use ob_io::{Clock, KeepFault, Keeper};
-use ob_orm::{Call, Created, create, read, refusal_text};
+use ob_orm::{Created, create, read, refusal_text};
 use ob_rpc::{EnvFault, Envelope, Json, Outcome, envelope, no_memory_reply, reply_text};
 use ob_schema::Schema;
 use serde_json::Map;
