@@ -2,6 +2,7 @@
 use Rattle.std.specs.Prelude.{ℕ, ◌&&◌, nat_lt, List, [], ◌∷◌, codes, Bool, true, false, not, if◌then◌else◌, Option, Some, None, option_map, option_and_then, Result, Ok, Err}
 use Rattle.std.specs.Option.{option_map_or}
 use Rattle.std.specs.Str.{is_utf8, bytes_eq}
+use Rattle.ob_base.specs.Chain.{◌>>=◌}
 use Rattle.ob_base.specs.declared.place.PathStep.{PathStep}
 use Rattle.ob_base.specs.declared.place.PathStep.TheVariants.{Key, Item}
 use Rattle.serde_json.specs.Data.{Data, null, number, string, Items, Members}
@@ -20,12 +21,6 @@ pub record Envelope : Type 0 where
 pub record Fault : Type 0 where
   pub place : List PathStep
   pub id : Data
-
--- each part in turn, and none after one that is wrong
-infixl 10 ◌>>=◌
-abbrev pub ◌>>=◌ : {A B : Type 0} → Result A Fault → (A → Result B Fault) → Result B Fault
-(Ok x) >>= rest = rest x
-(Err e) >>= rest = Err e
 
 -- what is there, or a fault at the place
 abbrev pub there : {A : Type 0} → List PathStep → Data → Option A → Result A Fault

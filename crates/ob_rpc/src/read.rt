@@ -246,7 +246,7 @@ fn place_of(alloc: Global, keys: &[&str]) -> Result<Place, NoMemory>
 {
     let mut place = Place::whole(alloc);
     for key in keys {
-        place.push(PathStep::Key(Word::from_text(alloc, key)?))?;
+        place.push_key(alloc, key)?;
     }
     Ok(place)
 }

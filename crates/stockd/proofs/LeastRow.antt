@@ -13,7 +13,7 @@ use Rattle.ob_io.specs.declared.store.RowKey.{RowKey}
 use Rattle.ob_io.specs.declared.store.KeptRow.{KeptRow}
 use Rattle.ob_base.specs.declared.id.RecId.{RecId}
 use Rattle.ob_io.specs.Store.{Store, row_key_cmp, row_at, rows_after, RowsNamed}
-use Rattle.stockd.specs.Opening.{HasNoRow, IsLeastRow}
+use Rattle.stockd.specs.Store.{HasNoRow, IsLeastRow}
 
 both_true : (a b : Bool) → T (a && b) → T a × T b
 both_true true b h = (tt, h)
@@ -158,7 +158,8 @@ none_answered (Some store) (Some other) at_0 [] h few =
     no_row_above store (sym h.told_at_0 ∙ none_is at_0 h.none) (subst (λ (s : Store). [] ≡ take 1 (rows_after s (record { 0 = 1 }) (record { 0 = 0 }))) same h.told)
 none_answered (Some store) (Some other) at_0 (row ∷ rows) h few = absurd (omega arith)
 
-pub row_answered : (kept_then kept_now : Option Store) (at_0 : Option KeptRow) (rows : List KeptRow) (row : KeptRow) → Answered kept_then kept_now at_0 rows → 1 ≤ length rows → row ≡ get_or rows 0 row → IfSome kept_then (λ store. IsLeastRow store row.id.0)
+pub row_answered : (kept_then kept_now : Option Store) (at_0 : Option KeptRow) (rows : List KeptRow) (row : KeptRow) → Answered kept_then kept_now at_0 rows → 1 ≤ length rows → row ≡ get_or rows 0 row
+    → IfSome kept_then (λ store. IsLeastRow store row.id.0)
 row_answered None kept_now at_0 rows row h some item = tt
 row_answered (Some store) None at_0 rows row h some item = let same = h.same in cc
 row_answered (Some store) (Some other) at_0 [] row h some item = absurd (omega arith)

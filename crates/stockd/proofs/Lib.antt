@@ -1,5 +1,5 @@
+pub mod Counts
 pub mod LineLaws
-pub mod ReadingLaws
 pub mod ReadingSteps
 pub mod AnswerLaws
 pub mod ReadOn

@@ -1,5 +1,6 @@
 -- Laws of lines, for those who read them one by one.
-use Rattle.std.proofs.Common.{◌≡◌, ◌≢◌, ℕ, suc, ◌+◌, ◌<◌, ◌≤◌, Bool, true, false, cond, eqb, List, [], ◌∷◌, ◌++◌, length, get_or, refl, ap, sym, ◌∙◌, arith, rules, tests, cond, Some, None, Option, length-append, eq-eqb, ltb, add_assoc, inl, inr}
+use Rattle.std.proofs.Common.{◌≡◌, ◌≢◌, ℕ, suc, ◌+◌, ◌<◌, ◌≤◌, Bool, true, false, cond, eqb, List, [], ◌∷◌, ◌++◌, length}
+use Rattle.std.proofs.Common.{get_or, refl, ap, sym, ◌∙◌, arith, rules, tests, cond, Some, None, Option, length-append, eq-eqb, ltb, add_assoc, inl, inr}
 use Rattle.std.specs.Prelude.{All, not, unwrap_or}
 use Rattle.std.specs.List.{position_or_len, flat_map, onto_first}
 use Rattle.std.proofs.Math.Seq.{take-append-add, drop-append-add}
@@ -9,7 +10,7 @@ use Rattle.std.proofs.lemmas.List.Folds.{prefix_len-append}
 use Rattle.std.proofs.lemmas.Bool.{cases_lt}
 use Rattle.std.proofs.lemmas.Bool.Decides.{nat_tests}
 use Rattle.memchr.specs.Find.{IsFirstByte, is_byte}
-use Rattle.stockd.specs.Lines.{is_line_feed, lines_of, is_blank, bodies_of, line_front, line_back, line_size}
+use Rattle.stockd.specs.Lines.{is_line_feed, lines_of, is_blank_line, bodies_of, line_front, line_back, line_size}
 
 -- where the first line feed stands, or how many bytes there are where none does
 abbrev pub feed_at : List ℕ → ℕ
@@ -96,7 +97,8 @@ line_size-line_back stream =
 same_line : (front front' : List ℕ) (back back' : List ℕ) → front ≡ front' → back ≡ back' → front ∷ lines_of back ≡ front' ∷ lines_of back'
 same_line front front' back back' f b = cc
 
-lines_of-step : (byte : ℕ) (bytes : List ℕ) (ends : Bool) → is_line_feed byte ≡ ends → (bytes ≢ [] → lines_of bytes ≡ line_front bytes ∷ lines_of (line_back bytes)) → lines_of (byte ∷ bytes) ≡ line_front (byte ∷ bytes) ∷ lines_of (line_back (byte ∷ bytes))
+lines_of-step : (byte : ℕ) (bytes : List ℕ) (ends : Bool) → is_line_feed byte ≡ ends → (bytes ≢ [] → lines_of bytes ≡ line_front bytes ∷ lines_of (line_back bytes))
+    → lines_of (byte ∷ bytes) ≡ line_front (byte ∷ bytes) ∷ lines_of (line_back (byte ∷ bytes))
 lines_of-step byte bytes true e h = rw e refl
 lines_of-step byte [] false e h = rw e refl
 lines_of-step byte (next ∷ bytes) false e h =
@@ -131,11 +133,3 @@ lines_of-whole (line ∷ whole) rest no_feed =
     let open_later : All (λ line. feed_at line ≡ length line) whole = λ k d l. no_feed (suc k) d (omega arith) in
     let joined : ((line ++ 10 ∷ []) ++ flat_map (λ line. line ++ 10 ∷ []) whole) ++ rest ≡ line ++ 10 ∷ later = simp append_assoc in
     rw joined (lines_of-line line later open_here ∙ ap (λ lines. line ∷ lines) (lines_of-whole whole rest open_later))
-
--- the lines that aren't blank, one by one
-
-pub bodies_of-blank : (stream : List ℕ) → stream ≢ [] → is_blank (line_front stream) ≡ true → bodies_of stream ≡ bodies_of (line_back stream)
-bodies_of-blank stream some blank = rw (lines_of-front stream some, blank) refl
-
-pub bodies_of-body : (stream : List ℕ) → stream ≢ [] → is_blank (line_front stream) ≡ false → bodies_of stream ≡ line_front stream ∷ bodies_of (line_back stream)
-bodies_of-body stream some body = rw (lines_of-front stream some, body) refl

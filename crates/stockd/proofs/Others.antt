@@ -4,7 +4,7 @@ use Rattle.serde_json.specs.Data.{Data}
 use Rattle.ob_io.specs.Store.{Store}
 use Rattle.ob_orm.specs.Kept.{OthersStay}
 use Rattle.stockd.specs.Model.{line_model}
-use Rattle.stockd.specs.Served.{Keeps}
+use Rattle.stockd.specs.Store.{Keeps}
 
 -- where nothing changed
 pub others_same : (before now : Option Store) → now ≡ before → OthersStay line_model before now

@@ -6,9 +6,9 @@ use Rattle.std.proofs.lemmas.List.{append-nil, take_all, drop_all, nil_from_leng
 use Rattle.std.proofs.lemmas.List.Concat.{flat_map-append}
 use Rattle.std.proofs.lemmas.List.Sums.{split_at_first, position_or_len_is, fails_before_first, passes_at_first}
 use Rattle.std.proofs.lemmas.List.Elements.{All-push}
-use Rattle.stockd.specs.declared.lines.TheConstants.{LONGEST_LINE, LONGEST_INPUT}
+use Rattle.ob_base.specs.Limits.{max_line_bytes, max_input_bytes}
 use Rattle.stockd.specs.Lines.{is_line_feed, lines_of, line_front, line_back, line_size, Reading, stream_of, ReadsLine, IsTooLong}
-use Rattle.stockd.specs.Out.{after_lines, lines_size}
+use Rattle.stockd.specs.Session.{after_lines, lines_size}
 use Rattle.stockd.specs.SessionSteps.{whole_lines, HasRead, HasReadAll, HasReadTo}
 use Rattle.stockd.proofs.LineLaws.{feed_at, feed_at-le-length, length-line_front, line_back-open, line_size-open, open_from_all, all_from_open, lines_of-open, lines_of-whole}
 
@@ -82,7 +82,7 @@ told_nil held (Some rest) e =
     let none : held ++ rest ≡ [] = cc in
     ap Some (nil_from_length rest (omega (arith, ap length none, length-append held rest)))
 
-not_too_long : (consumed : ℕ) (rest : List ℕ) → length (line_front rest) ≤ LONGEST_LINE → consumed + line_size rest ≤ LONGEST_INPUT → IsTooLong consumed rest → ⊥
+not_too_long : (consumed : ℕ) (rest : List ℕ) → length (line_front rest) ≤ max_line_bytes → consumed + line_size rest ≤ max_input_bytes → IsTooLong consumed rest → ⊥
 not_too_long consumed rest short few (inl long) = omega arith
 not_too_long consumed rest short few (inr long) = omega arith
 
@@ -116,7 +116,8 @@ pub lines_of-stream : {stream : List ℕ} {reader : Reading} {left : Option (Lis
 lines_of-stream {stream} {reader} {left} {lines} h =
     ap lines_of h.stream_is ∙ lines_of-read lines h.rest h.no_feeds
 
-none_longer : {stream : List ℕ} {reader : Reading} {left : Option (List ℕ)} {lines : List (List ℕ)} (h : HasRead stream reader left lines) → (IsTooLong reader.consumed h.rest → ⊥) → (k : ℕ) → k < length lines + 1 → IsTooLong (lines_size k stream) (after_lines k stream) → ⊥
+none_longer : {stream : List ℕ} {reader : Reading} {left : Option (List ℕ)} {lines : List (List ℕ)} (h : HasRead stream reader left lines) → (IsTooLong reader.consumed h.rest → ⊥) → (k : ℕ)
+    → k < length lines + 1 → IsTooLong (lines_size k stream) (after_lines k stream) → ⊥
 none_longer {stream} {reader} {left} {lines} h fits k below long =
     elim (cases_lt k (length lines)) [
       | inl less ↦ h.none_too_long k less long
@@ -125,7 +126,8 @@ none_longer {stream} {reader} {left} {lines} h fits k below long =
           fits (rw (size_before h, rest_after h) at at)
     ]
 
-reads_whole_line : (stream : List ℕ) (lines : List (List ℕ)) {old new : Reading} {before after : Option (List ℕ)} (h : HasRead stream old before lines) → TakesLine old new after h.rest → length new.line ≤ LONGEST_LINE → new.consumed ≤ LONGEST_INPUT → feed_at h.rest < length h.rest → HasRead stream new after (lines ++ new.line ∷ [])
+reads_whole_line : (stream : List ℕ) (lines : List (List ℕ)) {old new : Reading} {before after : Option (List ℕ)} (h : HasRead stream old before lines) → TakesLine old new after h.rest
+    → length new.line ≤ max_line_bytes → new.consumed ≤ max_input_bytes → feed_at h.rest < length h.rest → HasRead stream new after (lines ++ new.line ∷ [])
 reads_whole_line stream lines {old} {new} {before} {after} h t short few less =
     let size : line_size h.rest ≡ feed_at h.rest + 1 = omega (arith, length-line_front h.rest) in
     let first : h.rest ≡ new.line ++ 10 ∷ line_back h.rest = rw t.line (first_whole h.rest less) in
@@ -140,7 +142,8 @@ reads_whole_line stream lines {old} {new} {before} {after} h t short few less =
       none_too_long = λ k below. none_longer h (not_too_long old.consumed h.rest (rw (← t.line) short) (omega (arith, t.consumed))) k (omega (arith, more));
     }
 
-reads_last_line : (stream : List ℕ) (lines : List (List ℕ)) {old new : Reading} {before after : Option (List ℕ)} (h : HasRead stream old before lines) → TakesLine old new after h.rest → length new.line ≤ LONGEST_LINE → new.consumed ≤ LONGEST_INPUT → length h.rest ≤ feed_at h.rest → HasReadAll stream after (lines ++ new.line ∷ [])
+reads_last_line : (stream : List ℕ) (lines : List (List ℕ)) {old new : Reading} {before after : Option (List ℕ)} (h : HasRead stream old before lines) → TakesLine old new after h.rest
+    → length new.line ≤ max_line_bytes → new.consumed ≤ max_input_bytes → length h.rest ≤ feed_at h.rest → HasReadAll stream after (lines ++ new.line ∷ [])
 reads_last_line stream lines {old} {new} {before} {after} h t short few past =
     let more : length (lines ++ new.line ∷ []) ≡ length lines + 1 = length-append lines (new.line ∷ []) in
     let all : feed_at h.rest ≡ length h.rest = omega (arith, feed_at-le-length h.rest) in
@@ -152,7 +155,9 @@ reads_last_line stream lines {old} {new} {before} {after} h t short few past =
     }
 
 -- A line was read: whole where more bytes were consumed than it has, else the last.
-pub reads_on : (stream : List ℕ) (lines : List (List ℕ)) {old new : Reading} {before after : Option (List ℕ)} → HasRead stream old before lines → ReadsLine old new before after → length new.line ≤ LONGEST_LINE → new.consumed ≤ LONGEST_INPUT → (len now was : ℕ) → len ≡ length new.line → now ≡ new.consumed → was ≡ old.consumed → HasReadTo (ltb len (now - was)) stream new after (lines ++ new.line ∷ [])
+pub reads_on : (stream : List ℕ) (lines : List (List ℕ)) {old new : Reading} {before after : Option (List ℕ)} → HasRead stream old before lines → ReadsLine old new before after
+    → length new.line ≤ max_line_bytes → new.consumed ≤ max_input_bytes → (len now was : ℕ) → len ≡ length new.line → now ≡ new.consumed → was ≡ old.consumed
+    → HasReadTo (ltb len (now - was)) stream new after (lines ++ new.line ∷ [])
 reads_on stream lines {old} {new} {before} {after} h r short few len now was len_is now_is was_is =
     let t = takes_line h.rest h.coming r in
     let size : line_size h.rest ≡ now - was = omega (arith, t.consumed) in

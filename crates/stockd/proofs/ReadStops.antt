@@ -10,9 +10,9 @@ use Rattle.stockd.specs.declared.ending.Ending.{Ending}
 use Rattle.stockd.specs.declared.ending.Ending.TheVariants as ending
 use Rattle.stockd.specs.declared.lines.LineFault.{LineFault}
 use Rattle.stockd.specs.declared.lines.LineFault.TheVariants as fault
-use Rattle.stockd.specs.Lines.{is_line_feed, lines_of, Reading, stream_of, GivesPart, IsAtEnd, StopsInLine, IsTooLong}
-use Rattle.stockd.specs.Out.{whole_part, NoneTooLong, AreAmong}
-use Rattle.stockd.specs.SessionSteps.{bodies_in, whole_lines, HasRead, StopsReading}
+use Rattle.stockd.specs.Lines.{is_line_feed, lines_of, bodies_of, Reading, stream_of, GivesPart, IsAtEnd, StopsInLine, IsTooLong}
+use Rattle.stockd.specs.Session.{whole_part, NoneTooLong, AreAmong}
+use Rattle.stockd.specs.SessionSteps.{whole_lines, HasRead, StopsReading}
 use Rattle.stockd.proofs.ReadOn.{rest_after, size_before, lines_of-stream, lines_of-read, joined}
 
 -- the stream up to its last line feed
@@ -57,16 +57,17 @@ told_before held None rest e = absurd (cc)
 told_before held (Some left) rest e = (left, refl, cc)
 
 -- what is left after a part was given, where the stream is told
-told_after : {stream : List ℕ} {reader : Reading} {before left : Option (List ℕ)} {lines : List (List ℕ)} (h : HasRead stream reader before lines) (part : List ℕ) → GivesPart before left part → (now : List ℕ) × (left ≡ Some now) × (h.rest ≡ reader.held ++ (part ++ now))
+told_after : {stream : List ℕ} {reader : Reading} {before left : Option (List ℕ)} {lines : List (List ℕ)} (h : HasRead stream reader before lines) (part : List ℕ) → GivesPart before left part
+    → (now : List ℕ) × (left ≡ Some now) × (h.rest ≡ reader.held ++ (part ++ now))
 told_after {stream} {reader} {before} {left} {lines} h part given =
     let was = told_before reader.held before h.rest h.coming in
     let now = told_part before left part was.0 was.1 given in
     (now.0, now.1, was.2 ∙ ap (λ s. reader.held ++ s) now.2)
 
 -- the bodies of the lines that were read
-pub among_read : {stream : List ℕ} {reader : Reading} {left : Option (List ℕ)} {lines : List (List ℕ)} → HasRead stream reader left lines → AreAmong (length lines) stream (bodies_in lines)
+pub among_read : {stream : List ℕ} {reader : Reading} {left : Option (List ℕ)} {lines : List (List ℕ)} → HasRead stream reader left lines → AreAmong (length lines) stream (bodies_of lines)
 among_read {stream} {reader} {left} {lines} h = record {
-  bodies_are = sym (ap (λ ls. bodies_in (take (length lines) ls)) (lines_of-stream h) ∙ ap bodies_in (take-append_seam lines (lines_of h.rest)));
+  bodies_are = sym (ap (λ ls. bodies_of (take (length lines) ls)) (lines_of-stream h) ∙ ap bodies_of (take-append_seam lines (lines_of h.rest)));
   none_too_long = h.none_too_long;
 }
 
@@ -80,7 +81,7 @@ stops_at_end {stream} {old} {new} {before} {left} {lines} h e =
     let all : lines_of stream ≡ lines = lines_of-stream h ∙ ap (λ s. lines ++ lines_of s) rest ∙ append-nil lines in record {
       left = [];
       left_is = e.left ∙ was.1 ∙ ap Some none;
-      takes_in = (sym (ap bodies_in all), refl, subst (λ (ls : List (List ℕ)). NoneTooLong (length ls) stream) (sym all) h.none_too_long);
+      takes_in = (sym (ap bodies_of all), refl, subst (λ (ls : List (List ℕ)). NoneTooLong (length ls) stream) (sym all) h.none_too_long);
     }
 
 parted : (front held part now : List ℕ) → front ++ (held ++ (part ++ now)) ≡ (front ++ (held ++ part)) ++ now
@@ -98,12 +99,13 @@ stops_failed {stream} {old} {new} {before} {left} {lines} h s =
       takes_in = (
         read,
         h.stream_is ∙ ap (λ t. whole_lines lines ++ t) now.2 ∙ parted (whole_lines lines) old.held s.part now.0,
-        sym (ap bodies_in all),
+        sym (ap bodies_of all),
         subst (λ (ls : List (List ℕ)). NoneTooLong (length ls) stream) (sym all) h.none_too_long,
       );
     }
 
-pub stops_too_long : {stream : List ℕ} {old : Reading} {before left : Option (List ℕ)} {lines : List (List ℕ)} (number : ℕ) (part : List ℕ) → HasRead stream old before lines → number ≡ old.lines + 1 → IfSome (stream_of old before) (IsTooLong old.consumed) → GivesPart before left part → StopsReading (ending.TooLong number) stream left lines
+pub stops_too_long : {stream : List ℕ} {old : Reading} {before left : Option (List ℕ)} {lines : List (List ℕ)} (number : ℕ) (part : List ℕ) → HasRead stream old before lines → number ≡ old.lines + 1
+    → IfSome (stream_of old before) (IsTooLong old.consumed) → GivesPart before left part → StopsReading (ending.TooLong number) stream left lines
 stops_too_long {stream} {old} {before} {left} {lines} number part h counted long given =
     let now = told_after h part given in
     let here : IsTooLong old.consumed h.rest = subst (λ s. IfSome s (IsTooLong old.consumed)) h.coming long in record {

@@ -5,7 +5,7 @@ use Rattle.std.specs.Prelude.{option_map, IfSome, nat_lt}
 use Rattle.std.proofs.lemmas.List.{append_assoc, append-nil, nil_from_length, length-take, drop-drop, drop-take, drop_all, take_all}
 use Rattle.std.proofs.lemmas.Bool.{ltb-true, ltb-false, false≢true}
 use Rattle.std.proofs.lemmas.Bool.Decides.{nat_tests}
-use Rattle.stockd.specs.declared.lines.TheConstants.{LONGEST_LINE, LONGEST_INPUT}
+use Rattle.ob_base.specs.Limits.{max_line_bytes, max_input_bytes}
 use Rattle.stockd.specs.Lines.{Reading, line_front, line_back, line_size, stream_of, GivesPart, ReadsLine, StopsInLine, IsTooLong}
 use Rattle.stockd.specs.LineSteps.{TakesPiece, IsPieceTooLong}
 use Rattle.stockd.proofs.LineLaws.{feed_at, feed_at-le-length, feed_at-open, all_from_open, length-line_front, line_size-is, line_front-open, line_back-open, line_front-whole, line_back-whole, line_size-open, line_size-whole, line_grows}
@@ -27,7 +27,9 @@ bool_byte-is : (b : Bool) → bool_byte b ≡ cond b 1 0
 bool_byte-is true = refl
 bool_byte-is false = refl
 
-pub takes_piece : (held rest line front : List ℕ) (lines lines' consumed consumed' count step : ℕ) → count ≡ feed_at held → step ≡ bool_byte (ltb count (length held)) → rest ≡ drop (count + step) held → front ≡ line ++ take count held → lines' ≡ lines + step → consumed' ≡ consumed + (count + step) → TakesPiece (record { held = held; line = line; lines = lines; consumed = consumed }) (record { held = rest; line = front; lines = lines'; consumed = consumed' }) (ltb count (length held))
+pub takes_piece : (held rest line front : List ℕ) (lines lines' consumed consumed' count step : ℕ) → count ≡ feed_at held → step ≡ bool_byte (ltb count (length held)) → rest ≡ drop (count + step) held
+    → front ≡ line ++ take count held → lines' ≡ lines + step → consumed' ≡ consumed + (count + step)
+    → TakesPiece (record { held = held; line = line; lines = lines; consumed = consumed }) (record { held = rest; line = front; lines = lines'; consumed = consumed' }) (ltb count (length held))
 takes_piece held rest line front lines lines' consumed consumed' count step at bytes rested fronted counted taken =
     let stepped = bytes ∙ bool_byte-is (ltb count (length held)) in record {
       whole = rw (at, length-line_front held) refl;
@@ -37,11 +39,12 @@ takes_piece held rest line front lines lines' consumed consumed' count step at b
       consumed = rw (line_size-is held, ← at, ← stepped) taken;
     }
 
-pub piece_too_long-by_line : (held line : List ℕ) (lines consumed count : ℕ) → count ≡ feed_at held → LONGEST_LINE < length line + count → IsPieceTooLong (record { held = held; line = line; lines = lines; consumed = consumed })
+pub piece_too_long-by_line : (held line : List ℕ) (lines consumed count : ℕ) → count ≡ feed_at held → max_line_bytes < length line + count → IsPieceTooLong (record { held = held; line = line; lines = lines; consumed = consumed })
 piece_too_long-by_line held line lines consumed count at long =
     inl (omega (arith, length-append line (line_front held), length-line_front held))
 
-pub piece_too_long-by_input : (held line : List ℕ) (lines consumed count step : ℕ) → count ≡ feed_at held → step ≡ bool_byte (ltb count (length held)) → LONGEST_INPUT < consumed + (count + step) → IsPieceTooLong (record { held = held; line = line; lines = lines; consumed = consumed })
+pub piece_too_long-by_input : (held line : List ℕ) (lines consumed count step : ℕ) → count ≡ feed_at held → step ≡ bool_byte (ltb count (length held)) → max_input_bytes < consumed + (count + step)
+    → IsPieceTooLong (record { held = held; line = line; lines = lines; consumed = consumed })
 piece_too_long-by_input held line lines consumed count step at bytes long =
     let stepped = bytes ∙ bool_byte-is (ltb count (length held)) in
     inr (rw (line_size-is held, ← at, ← stepped) long)
@@ -53,7 +56,8 @@ step_within count len true e below =
 step_within count len false e below = omega arith
 
 -- what is taken from a piece of a room stays within the piece
-pub taken_within : (room : List ℕ) (start end count step : ℕ) → step ≡ bool_byte (ltb count (length (take (end - start) (drop start room)))) → count ≤ length (take (end - start) (drop start room)) → start ≤ end → start + (count + step) ≤ end
+pub taken_within : (room : List ℕ) (start end count step : ℕ) → step ≡ bool_byte (ltb count (length (take (end - start) (drop start room)))) → count ≤ length (take (end - start) (drop start room))
+    → start ≤ end → start + (count + step) ≤ end
 taken_within room start end count step bytes below ordered =
     let held = take (end - start) (drop start room) in
     omega (arith, bytes, step_within count (length held) _ refl below, length-take (end - start) (drop start room))
@@ -137,7 +141,8 @@ told : (stream left : Option (List ℕ)) (all : List ℕ → List ℕ) (P : List
 told stream None all P e h = subst (λ s. IfSome s P) (sym e) tt
 told stream (Some rest) all P e h = subst (λ s. IfSome s P) (sym e) (h rest refl)
 
-stream_joined : (before left : Option (List ℕ)) (held part line rest_held : List ℕ) → GivesPart before left part → line ++ rest_held ≡ held ++ part → option_map (λ rest. held ++ rest) before ≡ option_map (λ rest. line ++ (rest_held ++ rest)) left
+stream_joined : (before left : Option (List ℕ)) (held part line rest_held : List ℕ) → GivesPart before left part → line ++ rest_held ≡ held ++ part
+    → option_map (λ rest. held ++ rest) before ≡ option_map (λ rest. line ++ (rest_held ++ rest)) left
 stream_joined before None held part line rest_held given bytes = rw given refl
 stream_joined before (Some rest) held part line rest_held given bytes =
     rw (given, ← append_assoc held part rest, ← bytes, append_assoc line rest_held rest) refl
@@ -162,7 +167,8 @@ ends_in_held line held rest no_feed less = record {
   size = omega (arith, line_size-open line (held ++ rest) no_feed, line_size-whole held rest less);
 }
 
-rest_mapped : (before left : Option (List ℕ)) (all : List ℕ → List ℕ) (back : List ℕ) → before ≡ option_map all left → ((rest : List ℕ) → left ≡ Some rest → line_back (all rest) ≡ back ++ rest) → option_map (λ rest. back ++ rest) left ≡ option_map line_back before
+rest_mapped : (before left : Option (List ℕ)) (all : List ℕ → List ℕ) (back : List ℕ) → before ≡ option_map all left → ((rest : List ℕ) → left ≡ Some rest → line_back (all rest) ≡ back ++ rest)
+    → option_map (λ rest. back ++ rest) left ≡ option_map line_back before
 rest_mapped before None all back e h = rw e refl
 rest_mapped before (Some rest) all back e h = rw (e, h rest refl) refl
 
@@ -207,7 +213,8 @@ ends_with_input line rest no_feed none = record {
   long = rw none (omega (arith, length-append line []));
 }
 
-pub reads_last : {old now next : Reading} {before left : Option (List ℕ)} → IsWithinLine old now before left → now.held ≡ [] → IfSome left (λ rest. rest ≡ []) → 0 < length now.line → next ≡ record now { lines = now.lines + 1 } → ReadsLine old next before left
+pub reads_last : {old now next : Reading} {before left : Option (List ℕ)} → IsWithinLine old now before left → now.held ≡ [] → IfSome left (λ rest. rest ≡ []) → 0 < length now.line
+    → next ≡ record now { lines = now.lines + 1 } → ReadsLine old next before left
 reads_last {old} {now} {next} {before} {left} h none ends some e =
     let stream : stream_of old before ≡ option_map (λ rest. now.line ++ ([] ++ rest)) left = rw none at (stream-within h) in
     let held : next.held ≡ [] = ap (λ (r : Reading). r.held) e ∙ none in
@@ -235,7 +242,8 @@ stops_within {old} {now} {before} {left} h none =
       lines = h.lines;
     }
 
-too_long_at : (line held rest : List ℕ) (start consumed lines : ℕ) → feed_at line ≡ length line → consumed ≡ start + length line → IsPieceTooLong (record { held = held; line = line; lines = lines; consumed = consumed }) → IsTooLong start (line ++ (held ++ rest))
+too_long_at : (line held rest : List ℕ) (start consumed lines : ℕ) → feed_at line ≡ length line → consumed ≡ start + length line
+    → IsPieceTooLong (record { held = held; line = line; lines = lines; consumed = consumed }) → IsTooLong start (line ++ (held ++ rest))
 too_long_at line held rest start consumed lines no_feed counted (inl long) =
     inl (omega (arith, length-line_front (line ++ (held ++ rest)), feed_at-open line (held ++ rest) no_feed, (line_grows held rest).0, length-append line (line_front held), length-line_front held))
 too_long_at line held rest start consumed lines no_feed counted (inr long) =

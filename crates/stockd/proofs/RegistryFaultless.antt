@@ -11,7 +11,7 @@ use Rattle.ob_expr.specs.declared.checker.TypeFault.TheVariants as type_fault
 use Rattle.ob_expr.specs.declared.parser.ExprFault.{ExprFault}
 use Rattle.ob_expr.specs.Checking.{TypedTree, field, kind_of, times, typed_of}
 use Rattle.ob_expr.specs.Grammar.{Tree}
-use Rattle.ob_expr.specs.Lexemes.{is_name_byte}
+use Rattle.ob_expr.specs.Lexemes.{is_name_byte, lexemes}
 use Rattle.ob_schema.specs.declared.definition.FieldDef.{FieldDef}
 use Rattle.ob_schema.specs.declared.definition.ModelDef.{ModelDef}
 use Rattle.ob_schema.specs.declared.fault.SchemaFault.TheVariants as fault
@@ -22,10 +22,11 @@ use Rattle.ob_schema.specs.declared.field_type.FieldType.TheVariants as type
 use Rattle.ob_schema.specs.Names.{is_field_name, is_model_name}
 use Rattle.ob_schema.specs.Definitions.{has_field, is_automatic}
 use Rattle.ob_schema.specs.Keys.{fits}
-use Rattle.ob_schema.specs.Faults.{IsFirst, IsFaulty, IsInverse, is_dotted, is_unserved, AtEntry, AtField, HasExpression, HasTerm, HasTooMuch, HasTree, HasTyped, HasUnknownInverse, HasUnknownRelation, HasWrongInverse, HasWrongKey, HasWrongKeys, HasWrongKind, HasWrongPath, IsDeclaredTwice, IsFaultless, IsNamedBefore, IsPastLimit, IsTextFault, NamesNoField, NamesNoModel}
+use Rattle.ob_schema.specs.Faults.{IsFirst, IsFaulty, IsInverse, is_dotted, is_unserved, AtEntry, AtField, HasExpression, HasTerm, HasTooMuch, HasTree, HasTyped, HasUnknownInverse}
+use Rattle.ob_schema.specs.Faults.{HasUnknownRelation, HasWrongInverse, HasWrongKey, HasWrongKeys, HasWrongKind, HasWrongPath, IsDeclaredTwice, IsFaultless, IsNamedBefore, IsPastLimit, IsTextFault, NamesNoField, NamesNoModel}
 use Rattle.ob_schema.specs.Formulas.{IsExpression, computed_numbers, depends_on, fields_read, found_in, names_computed, number_of}
 use Rattle.stockd.specs.Model.{line_def, line_defs, plain_field, subtotal_field}
-use Rattle.stockd.proofs.RegistryText.{no_text_fault, one_tree, subtotal_expression, subtotal_tree}
+use Rattle.stockd.proofs.RegistryText.{OneTree, no_text_fault, subtotal_expression, subtotal_tree}
 
 -- why the text of the field's expression is none
 abbrev HasTextFault : ExprFault → FieldDef → Type 0
@@ -69,7 +70,8 @@ any_of_none : {X : Type 0} (P : X → Type 0) → Any P [] → ⊥
 any_of_none P (k, x, low, at, has) = absurd (omega arith)
 
 -- a fact of each declared field
-each_field : (P : FieldDef → Type 0) → P (plain_field (codes "name") type.Char) → P (plain_field (codes "qty") type.Integer) → P (plain_field (codes "price") type.Integer) → P subtotal_field → (f : FieldDef) → Contains line_def.fields f → P f
+each_field : (P : FieldDef → Type 0) → P (plain_field (codes "name") type.Char) → P (plain_field (codes "qty") type.Integer) → P (plain_field (codes "price") type.Integer) → P subtotal_field
+    → (f : FieldDef) → Contains line_def.fields f → P f
 each_field P name qty price subtotal f among = each_of_four P (plain_field (codes "name") type.Char) (plain_field (codes "qty") type.Integer) (plain_field (codes "price") type.Integer) subtotal_field name qty price subtotal f among
 
 -- a test that holds doesn't fail
@@ -87,24 +89,26 @@ subtotal_text : (text : List ℕ) → subtotal_field.compute ≡ Some text → t
 subtotal_text text given = same_Some text (codes "qty * price") (sym given)
 
 -- and no other tree
-subtotal_has : (tree : Tree) → HasTree subtotal_field tree → tree ≡ subtotal_tree
-subtotal_has tree has = one_tree (codes "qty * price") tree subtotal_tree (subst (λ (text : List ℕ). IsExpression text tree) (subtotal_text has.text has.expression.given) has.is_tree) subtotal_expression
+subtotal_has : OneTree → (tree : Tree) → HasTree subtotal_field tree → tree ≡ subtotal_tree
+subtotal_has one tree has =
+    let is : IsExpression (codes "qty * price") tree = subst (λ (text : List ℕ). IsExpression text tree) (subtotal_text has.text has.expression.given) has.is_tree in
+    one (lexemes (codes "qty * price")) tree subtotal_tree is.spells subtotal_expression.spells
 
 -- the product of the two fields
 abbrev subtotal_typed : TypedTree
 subtotal_typed = times (field (number_of line_def (codes "qty")) kind.Int) (field (number_of line_def (codes "price")) kind.Int)
 
 -- which is checked
-subtotal_checks : (tree : Tree) → HasTree subtotal_field tree → typed_of (found_in line_defs line_def) tree ≡ Ok subtotal_typed
-subtotal_checks tree has = ap (λ (t : Tree). typed_of (found_in line_defs line_def) t) (subtotal_has tree has)
+subtotal_checks : OneTree → (tree : Tree) → HasTree subtotal_field tree → typed_of (found_in line_defs line_def) tree ≡ Ok subtotal_typed
+subtotal_checks one tree has = ap (λ (t : Tree). typed_of (found_in line_defs line_def) t) (subtotal_has one tree has)
 
 -- and nothing else comes of the check
-subtotal_is : (typed : TypedTree) → HasTyped line_defs line_def subtotal_field typed → typed ≡ subtotal_typed
-subtotal_is typed has = let known = subtotal_checks has.tree has.has_tree in let found = has.checked in cc
+subtotal_is : OneTree → (typed : TypedTree) → HasTyped line_defs line_def subtotal_field typed → typed ≡ subtotal_typed
+subtotal_is one typed has = let known = subtotal_checks one has.tree has.has_tree in let found = has.checked in cc
 
 -- so that the check refuses nothing
-subtotal_passes : (tree : Tree) (why : TypeFault) → HasTree subtotal_field tree → typed_of (found_in line_defs line_def) tree ≡ Err why → ⊥
-subtotal_passes tree why has refused = let known = subtotal_checks tree has in absurd (cc)
+subtotal_passes : OneTree → (tree : Tree) (why : TypeFault) → HasTree subtotal_field tree → typed_of (found_in line_defs line_def) tree ≡ Err why → ⊥
+subtotal_passes one tree why has refused = let known = subtotal_checks one tree has in absurd (cc)
 
 -- ---- the entry as a whole
 
@@ -204,14 +208,15 @@ subtotal_inverse : (target : ModelDef) (inverse : List ℕ) → IsInverse line_d
 subtotal_inverse target inverse is = let given = is.given in absurd (cc)
 
 -- the names that it uses are fields
-subtotal_names : NamesNoField line_defs line_def subtotal_field → ⊥
-subtotal_names (inl (tree, has, at, refused)) = subtotal_passes tree (type_fault.Name at) has refused
-subtotal_names (inr unknown) = any_of_two (λ path. (is_dotted path ≡ false) × (has_field line_def path ≡ false)) (codes "qty") (codes "price") (λ u. not_false (has_field line_def (codes "qty")) refl u.1) (λ u. not_false (has_field line_def (codes "price")) refl u.1) unknown
+subtotal_names : OneTree → NamesNoField line_defs line_def subtotal_field → ⊥
+subtotal_names one (inl (tree, has, at, refused)) = subtotal_passes one tree (type_fault.Name at) has refused
+subtotal_names one (inr unknown) = any_of_two (λ path. (is_dotted path ≡ false) × (has_field line_def path ≡ false)) (codes "qty") (codes "price") (λ u. not_false (has_field line_def (codes "qty")) refl
+    u.1) (λ u. not_false (has_field line_def (codes "price")) refl u.1) unknown
 
 -- its expression is an integer, as it is
-subtotal_kind : HasWrongKind line_defs line_def subtotal_field → ⊥
-subtotal_kind (inl (tree, has, at, refused)) = subtotal_passes tree (type_fault.Kind at) has refused
-subtotal_kind (inr (typed, has, other)) = other (ap (λ (t : TypedTree). Some (kind_of t)) (sym (subtotal_is typed has)))
+subtotal_kind : OneTree → HasWrongKind line_defs line_def subtotal_field → ⊥
+subtotal_kind one (inl (tree, has, at, refused)) = subtotal_passes one tree (type_fault.Kind at) has refused
+subtotal_kind one (inr (typed, has, other)) = other (ap (λ (t : TypedTree). Some (kind_of t)) (sym (subtotal_is one typed has)))
 
 -- neither field that it reads is computed
 apart : (name : List ℕ) → (number_of line_def (codes "subtotal")).0 ≢ (number_of line_def name).0 → Contains (computed_numbers line_def) (number_of line_def name) → ⊥
@@ -224,14 +229,14 @@ unfolding number_of
 subtotal_numbers = (refl, refl, refl)
 
 -- it says on what it depends, and reads nothing else
-subtotal_path : HasWrongPath line_defs line_def subtotal_field → ⊥
-subtotal_path (inl (typed, has, wrong)) =
+subtotal_path : OneTree → HasWrongPath line_defs line_def subtotal_field → ⊥
+subtotal_path one (inl (typed, has, wrong)) =
     let Wrong = λ (number : FieldNo). (Contains (depends_on line_def subtotal_field) number → ⊥) ⊎ Contains (computed_numbers line_def) number in
     any_of_two Wrong (number_of line_def (codes "qty")) (number_of line_def (codes "price"))
     (λ w. elim w [ inl missing ↦ missing (0, lit< tt, refl) | inr computed ↦ apart (codes "qty") (omega (arith, subtotal_numbers)) computed ])
     (λ w. elim w [ inl missing ↦ missing (1, lit< tt, refl) | inr computed ↦ apart (codes "price") (omega (arith, subtotal_numbers)) computed ])
-    (subst (λ (t : TypedTree). Any Wrong (fields_read t)) (subtotal_is typed has) wrong)
-subtotal_path (inr computed) = any_of_two (λ path. names_computed line_def path ≡ true) (codes "qty") (codes "price") (not_true (names_computed line_def (codes "qty")) refl) (not_true (names_computed line_def (codes "price")) refl) computed
+    (subst (λ (t : TypedTree). Any Wrong (fields_read t)) (subtotal_is one typed has) wrong)
+subtotal_path one (inr computed) = any_of_two (λ path. names_computed line_def path ≡ true) (codes "qty") (codes "price") (not_true (names_computed line_def (codes "qty")) refl) (not_true (names_computed line_def (codes "price")) refl) computed
 
 -- it has no key that isn't served yet
 subtotal_little : HasTooMuch subtotal_field → ⊥
@@ -281,44 +286,44 @@ no_field spot P plain subtotal at =
     each_field (λ f. P line_def f → ⊥) (plain (codes "name") type.Char) (plain (codes "qty") type.Integer) (plain (codes "price") type.Integer) subtotal found.0 found.1 found.2
 
 -- nothing stands against the definitions
-pub faultless : IsFaultless line_defs
-faultless (fault.Model spot) (inl entry) = names_a_model (at_entry line_def spot NamesNoModel entry).1
-faultless (fault.Model spot) (inr at) = no_field spot (λ def f. HasUnknownRelation line_defs f) plain_relation subtotal_relation at
-faultless (fault.Field spot) (inl entry) = no_term _ (at_entry line_def spot (λ def. HasTerm (λ name. not (has_field def name)) def.order) entry).1
-faultless (fault.Field spot) (inr at) =
+pub faultless : OneTree → IsFaultless line_defs
+faultless one (fault.Model spot) (inl entry) = names_a_model (at_entry line_def spot NamesNoModel entry).1
+faultless one (fault.Model spot) (inr at) = no_field spot (λ def f. HasUnknownRelation line_defs f) plain_relation subtotal_relation at
+faultless one (fault.Field spot) (inl entry) = no_term _ (at_entry line_def spot (λ def. HasTerm (λ name. not (has_field def name)) def.order) entry).1
+faultless one (fault.Field spot) (inr at) =
     no_field spot (λ def f. HasUnknownInverse line_defs f ⊎ NamesNoField line_defs def f)
     (λ name t has. elim has [ inl (target, inverse, is, unknown) ↦ plain_inverse name t target inverse is | inr names ↦ plain_names name t names ])
-    (λ has. elim has [ inl (target, inverse, is, unknown) ↦ subtotal_inverse target inverse is | inr names ↦ subtotal_names names ])
+    (λ has. elim has [ inl (target, inverse, is, unknown) ↦ subtotal_inverse target inverse is | inr names ↦ subtotal_names one names ])
     at
-faultless (fault.Kind spot) (inl entry) = has_right_key (at_entry line_def spot HasWrongKey entry).1
-faultless (fault.Kind spot) (inr at) =
+faultless one (fault.Kind spot) (inl entry) = has_right_key (at_entry line_def spot HasWrongKey entry).1
+faultless one (fault.Kind spot) (inr at) =
     let found = at_field line_def spot (λ def f. HasWrongKeys f ⊎ HasWrongKind line_defs def f) at in
     elim found.2 [
       | inl keys ↦ all_right_keys found.0 found.1 keys
-      | inr kinds ↦ each_field (λ f. HasWrongKind line_defs line_def f → ⊥) (plain_kind (codes "name") type.Char) (plain_kind (codes "qty") type.Integer) (plain_kind (codes "price") type.Integer) subtotal_kind found.0 found.1 kinds
+      | inr kinds ↦ each_field (λ f. HasWrongKind line_defs line_def f → ⊥) (plain_kind (codes "name") type.Char) (plain_kind (codes "qty") type.Integer) (plain_kind (codes "price") type.Integer) (subtotal_kind one) found.0 found.1 kinds
     ]
-faultless (fault.Twice spot) (inl entry) =
+faultless one (fault.Twice spot) (inl entry) =
     let found = at_entry line_def spot (IsNamedBefore line_defs spot.entry) entry in
     is_first spot.entry found.0 found.1
-faultless (fault.Twice spot) (inr at) =
+faultless one (fault.Twice spot) (inr at) =
     let found = at_field line_def spot IsDeclaredTwice at in
     all_declared_once found.0 found.1 found.2
-faultless (fault.Cycle spot) none = none
-faultless (fault.Recursion spot) none = none
-faultless (fault.Path spot) at = no_field spot (HasWrongPath line_defs) plain_path subtotal_path at
-faultless (fault.Inverse spot) at =
+faultless one (fault.Cycle spot) none = none
+faultless one (fault.Recursion spot) none = none
+faultless one (fault.Path spot) at = no_field spot (HasWrongPath line_defs) plain_path (subtotal_path one) at
+faultless one (fault.Inverse spot) at =
     no_field spot (HasWrongInverse line_defs)
     (λ name t (target, inverse, is, there, wrong). plain_inverse name t target inverse is)
     (λ (target, inverse, is, there, wrong). subtotal_inverse target inverse is)
     at
-faultless (fault.Inherits spot) none = none
-faultless (fault.Limit spot) (inl entry) =
+faultless one (fault.Inherits spot) none = none
+faultless one (fault.Limit spot) (inl entry) =
     let found = at_entry line_def spot (IsPastLimit spot.entry) entry in
     is_within_limits spot.entry found.0 found.1
-faultless (fault.Limit spot) (inr at) = no_field spot (λ def f. HasTooMuch f) plain_little subtotal_little at
-faultless (fault.Text spot why) at = no_field spot (λ def f. HasTextFault why f) (λ name t. plain_text name t why) (subtotal_readable why) at
-faultless fault.NoMemory none = none
+faultless one (fault.Limit spot) (inr at) = no_field spot (λ def f. HasTooMuch f) plain_little subtotal_little at
+faultless one (fault.Text spot why) at = no_field spot (λ def f. HasTextFault why f) (λ name t. plain_text name t why) (subtotal_readable why) at
+faultless one fault.NoMemory none = none
 
 -- so that a fault of these definitions is one of memory
-pub no_other : (def : ModelDef) (why : SchemaFault) → def ≡ line_def → (why ≢ fault.NoMemory → IsFirst (def ∷ []) why) → why ≢ fault.NoMemory → ⊥
-no_other def why is first other = faultless why (subst (λ (d : ModelDef). IsFaulty (d ∷ []) why) is (first other).there)
+pub no_other : OneTree → (def : ModelDef) (why : SchemaFault) → def ≡ line_def → (why ≢ fault.NoMemory → IsFirst (def ∷ []) why) → why ≢ fault.NoMemory → ⊥
+no_other one def why is first other = faultless one why (subst (λ (d : ModelDef). IsFaulty (d ∷ []) why) is (first other).there)

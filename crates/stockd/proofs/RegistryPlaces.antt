@@ -8,9 +8,7 @@ use Rattle.std.proofs.lemmas.Bool.{cases_lt}
 use Rattle.std.proofs.lemmas.Cmp.{nat_list_cmp_total}
 use Rattle.std.proofs.lemmas.List.{get_or-map, length-map}
 use Rattle.ob_schema.specs.declared.info.FieldInfo.{FieldInfo}
-use Rattle.ob_schema.specs.declared.info.Origin.TheVariants as origin
-use Rattle.ob_schema.specs.declared.field_type.FieldType.TheVariants as type
-use Rattle.ob_schema.specs.Making.{bare_info}
+use Rattle.ob_schema.specs.Built.{id_info}
 use Rattle.ob_schema.specs.Models.{AreInOrder}
 
 -- the names of fields
@@ -40,7 +38,8 @@ room P fields (name ∷ rest) from low stand =
     omega arith
 
 -- where there are no further places, the fact holds of each
-each_place : (P : FieldInfo → Type 0) (fields : List FieldInfo) (wanted : List (List ℕ)) (from : ℕ) → from + length wanted ≡ length fields → AllStand P fields from wanted → (k : ℕ) (d : FieldInfo) → from ≤ k → k < length fields → P (get_or fields k d)
+each_place : (P : FieldInfo → Type 0) (fields : List FieldInfo) (wanted : List (List ℕ)) (from : ℕ) → from + length wanted ≡ length fields → AllStand P fields from wanted → (k : ℕ) (d : FieldInfo)
+    → from ≤ k → k < length fields → P (get_or fields k d)
 each_place P fields [] from full stand k d low high = absurd (omega arith)
 each_place P fields (name ∷ rest) from full stand k d low high =
     let inside = stand.0.inside in
@@ -85,21 +84,24 @@ AreRising name [] = Unit {0}
 AreRising name (next ∷ rest) = (slice_cmp nat_cmp name next ≡ Less) × AreRising next rest
 
 -- a name stands behind the one below it
-stands_behind : (P : FieldInfo → Type 0) (fields : List FieldInfo) (from : ℕ) (name next : List ℕ) → AreInOrder (names fields) → slice_cmp nat_cmp name next ≡ Less → (first : Stands P fields from name) → Stands P fields 0 next → Stands P fields (first.place + 1) next
+stands_behind : (P : FieldInfo → Type 0) (fields : List FieldInfo) (from : ℕ) (name next : List ℕ) → AreInOrder (names fields) → slice_cmp nat_cmp name next ≡ Less
+    → (first : Stands P fields from name) → Stands P fields 0 next → Stands P fields (first.place + 1) next
 stands_behind P fields from name next ordered below first second =
-    let d : FieldInfo = get_or fields first.place (bare_info [] type.Integer origin.Plain false) in
+    let d : FieldInfo = get_or fields first.place id_info in
     let lower : slice_cmp nat_cmp (get_or fields first.place d).name (get_or fields second.place d).name ≡ Less = rw (first.named d, second.named d) below in
     let higher = before fields first.place second.place d ordered first.inside second.inside lower in
     record { place = second.place; behind = omega arith; inside = second.inside; holds = second.holds; named = second.named }
 
 -- and so do all names that rise from it
-stand_behind : (P : FieldInfo → Type 0) (fields : List FieldInfo) (from : ℕ) (name : List ℕ) (rest : List (List ℕ)) → AreInOrder (names fields) → AreRising name rest → (first : Stands P fields from name) → AllPlaced P fields rest → AllStand P fields (first.place + 1) rest
+stand_behind : (P : FieldInfo → Type 0) (fields : List FieldInfo) (from : ℕ) (name : List ℕ) (rest : List (List ℕ)) → AreInOrder (names fields) → AreRising name rest
+    → (first : Stands P fields from name) → AllPlaced P fields rest → AllStand P fields (first.place + 1) rest
 stand_behind P fields from name [] ordered rising first placed = tt
 stand_behind P fields from name (next ∷ rest) ordered rising first placed =
     let second = stands_behind P fields from name next ordered rising.0 first placed.0 in
     (second, stand_behind P fields (first.place + 1) next rest ordered rising.1 second placed.1)
 
 -- fields in order of their names, each of these names among them and no room for another: the fact holds of each
-pub each_of_names : (P : FieldInfo → Type 0) (fields : List FieldInfo) (name : List ℕ) (rest : List (List ℕ)) → AreInOrder (names fields) → length fields ≡ length (name ∷ rest) → AreRising name rest → AllPlaced P fields (name ∷ rest) → All P fields
+pub each_of_names : (P : FieldInfo → Type 0) (fields : List FieldInfo) (name : List ℕ) (rest : List (List ℕ)) → AreInOrder (names fields) → length fields ≡ length (name ∷ rest) → AreRising name rest
+    → AllPlaced P fields (name ∷ rest) → All P fields
 each_of_names P fields name rest ordered full rising placed k d high =
     each_place P fields (name ∷ rest) 0 (omega arith) (placed.0, stand_behind P fields 0 name rest ordered rising placed.0 placed.1) k d (omega arith) high

@@ -1,12 +1,10 @@
--- A text spells one tree at most, and one that spells a tree has no fault; the text of the subtotal.
+-- A text that spells a tree has no fault; the text of the subtotal.
 use Rattle.std.proofs.Common.{◌≡◌, ℕ, List, [], ◌∷◌, append_assoc, length, refl, subst, lit≤}
 use Rattle.std.specs.Prelude.{codes}
-use Rattle.ob_base.specs.declared.limits.TheConstants.{MAX_EXPRESSION_DEPTH}
 use Rattle.ob_expr.specs.declared.parser.ExprFault.{ExprFault}
 use Rattle.ob_expr.specs.declared.parser.ExprFault.TheVariants as text_fault
-use Rattle.ob_expr.specs.Grammar.{Tree, named, product, Spells, a_name, a_product, IsFirstFault, at_token, at_end, IsFirstTooDeep, too_deep}
-use Rattle.ob_expr.specs.Lexemes.{Lexeme, name, lexemes, is_blank, is_name_byte, is_reserved, run_lexeme, byte_lexemes}
-use Rattle.ob_expr.proofs.Spelling.{parsed-whole}
+use Rattle.ob_expr.specs.Grammar.{Tree, named, product, Spells, SpellAtMostOneTree, a_name, a_product, IsFirstFault, at_token, at_end, IsFirstTooDeep, too_deep}
+use Rattle.ob_expr.specs.Lexemes.{Lexeme, name, lexemes, is_separator, is_name_byte, is_reserved, run_lexeme, byte_lexemes}
 use Rattle.ob_schema.specs.Faults.{IsTextFault}
 use Rattle.ob_schema.specs.Formulas.{IsExpression}
 
@@ -26,12 +24,9 @@ no_text_fault text (text_fault.At offset) tree fault is = no_fault_within (lengt
 no_text_fault text (text_fault.TooDeep offset) tree fault is = not_too_deep (lexemes text) offset text tree refl fault is
 no_text_fault text text_fault.NoMemory tree fault is = absurd fault
 
--- a text spells one tree at most
-pub one_tree : (text : List ℕ) (a b : Tree) → IsExpression text a → IsExpression text b → a ≡ b
-one_tree text a b first second =
-    let of_first = parsed-whole MAX_EXPRESSION_DEPTH 0 a (lexemes text) first.spells first.shallow in
-    let of_second = parsed-whole MAX_EXPRESSION_DEPTH 0 b (lexemes text) second.spells second.shallow in
-    cc
+-- tokens spell one tree at most, which is a law of expressions
+abbrev pub OneTree : Type 0
+OneTree = (tokens : List Lexeme) → SpellAtMostOneTree tokens
 
 -- qty * price, as it is written
 abbrev pub subtotal_tree : Tree
@@ -39,7 +34,7 @@ subtotal_tree = product (named (codes "qty") 0) (named (codes "price") 6)
 
 -- its text spells the tree
 subtotal_spells : Spells subtotal_tree (lexemes (codes "qty * price"))
-unfolding is_blank is_name_byte is_reserved run_lexeme byte_lexemes
+unfolding is_separator is_name_byte is_reserved run_lexeme byte_lexemes
 subtotal_spells = a_product (named (codes "qty") 0) (name (codes "qty") 0 ∷ []) 4 (codes "price") 6 (a_name (codes "qty") 0)
 
 -- and the tree is shallow

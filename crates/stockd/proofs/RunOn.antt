@@ -1,42 +1,50 @@
 -- A run of the machine goes on by one body.
-use Rattle.std.proofs.Common.{◌≡◌, ℕ, ℤ, ◌≤◌, List, [], ◌∷◌, ◌++◌, ◌⊎◌, refl, ap, ◌∙◌, arith, inl, inr, Option, Some, option_map, Result, Ok, Err, subst}
+use Rattle.std.proofs.Common.{◌≡◌, ℕ, ℤ, ◌≤◌, List, [], ◌∷◌, ◌++◌, ◌⊎◌, refl, ap, ◌∙◌, arith, inl, inr, Option, Some, option_map, subst}
 use Rattle.ob_io.specs.Cause.{Rose}
 use Rattle.ob_orm.specs.Tables.{Tables}
-use Rattle.ob_rpc.specs.Envelope.{Envelope, Fault, envelope_of}
+use Rattle.ob_rpc.specs.Envelope.{envelope_of}
 use Rattle.ob_schema.specs.declared.info.ModelInfo.{ModelInfo}
-use Rattle.stockd.specs.Machine.{Step, FailsBy, TakesMoment, Run, moments_after}
+use Rattle.stockd.specs.Machine.{State, MayAnswer, Step, Rests, TakesMoment, Run, moments_after}
+use Rattle.stockd.specs.Request.{Request, request_of}
 use Rattle.stockd.specs.Texts.{no_memory_text}
+use Rattle.stockd.proofs.Counts.{Rose-earlier}
 
--- counts that rose have risen since any earlier moment
-rose_since : (before between now : ℕ) → before ≤ between → Rose between now → Rose before now
-rose_since before between now le (inl less) = inl (omega arith)
-rose_since before between now le (inr most) = inr most
+-- what may be answered where the count rose from a later moment on may be where it rose from an earlier one on
+answer_since : {rose rose' : Type 0} (models : List ModelInfo) (old : Tables) (now : ℤ) (request : Request) (reply : List ℕ) (new : Tables) → (rose → rose')
+    → MayAnswer models old now rose request reply new → MayAnswer models old now rose' request reply new
+answer_since models old now request reply new since (inl answers) = inl answers
+answer_since models old now request reply new since (inr (same, inl memory)) = inr (same, inl memory)
+answer_since models old now request reply new since (inr (same, inr fails)) = inr (same, inr (since fails.0, fails.1))
 
--- what the keeper's fault says from a later moment on, it says from an earlier one on
-fails_since : {rose rose' : Type 0} (found : Result Envelope Fault) (reply : List ℕ) → (rose → rose') → FailsBy rose found reply → FailsBy rose' found reply
-fails_since (Err fault) reply since h = absurd h
-fails_since (Ok envelope) reply since h = (since h.0, h.1)
+-- a step from where the machine rested
+step_since : (models : List ModelInfo) (old past new : State) (body reply : List ℕ) → Rests old past → Step models past body reply new → Step models old body reply new
+step_since models old past new body reply rests step =
+    let request = request_of models (envelope_of body) in
+    let tables_now = subst (λ t. MayAnswer models t (past.moments 0) (Rose past.faults new.faults) request reply new.tables) rests.tables step.answer in
+    let now = subst (λ (m : ℕ → ℤ). MayAnswer models old.tables (m 0) (Rose past.faults new.faults) request reply new.tables) rests.moments tables_now in
+    record {
+      answer = answer_since models old.tables (old.moments 0) request reply new.tables (Rose-earlier old.faults past.faults new.faults rests.count) now;
+      moment = subst (λ (m : ℕ → ℤ). TakesMoment body reply m new.moments) rests.moments step.moment;
+      count = omega (arith, rests.count, step.count);
+    }
 
--- and so of a step
-step_since : {rose rose' : Type 0} (models : List ModelInfo) (old : Tables) (now : ℤ) (body reply : List ℕ) (new : Tables) → (rose → rose') → Step models old now rose body reply new → Step models old now rose' body reply new
-step_since models old now body reply new since (inl answers) = inl answers
-step_since models old now body reply new since (inr (same, inl memory)) = inr (same, inl memory)
-step_since models old now body reply new since (inr (same, inr fails)) =
-    inr (same, inr (fails_since (envelope_of body) reply since fails))
+rests_here : (state : State) → Rests state state
+rests_here state = record { tables = refl; moments = refl; count = omega arith }
 
 -- the run goes on by one body and its reply
-pub run_on : (models : List ModelInfo) (moments : ℕ → ℤ) (old : Tables) (before : ℕ) (bodies replies : List (List ℕ)) (past : ℕ → ℤ) (between : ℕ) (tables : Tables) (rest : ℕ → ℤ) (now : ℕ) (body reply : List ℕ) (new : Tables) → Run models moments old before bodies replies past between tables → between ≤ now → TakesMoment body reply past rest → Step models tables (past 0) (Rose between now) body reply new → Run models moments old before (bodies ++ body ∷ []) (replies ++ reply ∷ []) rest now new
-run_on models moments old before [] [] past between tables rest now body reply new run le takes step =
-    let takes' : TakesMoment body reply moments rest = subst (λ (m : ℕ → ℤ). TakesMoment body reply m rest) run.0 takes in
-    let at : Step models tables (moments 0) (Rose between now) body reply new = subst (λ (m : ℕ → ℤ). Step models tables (m 0) (Rose between now) body reply new) run.0 step in
-    let since : Step models tables (moments 0) (Rose before now) body reply new = step_since models tables (moments 0) body reply new (rose_since before between now run.1) at in
-    (rest, new, now, takes', omega (arith, run.1), subst (λ t. Step models t (moments 0) (Rose before now) body reply new) run.2 since, (refl, omega arith, refl))
-run_on models moments old before [] (first ∷ replies) past between tables rest now body reply new run le takes step =
-    absurd run
-run_on models moments old before (first ∷ bodies) [] past between tables rest now body reply new run le takes step =
-    absurd run
-run_on models moments old before (first ∷ bodies) (told ∷ replies) past between tables rest now body reply new run le takes step =
-    (run.0, run.1, run.2, run.3, run.4, run.5, run_on models run.0 run.1 run.2 bodies replies past between tables rest now body reply new run.6 le takes step)
+pub run_on : (models : List ModelInfo) (old past new : State) (bodies replies : List (List ℕ)) (body reply : List ℕ) → Run models old bodies replies past → Step models past body reply new
+    → Run models old (bodies ++ body ∷ []) (replies ++ reply ∷ []) new
+run_on models old past new [] [] body reply run step = (new, step_since models old past new body reply run step, rests_here new)
+run_on models old past new [] (first ∷ replies) body reply run step = absurd run
+run_on models old past new (first ∷ bodies) [] body reply run step = absurd run
+run_on models old past new (first ∷ bodies) (told ∷ replies) body reply run step = (run.0, run.1, run_on models run.0 past new bodies replies body reply run.2 step)
+
+-- a run from a later count of faults on is one from an earlier one on
+pub run_from : (models : List ModelInfo) (old from past : State) (bodies replies : List (List ℕ)) → Rests old from → Run models from bodies replies past → Run models old bodies replies past
+run_from models old from past [] [] rests run = record { tables = run.tables ∙ rests.tables; moments = run.moments ∙ rests.moments; count = omega (arith, rests.count, run.count) }
+run_from models old from past [] (reply ∷ replies) rests run = run
+run_from models old from past (body ∷ bodies) [] rests run = run
+run_from models old from past (body ∷ bodies) (reply ∷ replies) rests run = (run.0, step_since models old from run.0 body reply rests run.1, run.2)
 
 -- what a clock tells of its moments before a body and after it
 abbrev pub TellsMoments : (before now : Option (ℕ → ℤ)) (body reply : List ℕ) → Type 0

@@ -11,9 +11,14 @@ use Rattle.ob_orm.specs.Sound.{IsSound, IsSoundModel}
 use Rattle.ob_orm.specs.Kept.{Kept}
 use Rattle.ob_schema.specs.Models.{model_at}
 use Rattle.ob_schema.specs.declared.info.ModelInfo.{ModelInfo}
-use Rattle.stockd.specs.Out.{reply_lines, WritesPart}
-use Rattle.stockd.specs.Serving.{Serves}
-use Rattle.stockd.specs.SessionSteps.{Standing, HasServed, ServesOn, StopsAt}
+use Rattle.ob_io.specs.Cause.{Rose}
+use Rattle.ob_rpc.specs.Envelope.{envelope_of}
+use Rattle.stockd.specs.Body.{Serves}
+use Rattle.stockd.specs.Ending.{WritesPart}
+use Rattle.stockd.specs.Machine.{State, Run}
+use Rattle.stockd.specs.Request.{request_of}
+use Rattle.stockd.specs.Session.{reply_lines, Start, Standing, StandsAt, first_state}
+use Rattle.stockd.specs.SessionSteps.{HasServed, ServesMore, StopsAt}
 use Rattle.stockd.proofs.RunOn.{run_on, TellsMoments, rest_of}
 
 -- in tables without rows each next id is 1
@@ -40,18 +45,18 @@ sound_none models model =
     if_found (model_at models model) (λ info at. sound_model-none model info)
 
 -- nothing is served yet
-pub served_none : (models : List ModelInfo) (moments : ℕ → ℤ) (before : List ℕ) (store : Store) (now : Standing) → now.kept ≡ Some store → now.coming ≡ Some moments → now.written ≡ Some before → Kept models store empty_tables → HasServed models moments now.faults before [] now
-served_none models moments before store now k c w kept = record {
+pub served_none : (models : List ModelInfo) (start : Start) (left : Option (List ℕ)) (now : Standing) → StandsAt start left now → Kept models start.store empty_tables → HasServed models start [] now
+served_none models start left now at kept = record {
   replies = [];
-  rest = moments;
+  rest = start.moments;
   tables = empty_tables;
-  store = store;
-  run = (refl, omega arith, refl);
+  store = start.store;
+  run = record { tables = refl; moments = refl; count = omega (arith, at.faults_are) };
   kept = kept;
   sound = sound_none models;
-  kept_is = k;
-  coming_is = c;
-  written_is = w ∙ ap Some (sym (append-nil before));
+  kept_is = at.kept_is;
+  coming_is = at.coming_is;
+  written_is = at.written_is ∙ ap Some (sym (append-nil start.written));
 }
 
 reply_lines-append : (replies : List (List ℕ)) (reply : List ℕ) → reply_lines (replies ++ reply ∷ []) ≡ reply_lines replies ++ (reply ++ 10 ∷ [])
@@ -61,41 +66,71 @@ reply_lines-append replies reply =
 -- the answer to a body over any tables that the keeper stands for
 abbrev pub IsAnswered : List ModelInfo → (old new : Standing) (body reply : List ℕ) → Type 0
 IsAnswered models old new body reply =
-    (store : Store) (tables : Tables) (moments : ℕ → ℤ) → old.kept ≡ Some store → old.coming ≡ Some moments → Kept models store tables → IsSound models tables → Serves models tables (moments 0) old.faults new.faults body reply new.kept
+    (store : Store) (tables : Tables) (moments : ℕ → ℤ) → old.kept ≡ Some store → old.coming ≡ Some moments → Kept models store tables → IsSound models tables
+    → Serves models tables (moments 0) (Rose old.faults new.faults) (request_of models (envelope_of body)) reply new.kept
 
--- The reply's line was written.
-pub serves_on : (models : List ModelInfo) (old new : Standing) (body reply : List ℕ) → IsAnswered models old new body reply → old.faults ≤ new.faults → TellsMoments old.coming new.coming body reply → new.written ≡ option_map (λ w. w ++ (reply ++ 10 ∷ [])) old.written → ServesOn models (body ∷ []) old new
-serves_on models old new body reply answered le coming written moments faults_before before bodies h =
+-- where the machine stands after a body more, and what is kept then
+record IsStepped (models : List ModelInfo) (start : Start) (bodies replies : List (List ℕ)) (now : Standing) : Type 0 where
+  rest : ℕ → ℤ
+  tables : Tables
+  store : Store
+  run : Run models (first_state start) bodies replies (record { tables = tables; moments = rest; faults = now.faults })
+  kept : Kept models store tables
+  sound : IsSound models tables
+  kept_is : now.kept ≡ Some store
+  coming_is : now.coming ≡ Some rest
+
+stepped : (models : List ModelInfo) (old new : Standing) (body reply : List ℕ) → IsAnswered models old new body reply → old.faults ≤ new.faults → TellsMoments old.coming new.coming body reply
+    → (start : Start) (bodies : List (List ℕ)) (h : HasServed models start bodies old) → IsStepped models start (bodies ++ body ∷ []) (h.replies ++ reply ∷ []) new
+stepped models old new body reply answered le coming start bodies h =
     let now = answered h.store h.tables h.rest h.kept_is h.coming_is h.kept h.sound in
-    let after = rest_of old.coming new.coming body reply h.rest h.coming_is coming in record {
-      replies = h.replies ++ reply ∷ [];
+    let after = rest_of old.coming new.coming body reply h.rest h.coming_is coming in
+    let past : State = record { tables = h.tables; moments = h.rest; faults = old.faults } in
+    let state : State = record { tables = now.tables; moments = after.0; faults = new.faults } in record {
       rest = after.0;
       tables = now.tables;
       store = now.store;
-      run = run_on models moments empty_tables faults_before bodies h.replies h.rest old.faults h.tables after.0 new.faults body reply now.tables h.run le after.1 now.step;
+      run = run_on models (first_state start) past state bodies h.replies body reply h.run (record { answer = now.answer; moment = after.1; count = le });
       kept = now.kept;
       sound = now.sound;
       kept_is = now.kept_is;
       coming_is = after.2;
-      written_is = written ∙ ap (option_map (λ w. w ++ (reply ++ 10 ∷ []))) h.written_is ∙ ap Some (append_assoc before (reply_lines h.replies) (reply ++ 10 ∷ []) ∙ ap (λ w. before ++ w) (sym (reply_lines-append h.replies reply)));
+    }
+
+-- The reply's line was written.
+pub serves_more : (models : List ModelInfo) (old new : Standing) (body reply : List ℕ) → IsAnswered models old new body reply → old.faults ≤ new.faults → TellsMoments old.coming new.coming body reply
+    → new.written ≡ option_map (λ w. w ++ (reply ++ 10 ∷ [])) old.written → ServesMore models (body ∷ []) old new
+serves_more models old new body reply answered le coming written start bodies h =
+    let now = stepped models old new body reply answered le coming start bodies h in record {
+      replies = h.replies ++ reply ∷ [];
+      rest = now.rest;
+      tables = now.tables;
+      store = now.store;
+      run = now.run;
+      kept = now.kept;
+      sound = now.sound;
+      kept_is = now.kept_is;
+      coming_is = now.coming_is;
+      written_is = written ∙ ap (option_map (λ w. w ++ (reply ++ 10 ∷ []))) h.written_is ∙ ap Some (append_assoc start.written (reply_lines h.replies) (reply ++ 10 ∷ []) ∙ ap (λ w. start.written ++ w)
+          (sym (reply_lines-append h.replies reply)));
     }
 
 -- The sink failed within the reply's line.
-pub stops_at : (models : List ModelInfo) (old new : Standing) (body reply : List ℕ) → IsAnswered models old new body reply → old.faults ≤ new.faults → TellsMoments old.coming new.coming body reply → WritesPart old.written new.written (reply ++ 10 ∷ []) → StopsAt models body old new
-stops_at models old new body reply answered le coming part moments faults_before before bodies h =
-    let now = answered h.store h.tables h.rest h.kept_is h.coming_is h.kept h.sound in
-    let after = rest_of old.coming new.coming body reply h.rest h.coming_is coming in record {
+pub stops_at : (models : List ModelInfo) (old new : Standing) (body reply : List ℕ) → IsAnswered models old new body reply → old.faults ≤ new.faults → TellsMoments old.coming new.coming body reply
+    → WritesPart old.written new.written (reply ++ 10 ∷ []) → StopsAt models body old new
+stops_at models old new body reply answered le coming part start bodies h =
+    let now = stepped models old new body reply answered le coming start bodies h in record {
       replies = h.replies ++ reply ∷ [];
-      rest = after.0;
+      rest = now.rest;
       tables = now.tables;
       store = now.store;
       written = reply_lines h.replies ++ part.0;
-      run = run_on models moments empty_tables faults_before bodies h.replies h.rest old.faults h.tables after.0 new.faults body reply now.tables h.run le after.1 now.step;
+      run = now.run;
       kept = now.kept;
       kept_is = now.kept_is;
-      coming_is = after.2;
-      written_is = part.2 ∙ ap (option_map (λ w. w ++ part.0)) h.written_is ∙ ap Some (append_assoc before (reply_lines h.replies) part.0);
-      tells = record { whole = h.replies; last = reply; part = part.0; replies_are = refl; part_of = part.1; written_is = refl };
+      coming_is = now.coming_is;
+      written_is = part.2 ∙ ap (option_map (λ w. w ++ part.0)) h.written_is ∙ ap Some (append_assoc start.written (reply_lines h.replies) part.0);
+      writes = record { whole = h.replies; last = reply; part = part.0; replies_are = refl; part_of = part.1; written_is = refl };
     }
 
 -- what follows of an answer's clause

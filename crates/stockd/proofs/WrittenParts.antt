@@ -2,7 +2,7 @@
 use Rattle.std.proofs.Common.{◌≡◌, ℕ, ◌+◌, ◌-◌, List, length, Result, Ok, Err, OnErr, subst, ◌++◌, take, drop, Option, Some, None, option_map, refl, sym, ap, ◌∙◌, append_assoc}
 use Rattle.std.proofs.lemmas.List.{take-append-drop, take_rest}
 use Rattle.std.proofs.Math.Seq.{take-add}
-use Rattle.stockd.specs.Out.{WritesPart, WritesLast}
+use Rattle.stockd.specs.Ending.{WritesPart, WritesLast}
 
 -- two parts after one another are one
 pub parts_joined : (before : Option (List ℕ)) (a b : List ℕ) → option_map (λ w. w ++ b) (option_map (λ w. w ++ a) before) ≡ option_map (λ w. w ++ (a ++ b)) before
@@ -32,7 +32,8 @@ at_any_error (Ok x) h = tt
 at_any_error (Err e) h = h
 
 -- the next piece goes after what a loop has written
-pub more_so_far : (before mid now : Option (List ℕ)) (done n : ℕ) (bytes : List ℕ) → mid ≡ option_map (λ w. w ++ take done bytes) before → now ≡ option_map (λ w. w ++ take n (take (length bytes - done) (drop done bytes))) mid → now ≡ option_map (λ w. w ++ take (done + n) bytes) before
+pub more_so_far : (before mid now : Option (List ℕ)) (done n : ℕ) (bytes : List ℕ) → mid ≡ option_map (λ w. w ++ take done bytes) before
+    → now ≡ option_map (λ w. w ++ take n (take (length bytes - done) (drop done bytes))) mid → now ≡ option_map (λ w. w ++ take (done + n) bytes) before
 more_so_far before mid now done n bytes so_far piece =
     whole_after before mid now (take done bytes) (take n (drop done bytes)) so_far (piece ∙ ap (λ t. option_map (λ w. w ++ take n t) mid) (take_rest bytes done))
     ∙ ap (λ t. option_map (λ w. w ++ t) before) (sym (take-add done n bytes))

@@ -1,6 +1,6 @@
 -- What the steps within one reading of a line do.
 use Rattle.std.specs.Prelude.{◌≡◌, Bool, ◌+◌, ◌<◌, ◌⊎◌, ◌++◌, length, nat_lt, if◌then◌else◌}
-use Rattle.stockd.specs.declared.lines.TheConstants.{LONGEST_LINE, LONGEST_INPUT}
+use Rattle.ob_base.specs.Limits.{max_line_bytes, max_input_bytes}
 use Rattle.stockd.specs.Lines.{Reading, line_front, line_back, line_size}
 
 -- the first line of what is held went to the line, which is whole where its line feed was held
@@ -13,4 +13,4 @@ pub record TakesPiece (old new : Reading) (is_whole : Bool) : Type 0 where
 
 -- the line with the first line of what is held is longer than a line or the input may be
 abbrev pub IsPieceTooLong : Reading → Type 0
-IsPieceTooLong old = (LONGEST_LINE < length (old.line ++ line_front old.held)) ⊎ (LONGEST_INPUT < old.consumed + line_size old.held)
+IsPieceTooLong old = (max_line_bytes < length (old.line ++ line_front old.held)) ⊎ (max_input_bytes < old.consumed + line_size old.held)

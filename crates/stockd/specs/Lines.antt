@@ -1,7 +1,7 @@
 -- How a stream of bytes is cut into lines, and what one reading of a line does.
 use Rattle.std.specs.Prelude.{◌≡◌, ◌≢◌, ◌==◌, ◌||◌, not, Bool, ℕ, ◌+◌, ◌<◌, ◌⊎◌, min, List, [], ◌∷◌, ◌++◌, length, filter, All, Option, option_map, IfSome, if◌then◌else◌}
 use Rattle.std.specs.List.{before_first, after_first, onto_first, list_all}
-use Rattle.stockd.specs.declared.lines.TheConstants.{LONGEST_LINE, LONGEST_INPUT}
+use Rattle.ob_base.specs.Limits.{max_line_bytes, max_input_bytes}
 
 -- a line feed ends a line
 abbrev pub is_line_feed : ℕ → Bool
@@ -13,12 +13,12 @@ lines_of [] = []
 lines_of (byte ∷ bytes) = if is_line_feed byte then [] ∷ lines_of bytes else onto_first byte (lines_of bytes)
 
 -- a line of spaces, tabs and carriage returns alone
-abbrev pub is_blank : List ℕ → Bool
-is_blank line = list_all (λ byte. byte == 32 || byte == 9 || byte == 13) line
+abbrev pub is_blank_line : List ℕ → Bool
+is_blank_line line = list_all (λ byte. byte == 32 || byte == 9 || byte == 13) line
 
--- the lines of a stream that aren't blank
-abbrev pub bodies_of : List ℕ → List (List ℕ)
-bodies_of stream = filter (λ line. not (is_blank line)) (lines_of stream)
+-- the lines that aren't blank
+abbrev pub bodies_of : List (List ℕ) → List (List ℕ)
+bodies_of lines = filter (λ line. not (is_blank_line line)) lines
 
 -- the first line of a stream, without its line feed
 abbrev pub line_front : List ℕ → List ℕ
@@ -76,4 +76,4 @@ pub record StopsInLine (old new : Reading) (left_before left_now : Option (List 
 
 -- the first line of the stream is longer than a line may be, or than the input may be
 abbrev pub IsTooLong : ℕ → List ℕ → Type 0
-IsTooLong consumed stream = (LONGEST_LINE < length (line_front stream)) ⊎ (LONGEST_INPUT < consumed + line_size stream)
+IsTooLong consumed stream = (max_line_bytes < length (line_front stream)) ⊎ (max_input_bytes < consumed + line_size stream)

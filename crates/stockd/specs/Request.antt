@@ -1,11 +1,13 @@
 -- What a body asks for.
-use Rattle.std.specs.Prelude.{ℕ, ◌==◌, ◌&&◌, List, [], ◌∷◌, codes, Bool, false, if◌then◌else◌, Option, Some, None, option_and_then, Result, Ok, Err}
+use Rattle.std.specs.Prelude.{ℕ, ◌==◌, ◌&&◌, List, codes, Bool, false, if◌then◌else◌, Option, Some, None, option_and_then, Result, Ok, Err}
 use Rattle.std.specs.Option.{option_map_or}
 use Rattle.ob_base.specs.declared.id.ModelNo.{ModelNo}
-use Rattle.ob_rpc.specs.Envelope.{is_text}
+use Rattle.ob_base.specs.declared.place.PathStep.{PathStep}
+use Rattle.ob_rpc.specs.Envelope.{Envelope, Fault, element_place, is_text}
 use Rattle.ob_schema.specs.Models.{model_named}
 use Rattle.ob_schema.specs.declared.info.ModelInfo.{ModelInfo}
-use Rattle.serde_json.specs.Data.{Data, object, no_members}
+use Rattle.serde_json.specs.Data.{Data, object, no_members, Items, no_items, item}
+use Rattle.serde_json.specs.Events.{items_len}
 use Rattle.serde_json.specs.Find.{as_u64, as_number}
 
 -- the methods that models serve so far
@@ -19,6 +21,11 @@ pub record Call : Type 0 where
   pub method : Method
   pub args : Data
   pub kw : Data
+
+-- what a body asks for, with the id by which it is answered: a call, or nothing, since it is malformed at a place
+pub data Request : Type 0 where
+  called : Data → Call → Request
+  malformed : Data → List PathStep → Request
 
 -- whether a JSON value is this integer
 abbrev pub is_integer : ℕ → Data → Bool
@@ -37,9 +44,9 @@ abbrev pub method_from : Data → Option Method
 method_from d = if is_text (codes "create") d then Some create else (if is_text (codes "read") d then Some read else None)
 
 -- the arguments by name, which may be absent
-abbrev pub named_args : List Data → Data
-named_args [] = object no_members
-named_args (d ∷ ds) = d
+abbrev pub named_args : Items → Data
+named_args (item d ds) = d
+named_args no_items = object no_members
 
 -- what is there, or the number of the element that is wrong
 abbrev pub element : {A : Type 0} → ℕ → Option A → Result A ℕ
@@ -48,15 +55,26 @@ element n (Some x) = Ok x
 
 -- a call of a model and a method, where both are there; the first that is wrong is told
 abbrev pub model_call : Result ModelNo ℕ → Result Method ℕ → (args kw : Data) → Result Call ℕ
-model_call (Err n) method args kw = Err n
-model_call (Ok model) (Err n) args kw = Err n
 model_call (Ok model) (Ok method) args kw = Ok (record { model = model; method = method; args = args; kw = kw })
+model_call (Ok model) (Err n) args kw = Err n
+model_call (Err n) method args kw = Err n
 
 -- the call of a caller's model and method, with the rest of the elements
-abbrev pub call_in : List ModelInfo → (model method args : Data) → List Data → Result Call ℕ
+abbrev pub call_in : List ModelInfo → (model method args : Data) → Items → Result Call ℕ
 call_in models model method args rest = model_call (element 3 (served_model models model)) (element 4 (method_from method)) args (named_args rest)
 
--- the call that the elements of an envelope make, or the number of the first that is wrong
-abbrev pub call_of : List ModelInfo → List Data → Result Call ℕ
-call_of models (db ∷ user ∷ key ∷ model ∷ method ∷ args ∷ rest) = if is_text (codes "stock") db then (if is_caller user key then call_in models model method args rest else Err 1) else Err 0
-call_of models _ = Err 5
+-- The call that the elements of an envelope make, or the number of the first that is wrong;
+-- where there are fewer than six, of the first that is missing.
+abbrev pub call_of : List ModelInfo → Items → Result Call ℕ
+call_of models (item db (item user (item key (item model (item method (item args rest)))))) = if is_text (codes "stock") db then (if is_caller user key then call_in models model method args rest else Err 1) else Err 0
+call_of models few = Err (items_len few)
+
+-- the request of an id, by the call that its elements make
+abbrev pub request_by : Data → Result Call ℕ → Request
+request_by id (Ok call) = called id call
+request_by id (Err n) = malformed id (element_place n)
+
+-- the request of a body, by its envelope
+abbrev pub request_of : List ModelInfo → Result Envelope Fault → Request
+request_of models (Ok envelope) = request_by envelope.id (call_of models envelope.args)
+request_of models (Err fault) = malformed fault.id fault.place

@@ -24,13 +24,7 @@ body_place (Key name ∷ steps) = if bytes_eq name (codes "kw") then element_pla
 -- a refusal of a call, its place told as one of the body
 abbrev pub told_refusal : Refusal → Refusal
 told_refusal (refusal.Request place) = refusal.Request (body_place place)
-told_refusal (refusal.Right m op) = refusal.Right m op
-told_refusal (refusal.FieldRight m field) = refusal.FieldRight m field
-told_refusal (refusal.Missing m id) = refusal.Missing m id
-told_refusal (refusal.Rule m op id name) = refusal.Rule m op id name
-told_refusal (refusal.Constraint b) = refusal.Constraint b
-told_refusal refusal.Keeper = refusal.Keeper
-told_refusal refusal.NoMemory = refusal.NoMemory
+told_refusal why = why
 
 -- the outcome of a call, a place in it told as one of the body
 abbrev pub told : Result Data Refusal → Result Data Refusal
@@ -39,14 +33,8 @@ told (Err why) = Err (told_refusal why)
 
 -- the id that a refusal is told by: that of the request, but none where memory is wanting
 abbrev pub refused_id : Data → Refusal → Data
-refused_id id (refusal.Request place) = id
-refused_id id (refusal.Right m op) = id
-refused_id id (refusal.FieldRight m field) = id
-refused_id id (refusal.Missing m row) = id
-refused_id id (refusal.Rule m op row name) = id
-refused_id id (refusal.Constraint b) = id
-refused_id id refusal.Keeper = id
 refused_id id refusal.NoMemory = null
+refused_id id _ = id
 
 -- the id that an outcome is told by
 abbrev pub told_id : Data → Result Data Refusal → Data

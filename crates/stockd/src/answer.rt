@@ -1,8 +1,8 @@
 //! The reply to one body. A reply's bytes are made before its changes are committed,
 //! so that want of memory for them comes before anything is kept.
 
-ghost use Rattle.std.specs.Prelude.{◌≡◌, ◌≤◌, ◌⊎◌, ℕ, ℤ, Some, Ok, Err, false, map, option_map, All};
-ghost use Rattle.serde_json.specs.View.{view};
+ghost use Rattle.std.specs.Prelude.{◌≡◌, ◌≤◌, ◌⊎◌, ℕ, ℤ, Some, Err, false, option_map, All};
+ghost use Rattle.serde_json.specs.View.{view, items_view};
 ghost use Rattle.serde_json.specs.Written.{has_float};
 ghost use Rattle.ob_base.specs.Times.{IsMoment};
 ghost use Rattle.ob_io.specs.Cause.{Rose};
@@ -15,10 +15,11 @@ ghost use Rattle.ob_orm.specs.Sound.{IsSound};
 ghost use Rattle.ob_orm.specs.Kept.{Kept, OthersStay};
 ghost use Rattle.stockd.specs.Machine.{moments_after};
 ghost use Rattle.stockd.specs.Model.{IsLineRegistry, line_model};
-ghost use Rattle.stockd.specs.Asked.{call_seen};
-ghost use Rattle.stockd.specs.Request.{call_of, create, read};
-ghost use Rattle.stockd.specs.Served.{Keeps, MayTell, ServesOver};
-ghost use Rattle.stockd.specs.Serving.{Serves, text_of};
+ghost use Rattle.stockd.specs.ModelCall.{call_view};
+ghost use Rattle.stockd.specs.Request.{call_of, called, create, read, request_by, request_of};
+ghost use Rattle.stockd.specs.Body.{Serves, ServesOver};
+ghost use Rattle.stockd.specs.Reply.{MayTell, text_of};
+ghost use Rattle.stockd.specs.Store.{Keeps};
 ghost use Rattle.stockd.specs.Texts.{malformed_text, no_memory_text, outcome_text, told};
 
 use crate::places::{body_place, element_place};
@@ -68,7 +69,8 @@ pub(crate) fn answer<K: Keeper, C: Clock, L: Ledger>(
     // Over a keeper that tells its rows, and a clock that tells its moments, it is a step of the machine.
     ensures served { (store : Store) (tables : Tables) (moments : ℕ → ℤ) → K.kept keeper.old ≡ Some store → C.coming clock.old ≡ Some moments
         → Kept schema.now store tables → IsSound schema.now tables
-        → Serves schema.now tables (moments 0) (K.faults keeper.old) (K.faults keeper.new) body.now (text_of result) (K.kept keeper.new) }
+        → Serves schema.now tables (moments 0) (Rose (K.faults keeper.old) (K.faults keeper.new))
+        (request_of schema.now (envelope_of body.now)) (text_of result) (K.kept keeper.new) }
     // A request takes one moment. Where memory is wanting to read the body, none is taken.
     ensures moments { (C.coming clock.new ≡ option_map (moments_after (envelope_of body.now)) (C.coming clock.old))
         ⊎ ((text_of result ≡ no_memory_text) × (C.coming clock.new ≡ C.coming clock.old)) }
@@ -99,7 +101,7 @@ fn serve<K: Keeper, L: Ledger>(
     requires moment { IsMoment now }
     requires id { has_float (view envelope.now.id) ≡ false }
     ensures served { ServesOver schema.now (K.kept keeper.old) (K.kept keeper.new) now (Rose (K.faults keeper.old) (K.faults keeper.new))
-        (view envelope.now.id) (call_of schema.now (map view envelope.now.args)) (text_of result) }
+        (request_by (view envelope.now.id) (call_of schema.now (items_view envelope.now.args))) (text_of result) }
     ensures others { OthersStay line_model (K.kept keeper.old) (K.kept keeper.new) }
     ensures count { K.faults keeper.old ≤ K.faults keeper.new }
 {
@@ -124,7 +126,7 @@ fn serve_call<K: Keeper, L: Ledger>(
     requires model { call.now.model ≡ line_model }
     requires id { has_float (view id.now) ≡ false }
     ensures served { ServesOver schema.now (K.kept keeper.old) (K.kept keeper.new) now (Rose (K.faults keeper.old) (K.faults keeper.new))
-        (view id.now) (Ok (call_seen call.now)) (text_of result) }
+        (called (view id.now) (call_view call.now)) (text_of result) }
     ensures others { OthersStay line_model (K.kept keeper.old) (K.kept keeper.new) }
     ensures count { K.faults keeper.old ≤ K.faults keeper.new }
 {
@@ -156,7 +158,7 @@ fn serve_create<K: Keeper, L: Ledger>(
     requires model { call.now.model ≡ line_model }
     requires id { has_float (view id.now) ≡ false }
     ensures served { ServesOver schema.now (K.kept keeper.old) (K.kept keeper.new) call.entry.now.now (Rose (K.faults keeper.old) (K.faults keeper.new))
-        (view id.now) (Ok (record { model = call.entry.now.model; method = create; args = view call.entry.now.args.now; kw = view call.entry.now.kw.now })) (text_of result) }
+        (called (view id.now) (record { model = call.entry.now.model; method = create; args = view call.entry.now.args.now; kw = view call.entry.now.kw.now })) (text_of result) }
     ensures others { OthersStay line_model (K.kept keeper.old) (K.kept keeper.new) }
     ensures count { K.faults keeper.old ≤ K.faults keeper.new }
 {
@@ -180,7 +182,7 @@ fn serve_read<K: Keeper, L: Ledger>(
     requires model { call.now.model ≡ line_model }
     requires id { has_float (view id.now) ≡ false }
     ensures served { ServesOver schema.now (K.kept keeper.old) (K.kept keeper.new) call.entry.now.now (Rose (K.faults keeper.old) (K.faults keeper.new))
-        (view id.now) (Ok (record { model = call.entry.now.model; method = read; args = view call.entry.now.args.now; kw = view call.entry.now.kw.now })) (text_of result) }
+        (called (view id.now) (record { model = call.entry.now.model; method = read; args = view call.entry.now.args.now; kw = view call.entry.now.kw.now })) (text_of result) }
     ensures others { OthersStay line_model (K.kept keeper.old) (K.kept keeper.new) }
     ensures count { K.faults keeper.old ≤ K.faults keeper.new }
 {

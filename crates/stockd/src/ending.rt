@@ -2,7 +2,7 @@
 
 ghost use Rattle.std.specs.Prelude.{◌≡◌, ◌≤◌, ◌++◌, decimal, option_map, OnOk, OnErr, IsErr};
 ghost use Rattle.ob_io.specs.Cause.{Rose, HasCause};
-ghost use Rattle.stockd.specs.Out.{status_of, last_line, WritesPart, WritesLast};
+ghost use Rattle.stockd.specs.Ending.{status_of, last_line, WritesPart, WritesLast};
 
 use crate::output::write_all;
 use itoa::Buffer;

@@ -2,28 +2,24 @@
 //!
 //! A line feed ends a line, and the last line needs none. The reader keeps one line
 //! and one room of bytes that it has read ahead, so its memory does not grow with the
-//! input. The size of the room may be changed here; a change of the limits is one of
-//! the protocol.
+//! input. The size of the room may be changed here; the limits of a line and of the
+//! input are ob_base's.
 
 ghost use Rattle.std.specs.Prelude.{◌≡◌, ◌≢◌, ◌+◌, ◌≤◌, ◌<◌, ◌↔◌, ℕ, [], if◌then◌else◌, length, IsTrue, IsFalse, IsErr, IfOk, IfSome, List, OnErr};
 ghost use Rattle.std.specs.List.{position_or_len};
 ghost use Rattle.ob_io.specs.Cause.{HasCause, Rose};
-ghost use Rattle.stockd.specs.Lines.{is_line_feed, is_blank, stream_of, GivesPart, ReadsLine, IsAtEnd, StopsInLine, IsTooLong};
+ghost use Rattle.ob_base.specs.Limits.{max_line_bytes, max_input_bytes};
+ghost use Rattle.stockd.specs.Lines.{is_line_feed, is_blank_line, stream_of, GivesPart, ReadsLine, IsAtEnd, StopsInLine, IsTooLong};
 ghost use Rattle.stockd.specs.LineSteps.{TakesPiece, IsPieceTooLong};
 ghost use Rattle.stockd.specs.declared.lines.LineFault.TheVariants as LineFaults;
 
 use memchr::memchr;
 use ob_base::NoMemory;
+use ob_base::limits::{MAX_BODY_BYTES, MAX_INPUT_BYTES};
 use ob_io::{Failed, Source};
 use std::alloc::{AllocError, Global};
 use std::marker::Model;
 use thiserror::Error;
-
-/// The length in bytes of the longest line, without its line feed.
-pub const LONGEST_LINE: usize = 8_388_608;
-
-/// The length in bytes of the longest input, line feeds and all.
-pub const LONGEST_INPUT: u64 = 1_099_511_627_776;
 
 /// How many bytes are read ahead at most.
 const ROOM: usize = 65_536;
@@ -72,7 +68,8 @@ pub struct LineReader {
 impl Model for LineReader {
     ghost use Rattle.std.specs.Prelude.{◌≡◌, ◌-◌, ◌≤◌, length, take, drop};
     ghost use Rattle.stockd.specs.Lines.{Reading};
-    ghost use Rattle.stockd.specs.declared.lines.TheConstants.{LONGEST_LINE, LONGEST_INPUT, ROOM};
+    ghost use Rattle.ob_base.specs.Limits.{max_line_bytes, max_input_bytes};
+    ghost use Rattle.stockd.specs.declared.lines.TheConstants.{ROOM};
 
     ghost Value = { Reading };
 
@@ -84,7 +81,7 @@ impl Model for LineReader {
     } };
 
     ghost invariant = { λ r. (length r.room.items ≡ ROOM) × (r.end ≤ ROOM) × (r.start ≤ r.end)
-        × (length r.line.items ≤ LONGEST_LINE) × (r.lines ≤ r.consumed) × (r.consumed ≤ LONGEST_INPUT) };
+        × (length r.line.items ≤ max_line_bytes) × (r.lines ≤ r.consumed) × (r.consumed ≤ max_input_bytes) };
 }
 
 impl LineReader {
@@ -126,8 +123,8 @@ impl LineReader {
     pub fn advance<S: Source>(&mut self, input: &mut S) -> Result<bool, LineFault>
         ensures line { IfOk result (λ more. IsTrue more
             → ReadsLine self.old self.new (S.left input.old) (S.left input.new)) }
-        ensures short { length self.new.line ≤ LONGEST_LINE }
-        ensures in_input { self.new.consumed ≤ LONGEST_INPUT }
+        ensures short { length self.new.line ≤ max_line_bytes }
+        ensures in_input { self.new.consumed ≤ max_input_bytes }
         ensures end { IfOk result (λ more. IsFalse more
             → IsAtEnd self.old self.new (S.left input.old) (S.left input.new)) }
 
@@ -190,8 +187,8 @@ impl LineReader {
     /// Moves the first line of the held bytes to the line, and says whether it is whole.
     fn take_piece(&mut self) -> Result<bool, LineFault>
         ensures piece { IfOk result (TakesPiece self.old self.new) }
-        ensures short { length self.new.line ≤ LONGEST_LINE }
-        ensures in_input { self.new.consumed ≤ LONGEST_INPUT }
+        ensures short { length self.new.line ≤ max_line_bytes }
+        ensures in_input { self.new.consumed ≤ max_input_bytes }
         ensures number { (n : ℕ) → result ≡ Err (LineFault.TooLong n) → n ≡ self.old.lines + 1 }
         ensures too_long { (n : ℕ) → result ≡ Err (LineFault.TooLong n) → IsPieceTooLong self.old }
         ensures err { OnErr result (self.new.lines ≡ self.old.lines) }
@@ -203,7 +200,7 @@ impl LineReader {
         let taken = count + usize::from(whole);
         let length = self.line.len() + count;
         let consumed = self.consumed + taken as u64;
-        if length > LONGEST_LINE || consumed > LONGEST_INPUT {
+        if length > MAX_BODY_BYTES || consumed > MAX_INPUT_BYTES {
             return Err(LineFault::TooLong(self.lines + 1));
         }
         self.line.extend_from_slice(&held[..count])?;
@@ -224,7 +221,7 @@ fn line_len(bytes: &[u8]) -> usize
 
 /// Whether the line has only spaces, tabs and carriage returns.
 pub fn is_blank(line: &[u8]) -> bool
-    ensures { result ≡ is_blank line.now }
+    ensures { result ≡ is_blank_line line.now }
 {
     line.iter()
         .all(|byte| matches!(*byte, b' ' | b'\t' | b'\r'))

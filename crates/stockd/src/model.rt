@@ -7,6 +7,7 @@ ghost use Rattle.ob_schema.specs.declared.field_type.FieldType.{FieldType};
 ghost use Rattle.stockd.specs.Model.{IsLineRegistry, line_def, plain_field, subtotal_field};
 
 use ob_base::{ModelNo, NoMemory, Sequence, Word};
+use ob_expr::one_tree;
 use ob_schema::{FieldDef, FieldType, ModelDef, Schema, SchemaFault};
 use std::alloc::Global;
 
@@ -21,6 +22,8 @@ pub(crate) fn registry(alloc: Global) -> Result<Schema, NoMemory>
     ensures { IfOk result IsLineRegistry }
 {
     let definitions = [line_def(alloc)?];
+    // The law that the computed field's expression has one reading.
+    one_tree();
     match Schema::build(alloc, &definitions) {
         Ok(schema) => Ok(schema),
         Err(SchemaFault::NoMemory) => Err(NoMemory),

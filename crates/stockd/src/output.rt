@@ -2,7 +2,7 @@
 
 ghost use Rattle.std.specs.Prelude.{◌≡◌, ◌++◌, [], ◌∷◌, option_map, IsErr, OnOk, OnErr};
 ghost use Rattle.ob_io.specs.Cause.{HasCause};
-ghost use Rattle.stockd.specs.Out.{WritesPart};
+ghost use Rattle.stockd.specs.Ending.{WritesPart};
 
 use ob_io::{Failed, Sink};
 

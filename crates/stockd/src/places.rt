@@ -1,12 +1,11 @@
 //! Places of a body: those of an envelope's elements, and those of a call's arguments, which
 //! stand in its elements 5 (by position) and 6 (by name).
 
-ghost use Rattle.std.specs.Prelude.{◌≡◌, ◌++◌, ◌∷◌, [], IfOk, OnOk};
-ghost use Rattle.ob_base.specs.declared.place.PathStep.TheVariants.{Key};
+ghost use Rattle.std.specs.Prelude.{◌≡◌, ◌++◌, IfOk};
 ghost use Rattle.ob_rpc.specs.Envelope.{element_place};
 ghost use Rattle.stockd.specs.Texts.{body_place};
 
-use ob_base::{NoMemory, PathStep, Place, Word};
+use ob_base::{NoMemory, PathStep, Place};
 use std::alloc::Global;
 
 /// The place of an element of the arguments of an envelope.
@@ -14,8 +13,8 @@ pub(crate) fn element_place(alloc: Global, number: u64) -> Result<Place, NoMemor
     ensures { IfOk result (λ place. place ≡ element_place number) }
 {
     let mut place = Place::whole(alloc);
-    push_key(alloc, &mut place, "params")?;
-    push_key(alloc, &mut place, "args")?;
+    place.push_key(alloc, "params")?;
+    place.push_key(alloc, "args")?;
     place.push(PathStep::Item(number))?;
     Ok(place)
 }
@@ -37,24 +36,7 @@ fn place_of(alloc: Global, above: Place, below: &[PathStep]) -> Result<Place, No
 {
     let mut place = above;
     for step in below {
-        place.push(same_step(alloc, step)?)?;
+        place.push(step.try_clone(alloc)?)?;
     }
     Ok(place)
-}
-
-/// A copy of a step.
-fn same_step(alloc: Global, step: &PathStep) -> Result<PathStep, NoMemory>
-    ensures { IfOk result (λ copy. copy ≡ step.now) }
-{
-    match step {
-        PathStep::Key(name) => Ok(PathStep::Key(name.try_clone(alloc)?)),
-        PathStep::Item(number) => Ok(PathStep::Item(*number)),
-    }
-}
-
-/// Goes on to a key.
-fn push_key(alloc: Global, place: &mut Place, name: &str) -> Result<(), NoMemory>
-    ensures { OnOk result (place.new ≡ place.old ++ Key name.now ∷ []) }
-{
-    place.push(PathStep::Key(Word::from_text(alloc, name)?))
 }

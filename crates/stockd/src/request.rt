@@ -2,10 +2,10 @@
 //! the methods that are served so far stand here; the first element that is wrong is told
 //! by its number.
 
-ghost use Rattle.std.specs.Prelude.{◌≡◌, map, option_map, codes, IfOk, IfSome, Some};
+ghost use Rattle.std.specs.Prelude.{◌≡◌, option_map, codes, IfOk, IfSome, Some};
 ghost use Rattle.ob_schema.specs.Models.{model_named};
-ghost use Rattle.serde_json.specs.View.{view};
-ghost use Rattle.stockd.specs.Asked.{Finds, method_seen};
+ghost use Rattle.serde_json.specs.View.{view, items_view};
+ghost use Rattle.stockd.specs.ModelCall.{CallIs, method_view};
 ghost use Rattle.stockd.specs.Request.{call_of, is_caller, is_integer, method_from, served_model};
 ghost use Rattle.ob_rpc.specs.Envelope.{is_text};
 
@@ -31,13 +31,13 @@ pub(crate) struct ModelCall<'a> {
 }
 
 /// The call that elements make: database, user, key, model, method, arguments, and maybe
-/// arguments by name. Or the number of the first that is wrong.
+/// arguments by name. Or the number of the first that is wrong, or that is missing.
 pub(crate) fn call_of<'a>(schema: &Schema, elements: &'a [Json]) -> Result<ModelCall<'a>, u64>
-    ensures found { Finds result (call_of schema.now (map view elements.now)) }
+    ensures found { CallIs result (call_of schema.now (items_view elements.now)) }
     ensures model { IfOk result (λ call. model_named schema.now (codes "demo.line") ≡ Some call.model) }
 {
     let [db, user, key, model, method, args, named @ ..] = elements else {
-        return Err(5);
+        return Err(elements.len() as u64);
     };
     if !is_text(db, "stock") {
         return Err(0);
@@ -80,7 +80,7 @@ fn served_model(schema: &Schema, model: &Json) -> Option<ModelNo>
 
 /// The method of a name.
 fn method_from(method: &Json) -> Option<Method>
-    ensures { option_map method_seen result ≡ method_from (view method.now) }
+    ensures { option_map method_view result ≡ method_from (view method.now) }
 {
     if is_text(method, "create") {
         Some(Method::Create)

@@ -1,13 +1,14 @@
 //! A run of the program, from its words to its status.
 
-ghost use Rattle.std.specs.Prelude.{◌≡◌, ◌≤◌, ◌↔◌, ℕ, ℤ, List, Some, IsTrue, IsErrOf, IfSome, IfOk, IfErr, MatchResult};
+ghost use Rattle.std.specs.Prelude.{◌≡◌, ◌≤◌, ◌↔◌, IsTrue, IsErrOf, IfSome, IfOk, IfErr, MatchResult};
 ghost use Rattle.ob_io.specs.Cause.{Rose, HasCause};
-ghost use Rattle.ob_io.specs.Store.{Store};
 ghost use Rattle.ob_orm.specs.Kept.{OthersStay};
+ghost use Rattle.stockd.specs.Ending.{status_of, last_line, WritesLast, HasReason};
 ghost use Rattle.stockd.specs.Model.{line_model};
+ghost use Rattle.stockd.specs.Program.{EndsCall, RunsCall, HasCauses};
+ghost use Rattle.stockd.specs.Session.{Start, StandsAt};
+ghost use Rattle.stockd.specs.Store.{IsLeastOf, IsNew, StopsOpening, MayStop, fault_ending};
 ghost use Rattle.stockd.specs.Words.{IsCall};
-ghost use Rattle.stockd.specs.Out.{status_of, last_line, WritesLast, IsNew, StopsOpening, RunsCall, HasCauses};
-ghost use Rattle.stockd.specs.Opening.{IsLeastOf, fault_ending, MayStop, HasReason, EndsCall};
 
 use crate::ending::Ending;
 use crate::model::{LINE, registry};
@@ -43,17 +44,34 @@ pub fn run<F: Files, K: Keeper, S: Source, W: Sink, D: Door, C: Clock>(
 
     // `call`: the machine's replies to the bodies of the input, and its tables as kept
     // rows. This is where the headline stands.
-    ensures call { (stream before : List ℕ) (store : Store) (moments : ℕ → ℤ) → IsCall words.now
-        → S.left input.old ≡ Some stream → W.written output.old ≡ Some before
-        → K.kept keeper.old ≡ Some store → C.coming clock.old ≡ Some moments
-        → RunsCall moments (K.faults keeper.old) (K.faults keeper.new)
-        (Rose (W.faults output.old) (W.faults output.new)) result stream before store
-        (K.kept keeper.new) (C.coming clock.new) (S.left input.new) (W.written output.new) }
+    ensures call { IsCall words.now → RunsCall
+        (record {
+          left = S.left input.old;
+          source_faults = S.faults input.old;
+          sink_faults = W.faults output.old;
+          standing = record { faults = K.faults keeper.old; kept = K.kept keeper.old; coming = C.coming clock.old; written = W.written output.old };
+        })
+        (record {
+          left = S.left input.new;
+          source_faults = S.faults input.new;
+          sink_faults = W.faults output.new;
+          standing = record { faults = K.faults keeper.new; kept = K.kept keeper.new; coming = C.coming clock.new; written = W.written output.new };
+        }) result }
 
     // Each status has its cause, whatever the objects tell.
-    ensures causes { HasCauses (IsCall words.now) (Rose (S.faults input.old) (S.faults input.new))
-        (Rose (W.faults output.old) (W.faults output.new))
-        (Rose (K.faults keeper.old) (K.faults keeper.new)) result }
+    ensures causes { HasCauses (IsCall words.now)
+        (record {
+          left = S.left input.old;
+          source_faults = S.faults input.old;
+          sink_faults = W.faults output.old;
+          standing = record { faults = K.faults keeper.old; kept = K.kept keeper.old; coming = C.coming clock.old; written = W.written output.old };
+        })
+        (record {
+          left = S.left input.new;
+          source_faults = S.faults input.new;
+          sink_faults = W.faults output.new;
+          standing = record { faults = K.faults keeper.new; kept = K.kept keeper.new; coming = C.coming clock.new; written = W.written output.new };
+        }) result }
 {
     if !is_call(words) {
         return finish(Ending::Usage, output);
@@ -92,11 +110,10 @@ fn call<K: Keeper, S: Source, W: Sink, C: Clock>(
     clock: &mut C,
 ) -> Ending
     // Over objects that tell what they hold: the opening stopped, or a session was served.
-    ensures outcome { (stream before : List ℕ) (store : Store) (moments : ℕ → ℤ)
-        → S.left input.old ≡ Some stream → W.written output.old ≡ Some before
-        → K.kept keeper.old ≡ Some store → C.coming clock.old ≡ Some moments
-        → EndsCall moments (K.faults keeper.old) (K.faults keeper.new) result stream before store
-        (K.kept keeper.new) (C.coming clock.new) (S.left input.new) (W.written output.new) }
+    ensures outcome { (start : Start) → StandsAt start (S.left input.old)
+        (record { faults = K.faults keeper.old; kept = K.kept keeper.old; coming = C.coming clock.old; written = W.written output.old })
+        → EndsCall result start (S.left input.new)
+        (record { faults = K.faults keeper.new; kept = K.kept keeper.new; coming = C.coming clock.new; written = W.written output.new }) }
     ensures reason { HasReason (Rose (S.faults input.old) (S.faults input.new))
         (Rose (W.faults output.old) (W.faults output.new))
         (Rose (K.faults keeper.old) (K.faults keeper.new)) result }

@@ -5,16 +5,16 @@
 //! How a stream is cut into lines and how a body is answered is settled in `lines` and
 //! `answer`; only the order of reading, answering and writing may be changed here.
 
-ghost use Rattle.std.specs.Prelude.{◌≡◌, ◌≤◌, ◌<◌, ◌++◌, ◌∷◌, [], ℕ, ℤ, List, Some, false, IsErr, IfOk, IfErr, IfNone, IfSome, OnOk, OnErr, MatchOption};
+ghost use Rattle.std.specs.Prelude.{◌≡◌, ◌≤◌, ◌<◌, ◌++◌, ◌∷◌, [], ℕ, List, Some, false, IsErr, IfOk, IfErr, IfNone, IfSome, OnOk, OnErr, MatchOption};
 ghost use Rattle.ob_io.specs.Cause.{HasCause, Rose};
-ghost use Rattle.ob_io.specs.Store.{Store};
 ghost use Rattle.ob_orm.specs.Tables.{empty_tables};
 ghost use Rattle.ob_orm.specs.Kept.{Kept, OthersStay};
+ghost use Rattle.stockd.specs.Ending.{IsSessionEnding};
+ghost use Rattle.ob_base.specs.Limits.{max_input_bytes};
+ghost use Rattle.stockd.specs.Lines.{is_blank_line, bodies_of};
 ghost use Rattle.stockd.specs.Model.{IsLineRegistry, line_model};
-ghost use Rattle.stockd.specs.declared.lines.TheConstants.{LONGEST_INPUT};
-ghost use Rattle.stockd.specs.Lines.{is_blank};
-ghost use Rattle.stockd.specs.Out.{ServesSession, IsSessionEnding, Tells, reply_lines};
-ghost use Rattle.stockd.specs.SessionSteps.{bodies_in, HasRead, HasReadTo, StopsReading, IsServing, ServesOn, StopsAt};
+ghost use Rattle.stockd.specs.Session.{Start, StandsAt, Session, WritesReplies, reply_lines};
+ghost use Rattle.stockd.specs.SessionSteps.{HasRead, HasReadTo, StopsReading, GoesOn, ServesMore, StopsAt};
 
 use crate::answer::answer;
 use crate::ending::Ending;
@@ -36,9 +36,10 @@ pub(crate) fn serve_lines<K: Keeper, S: Source, W: Sink, C: Clock>(
 ) -> Ending
     requires { IsLineRegistry schema.now }
     // Over a new store, and objects that tell what they hold, it is a run of the machine.
-    ensures session { (stream before : List ℕ) (store : Store) (moments : ℕ → ℤ) → S.left input.old ≡ Some stream → W.written output.old ≡ Some before
-        → K.kept keeper.old ≡ Some store → C.coming clock.old ≡ Some moments → Kept schema.now store empty_tables
-        → ServesSession moments (K.faults keeper.old) (K.faults keeper.new) result stream before (K.kept keeper.new) (C.coming clock.new) (S.left input.new) (W.written output.new) }
+    ensures session { (start : Start) → StandsAt start (S.left input.old)
+        (record { faults = K.faults keeper.old; kept = K.kept keeper.old; coming = C.coming clock.old; written = W.written output.old })
+        → Kept schema.now start.store empty_tables → Session result start (S.left input.new)
+        (record { faults = K.faults keeper.new; kept = K.kept keeper.new; coming = C.coming clock.new; written = W.written output.new }) }
     ensures kind { IsSessionEnding result }
     ensures read_fault { result ≡ Ending.ReadFault → Rose (S.faults input.old) (S.faults input.new) }
     ensures write_fault { result ≡ Ending.WriteFault → Rose (W.faults output.old) (W.faults output.new) }
@@ -69,16 +70,15 @@ fn serve_next<K: Keeper, S: Source, W: Sink, C: Clock>(
 ) -> Option<Ending>
     requires { IsLineRegistry schema.now }
     // A session goes on, or ends.
-    ensures session { (stream before : List ℕ) (moments : ℕ → ℤ) (faults_before : ℕ)
-        → IsServing schema.now moments faults_before stream before reader.old (S.left input.old)
+    ensures session { (start : Start) → GoesOn schema.now start reader.old (S.left input.old)
         (record { faults = K.faults keeper.old; kept = K.kept keeper.old; coming = C.coming clock.old; written = W.written output.old })
-        → MatchOption result
-        (IsServing schema.now moments faults_before stream before reader.new (S.left input.new)
+        → MatchOption result (GoesOn schema.now start reader.new (S.left input.new)
         (record { faults = K.faults keeper.new; kept = K.kept keeper.new; coming = C.coming clock.new; written = W.written output.new }))
-        (λ why. ServesSession moments faults_before (K.faults keeper.new) why stream before (K.kept keeper.new) (C.coming clock.new) (S.left input.new) (W.written output.new)) }
+        (λ why. Session why start (S.left input.new)
+        (record { faults = K.faults keeper.new; kept = K.kept keeper.new; coming = C.coming clock.new; written = W.written output.new })) }
     ensures kind { IfSome result IsSessionEnding }
     ensures moved { IfNone result (reader.old.consumed < reader.new.consumed) }
-    ensures in_input { reader.new.consumed ≤ LONGEST_INPUT }
+    ensures in_input { reader.new.consumed ≤ max_input_bytes }
     ensures read_fault { result ≡ Some Ending.ReadFault → Rose (S.faults input.old) (S.faults input.new) }
     ensures write_fault { result ≡ Some Ending.WriteFault → Rose (W.faults output.old) (W.faults output.new) }
     ensures input_count { S.faults input.old ≤ S.faults input.new }
@@ -105,10 +105,10 @@ fn next_line<S: Source>(reader: &mut LineReader, input: &mut S) -> Result<bool, 
         → StopsReading why stream (S.left input.new) lines) }
 
     // After such an ending each reply stands whole.
-    ensures whole_replies { IfErr result (λ why. (replies : List (List ℕ)) → Tells why replies (reply_lines replies)) }
+    ensures whole_replies { IfErr result (λ why. (replies : List (List ℕ)) → WritesReplies why replies (reply_lines replies)) }
     ensures read_fault { result ≡ Err Ending.ReadFault → Rose (S.faults input.old) (S.faults input.new) }
     ensures moved { IfOk result (λ whole. reader.old.consumed < reader.new.consumed) }
-    ensures in_input { reader.new.consumed ≤ LONGEST_INPUT }
+    ensures in_input { reader.new.consumed ≤ max_input_bytes }
     ensures count { S.faults input.old ≤ S.faults input.new }
 {
     let before = reader.consumed();
@@ -130,13 +130,13 @@ fn serve_line<K: Keeper, W: Sink, C: Clock>(
     line: &[u8],
 ) -> Result<(), Failed>
     requires { IsLineRegistry schema.now }
-    ensures ok { OnOk result (ServesOn schema.now (bodies_in (line.now ∷ []))
+    ensures ok { OnOk result (ServesMore schema.now (bodies_of (line.now ∷ []))
         (record { faults = K.faults keeper.old; kept = K.kept keeper.old; coming = C.coming clock.old; written = W.written output.old })
         (record { faults = K.faults keeper.new; kept = K.kept keeper.new; coming = C.coming clock.new; written = W.written output.new })) }
     ensures err { OnErr result (StopsAt schema.now line.now
         (record { faults = K.faults keeper.old; kept = K.kept keeper.old; coming = C.coming clock.old; written = W.written output.old })
         (record { faults = K.faults keeper.new; kept = K.kept keeper.new; coming = C.coming clock.new; written = W.written output.new })) }
-    ensures body { OnErr result (is_blank line.now ≡ false) }
+    ensures body { OnErr result (is_blank_line line.now ≡ false) }
     ensures cause { HasCause (W.faults output.old) (W.faults output.new) (IsErr result) }
     ensures count { K.faults keeper.old ≤ K.faults keeper.new }
     ensures others { OthersStay line_model (K.kept keeper.old) (K.kept keeper.new) }
@@ -157,7 +157,7 @@ fn serve_body<K: Keeper, W: Sink, C: Clock>(
     body: &[u8],
 ) -> Result<(), Failed>
     requires { IsLineRegistry schema.now }
-    ensures ok { OnOk result (ServesOn schema.now (body.now ∷ [])
+    ensures ok { OnOk result (ServesMore schema.now (body.now ∷ [])
         (record { faults = K.faults keeper.old; kept = K.kept keeper.old; coming = C.coming clock.old; written = W.written output.old })
         (record { faults = K.faults keeper.new; kept = K.kept keeper.new; coming = C.coming clock.new; written = W.written output.new })) }
     ensures err { OnErr result (StopsAt schema.now body.now

@@ -4,7 +4,8 @@ use Rattle.ob_io.specs.Cause.{Rose}
 use Rattle.ob_io.specs.Store.{all_changed}
 use Rattle.ob_orm.specs.Kept.{OthersStay}
 use Rattle.ob_orm.specs.Answer.{called_by}
-use Rattle.stockd.proofs.AnswerLaws.{Rose-earlier, created_serves, refused_create_serves}
+use Rattle.stockd.proofs.AnswerLaws.{created_serves, refused_create_serves}
+use Rattle.stockd.proofs.Counts.{Rose-earlier}
 use Rattle.stockd.proofs.Others.{others_same, others_on, others_kept}
 use Rattle.stockd.proofs.ServedLine.{has_line, line_at, serves_line}
 use Rattle.stockd.proofs.answer.serve_create.Goals as goal
@@ -30,7 +31,8 @@ returns-in-Err-clause-served g c = λ store tables kept_is kept sound.
 
 pub returns-in-Ok-clause-others : goal.returns-in-Ok-clause-others
 returns-in-Ok-clause-others g c =
-    others_on _ _ _ (others_same _ _ c.create.ensures.same) (others_kept _ _ _ _ _ _ _ (subst (λ (m : ModelNo). OthersStay m (g.K.Keeper.kept c.create.new.keeper) (option_map (all_changed c.in-Ok.created.changes) (g.K.Keeper.kept c.create.new.keeper))) c.requires.model (c.in-Ok.ensures.others (g.K.Keeper.kept c.create.new.keeper))) c.keep.ensures.kept)
+    others_on _ _ _ (others_same _ _ c.create.ensures.same) (others_kept _ _ _ _ _ _ _ (subst (λ (m : ModelNo). OthersStay m (g.K.Keeper.kept c.create.new.keeper)
+    (option_map (all_changed c.in-Ok.created.changes) (g.K.Keeper.kept c.create.new.keeper))) c.requires.model (c.in-Ok.ensures.others (g.K.Keeper.kept c.create.new.keeper))) c.keep.ensures.kept)
 
 pub returns-in-Err-clause-others : goal.returns-in-Err-clause-others
 returns-in-Err-clause-others g c = others_same _ _ c.create.ensures.same

@@ -10,7 +10,8 @@ returns-in_err-write_all-clause-err g c =
 
 pub returns-in_err-write_all-2-clause-err : goal.returns-in_err-write_all-2-clause-err
 returns-in_err-write_all-2-clause-err g c =
-    at_any_error _ (front_of_more _ _ (c.args.before.now ++ decimal c.args.number) c.args.after.now (front_after _ (g.W.Sink.written c.write_all.new.output) _ c.args.before.now (decimal c.args.number) (search rules) (rw (c.as_bytes-2.ensures.value, c.format.ensures.text) at c.in_err-write_all-2.ensures.err)))
+    at_any_error _ (front_of_more _ _ (c.args.before.now ++ decimal c.args.number) c.args.after.now (front_after _ (g.W.Sink.written c.write_all.new.output) _ c.args.before.now (decimal c.args.number)
+    (search rules) (rw (c.as_bytes-2.ensures.value, c.format.ensures.text) at c.in_err-write_all-2.ensures.err)))
 
 pub returns-clause-err : goal.returns-clause-err
 returns-clause-err g c =

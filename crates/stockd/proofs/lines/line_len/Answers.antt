@@ -1,4 +1,3 @@
--- proofs/lines/line_len/Answers.antt
 use Rattle.std.proofs.Common.{◌∙◌, arith}
 use Rattle.stockd.proofs.LineLaws.{feed_at-from_first, feed_at-le-length}
 use Rattle.stockd.proofs.lines.line_len.Goals as goal

@@ -1,4 +1,4 @@
-use Rattle.stockd.proofs.ServedOn.{serves_on, stops_at, on_ok, on_err}
+use Rattle.stockd.proofs.ServedOn.{serves_more, stops_at, on_ok, on_err}
 use Rattle.stockd.proofs.session.serve_body.Goals as goal
 
 pub returns-clause-ok : goal.returns-clause-ok
@@ -6,7 +6,7 @@ returns-clause-ok g c =
     let served = rw (← c.as_str.ensures) at c.answer-reply.ensures.served in
     let coming = rw (← c.as_str.ensures) at c.answer-reply.ensures.moments in
     on_ok c.write_line.result c.write_line.ensures.ok
-    (serves_on _ _ _ c.args.body.now c.as_str.result.now served c.answer-reply.ensures.count coming)
+    (serves_more _ _ _ c.args.body.now c.as_str.result.now served c.answer-reply.ensures.count coming)
 
 pub returns-clause-err : goal.returns-clause-err
 returns-clause-err g c =

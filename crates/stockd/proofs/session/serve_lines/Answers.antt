@@ -4,12 +4,11 @@ use Rattle.stockd.proofs.Others.{others_same, others_on}
 use Rattle.stockd.proofs.session.serve_lines.Goals as goal
 
 pub returns-in_default-clause-session : goal.returns-in_default-clause-session
-returns-in_default-clause-session g c stream before store moments left written kept coming same =
-    ends_at_once _ c.requires _ left written kept coming same
+returns-in_default-clause-session g c start at same = ends_at_once _ c.requires start _ at same
 
 pub lines-init : goal.lines-init
 lines-init g c = record {
-  session = λ stream before store moments left written kept coming same. begins _ _ c.in-Ok.ensures left written kept coming same;
+  session = λ start at same. begins _ start _ c.in-Ok.ensures at same;
   input_count = omega arith;
   output_count = omega arith;
   keeper_count = omega arith;
@@ -21,8 +20,7 @@ returns-in_default-clause-others g c = others_same _ _ refl
 
 -- the session went on to here, and ends
 pub returns-in-Some-clause-session : goal.returns-in-Some-clause-session
-returns-in-Some-clause-session g c = λ stream before store moments left written kept coming same.
-    c.in-Some.ensures.session stream before moments _ (c.lines.invariant.session stream before store moments left written kept coming same)
+returns-in-Some-clause-session g c = λ start at same. c.in-Some.ensures.session start (c.lines.invariant.session start at same)
 
 -- the session went on to here, and goes on
 pub lines-preserved : goal.lines-preserved
@@ -30,7 +28,7 @@ lines-preserved g c =
     let so_far = c.lines.invariant in
     let said = c.in_default-serve_next.ensures in
     record {
-      session = λ stream before store moments left written kept coming same. said.session stream before moments _ (so_far.session stream before store moments left written kept coming same);
+      session = λ start at same. said.session start (so_far.session start at same);
       input_count = omega (arith, so_far.input_count, said.input_count);
       output_count = omega (arith, so_far.output_count, said.output_count);
       keeper_count = omega (arith, so_far.keeper_count, said.keeper_count);

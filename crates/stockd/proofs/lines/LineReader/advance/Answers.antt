@@ -1,4 +1,3 @@
--- proofs/lines/LineReader/advance/Answers.antt
 use Rattle.std.proofs.Common.{arith, sym, ap, ◌∙◌, Err}
 use Rattle.std.proofs.lemmas.Result.{err_from_is_err_and}
 use Rattle.stockd.proofs.ReadingSteps.{within_fill, within_piece, reads_whole, reads_last, stops_within, too_long_within, ends_still, none_came}

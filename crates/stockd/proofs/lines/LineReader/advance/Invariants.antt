@@ -1,7 +1,6 @@
--- proofs/lines/LineReader/advance/Invariants.antt
 use Rattle.std.proofs.Common.{◌+◌, ◌-◌, ◌≤◌, length, min}
 use Rattle.stockd.proofs.ReadingSteps.{IsWithinLine}
-use Rattle.stockd.specs.declared.lines.TheConstants.{LONGEST_INPUT}
+use Rattle.ob_base.specs.Limits.{max_input_bytes}
 use Rattle.stockd.proofs.lines.LineReader.advance.Given as goal
 
 abbrev pub invariant-pieces : goal.invariant-pieces
@@ -10,4 +9,4 @@ invariant-pieces g l =
     × (g.S.Source.faults l.fn.input ≤ g.S.Source.faults l.input) × (l.fn.self.lines ≤ l.fn.self.consumed)
 
 abbrev pub decreases-pieces : goal.decreases-pieces
-decreases-pieces g l = LONGEST_INPUT + 1 - (l.self.consumed + min 1 (length l.self.held))
+decreases-pieces g l = max_input_bytes + 1 - (l.self.consumed + min 1 (length l.self.held))

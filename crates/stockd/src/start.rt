@@ -1,0 +1,104 @@
+//! The start of the program: the words of the command line, and a run over the host's
+//! input, output and clock, with rows kept in memory. `main` hands its runtime to `started`
+//! and ends with the status that it answers. Which objects a run is handed may be changed
+//! here; what it does with them is settled in `run`.
+
+ghost use Rattle.std.specs.Prelude.{◌≡◌, [], drop, IfOk, IsErr, IsOkAnd, MatchResult};
+ghost use Rattle.std.specs.IoError.{error_kind};
+ghost use Rattle.std.specs.Vec.Iter.{into_iter_items};
+ghost use Rattle.stockd.specs.declared.ending.Ending.{Ending};
+ghost use Rattle.stockd.specs.Ending.{status_of};
+ghost use Rattle.stockd.specs.Words.{IsCall};
+
+use crate::ending::Ending;
+use crate::run::run;
+use ob_base::NoMemory;
+use ob_io::{HostClock, StdSink, StdSource, SureDoor, SureFiles, SureKeeper};
+use std::alloc::Global;
+use std::io::{ErrorKind, Input};
+use std::rt::{Clock, Env};
+use std::{env, io};
+
+/// Runs the program over this runtime and answers the status that it ends with. Where
+/// memory is wanting before the run, its last line and status are those of a run for which
+/// it is wanting.
+pub(crate) fn started<R: AllocGlobal + Env + Input + Print + Clock>(rt: &R) -> u8
+    ensures { (why : Ending) × (result ≡ status_of why) }
+{
+    match run_given(rt) {
+        Ok(status) => status,
+        Err(NoMemory) => no_memory(rt),
+    }
+}
+
+/// Runs over the words that this runtime gives.
+fn run_given<R: AllocGlobal + Env + Input + Print + Clock>(rt: &R) -> Result<u8, NoMemory>
+    ensures { IfOk result (λ status. (why : Ending) × (status ≡ status_of why)) }
+{
+    let words = words_after_name(rt.alloc(), env::args(rt))?;
+    run_words(rt, &words)
+}
+
+/// Runs over these words, the host's things and an empty keeper in memory.
+fn run_words<R: AllocGlobal + Input + Print + Clock>(
+    rt: &R,
+    words: &[String],
+) -> Result<u8, NoMemory>
+    ensures status { IfOk result (λ status. (why : Ending) × (status ≡ status_of why)) }
+    // Status 2 is that of other words than `call`.
+    ensures other_words { IfOk result (λ status. (IsCall words.now → ⊥) → status ≡ 2) }
+    ensures call { IfOk result (λ status. status ≡ 2 → IsCall words.now → ⊥) }
+{
+    let alloc = rt.alloc();
+    let mut files = SureFiles::new(alloc)?;
+    let mut keeper = SureKeeper::new(alloc, Vec::new(alloc), Vec::new(alloc))?;
+    let mut input = StdSource::new(rt)?;
+    let mut output = StdSink::new(rt)?;
+    let mut door = SureDoor::new(alloc)?;
+    let mut clock = HostClock::new(rt)?;
+    Ok(run(
+        alloc,
+        words,
+        &mut files,
+        &mut keeper,
+        &mut input,
+        &mut output,
+        &mut door,
+        &mut clock,
+    ))
+}
+
+/// The words after the program's name, which is the first of what is given. Where one isn't
+/// UTF-8, which the runtime tells by an error, there are none, since no action is named so.
+fn words_after_name(alloc: Global, given: io::Result<env::Args>) -> Result<Vec<String>, NoMemory>
+    ensures { MatchResult given
+        (λ args. IfOk result (λ words. words.items ≡ drop 1 (into_iter_items args)))
+        (λ error. (error_kind error ≡ ErrorKind.OutOfMemory → IsErr result)
+        × ((error_kind error ≡ ErrorKind.OutOfMemory → ⊥) → IsOkAnd result (λ words. words.items ≡ []))) }
+{
+    match given {
+        Ok(args) => after_first(alloc, args),
+        Err(error) if error.kind() == ErrorKind::OutOfMemory => Err(NoMemory),
+        Err(_) => Ok(Vec::new(alloc)),
+    }
+}
+
+/// The words after the first.
+fn after_first(alloc: Global, words: env::Args) -> Result<Vec<String>, NoMemory>
+    ensures { IfOk result (λ rest. rest.items ≡ drop 1 (into_iter_items words)) }
+{
+    Ok(words.skip(1).collect(alloc)?)
+}
+
+/// The last line and the status where memory is wanting.
+fn no_memory<R: Print>(rt: &R) -> u8
+    ensures { result ≡ status_of Ending.NoMemory }
+{
+    if let Ok(mut output) = StdSink::new(rt) {
+        Ending::NoMemory.tell(&mut output);
+    }
+    Ending::NoMemory.status()
+}
+
+#[cfg(test)]
+mod tests;
