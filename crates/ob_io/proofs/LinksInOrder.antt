@@ -15,9 +15,10 @@ use Rattle.std.proofs.lemmas.Map.Views.{All-from_any, Contains-from_any, tells_a
 use Rattle.std.specs.Map.{keys_of}
 use Rattle.std.specs.FinMap as finite
 use Rattle.ob_io.specs.declared.store.Link.{Link}
-use Rattle.ob_io.specs.Store.{link_cmp}
+use Rattle.ob_io.specs.declared.store.KeptRow.{KeptRow}
+use Rattle.ob_io.specs.Store.{link_cmp, in_order}
 use Rattle.ob_io.proofs.Shown.{exact_links, links_total}
-use Rattle.ob_io.proofs.SortedEntries.{is_sorted-from_keys}
+use Rattle.ob_io.proofs.SortedEntries.{is_sorted-from_keys, keys-from_is_sorted}
 
 alike : (a b : Link) → Decides (eq_by_cmp link_cmp a b) (a ≡ b)
 alike a b = (λ t. exact_links a b ((Equal-is (link_cmp a b)).0 t), λ e. subst (λ x. eq_by_cmp link_cmp a x ≡ true) e (ap is_eq (tied_itself links_total a)))
@@ -81,3 +82,9 @@ any-items links q =
 pub All-items : (P : Link → Type 0) (links : List Link) → All P links → All P (finite.keys (finite.from_entries {R = link_cmp} (units links)))
 All-items P links all = All-from_any (eq_by_cmp_equiv links_total) P _ (λ q h.
     All-contains P links q all (Contains-from_any (tells_apart exact_links) q links (sym (any-items links q) ∙ h)))
+
+-- and they rise
+pub in_order-rising : (row : KeptRow) → IsStrictlySortedBy link_cmp (in_order row).links
+in_order-rising row =
+    let links : finite.FinMap link_cmp (Unit {0}) = finite.from_entries {R = link_cmp} (units row.links) in
+    keys-from_is_sorted link_cmp (finite.entries links) (finite.entries_sorted links)

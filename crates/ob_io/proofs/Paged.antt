@@ -159,7 +159,7 @@ module _ (model : ModelNo) (after : RecId) where
     where
       each : (es : List (RowKey × KeptRow)) → AllByRecursion (λ e. IsEntryFit e.0 e.1) es → AllByRecursion (λ e. is_after model after e.0 ≡ true → IsAnswerOf e.1.id e.1) es
       each [] h = tt
-      each (e ∷ es) h = ((λ _. record { same_id = refl; targets = h.0.0.targets }), each es h.1)
+      each (e ∷ es) h = ((λ _. record { same_id = refl; rising = h.0.0.rising; targets = h.0.0.targets }), each es h.1)
 
   next_above : (e f : RowKey × KeptRow) → IsEntryFit e.0 e.1 → IsEntryFit f.0 f.1 → row_key_cmp e.0 f.0 ≡ Less → is_after model after e.0 ≡ true → is_after model after f.0 ≡ true → row_cmp e.1 f.1 ≡ Less
   next_above e f fit fit' h here there =

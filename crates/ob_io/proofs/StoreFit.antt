@@ -13,7 +13,7 @@ use Rattle.ob_io.specs.declared.store.Change.TheVariants.{Put, Gone, Next}
 use Rattle.ob_io.specs.Store.{Store, row_key_cmp, in_order, changed, all_changed, empty_store, Fits63, IsChangeFit, IsAnswerOf}
 use Rattle.ob_io.specs.Kept.{IsStoreFit}
 use Rattle.ob_io.proofs.Shown.{exact_rows, rows_total}
-use Rattle.ob_io.proofs.LinksInOrder.{All-items}
+use Rattle.ob_io.proofs.LinksInOrder.{All-items, in_order-rising}
 
 if_chosen : {X : Type 0} (P : X → Type 0) (b : Bool) (x : X) (o : Option X) → (b ≡ true → P x) → IfSome o P → IfSome (cond b (Some x) o) P
 if_chosen P true x o new old = new refl
@@ -48,7 +48,7 @@ IsStoreFit-empty = record {
 
 pub IsStoreFit-changed : (change : Change) (store : Store) → IsStoreFit store → IsChangeFit change → IsStoreFit (changed change store)
 IsStoreFit-changed (Put model row) store fit h = record {
-  rows = each-insert rows_total exact_rows IsRowOf store.rows (record { model = model; id = row.id }) (in_order row) (record { same_id = refl; targets = All-items (λ link. Fits63 link.target.0) row.links h.targets }) fit.rows;
+  rows = each-insert rows_total exact_rows IsRowOf store.rows (record { model = model; id = row.id }) (in_order row) (record { same_id = refl; rising = in_order-rising row; targets = All-items (λ link. Fits63 link.target.0) row.links h.targets }) fit.rows;
   ids = each-insert rows_total exact_rows IsIdFit store.rows (record { model = model; id = row.id }) (in_order row) h.id fit.ids;
   next_ids = fit.next_ids;
 }

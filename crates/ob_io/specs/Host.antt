@@ -1,5 +1,8 @@
 -- What the host's things show of themselves.
-use Rattle.std.specs.Prelude.{ℕ, ℤ, List, Option, None, Some}
+use Rattle.std.specs.Prelude.{ℕ, ◌/◌, ℤ, pos, List, Option, None, Some, Result, Ok, Err, if◌then◌else◌}
+use Rattle.std.specs.declared.time.SystemTime.{SystemTime}
+use Rattle.std.specs.Time.{system_time_nanos}
+use Rattle.ob_io.specs.Moments.{is_moment}
 use Rattle.ob_io.specs.Plan.{one_more}
 
 -- the bytes still to come, where the runtime's reader tells them, and how often the host failed
@@ -11,6 +14,15 @@ pub record HostInput : Type 0 where
 pub record HostTime : Type 0 where
   pub last : ℤ
   pub faults : ℕ
+
+-- the moment so many seconds after 1970-01-01, where the years to 9999 have it
+abbrev pub moment_after : ℕ → Option ℤ
+moment_after seconds = if is_moment (pos seconds) then Some (pos seconds) else None
+
+-- the moment that the host tells, in whole seconds; none where it fails
+abbrev pub moment_told : {E : Type 0} → Result SystemTime E → Option ℤ
+moment_told (Err why) = None
+moment_told (Ok time) = moment_after (system_time_nanos time / 1_000_000_000)
 
 -- after a moment of the host, or after none, which is counted
 abbrev pub after_moment : Option ℤ → HostTime → HostTime

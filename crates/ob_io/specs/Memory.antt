@@ -1,5 +1,6 @@
 -- What the objects in memory hold, as contracts see them.
-use Rattle.std.specs.Prelude.{◌≡◌, ℕ, zero, suc, ◌+◌, ◌<◌, min, List, length, ◌&&◌, if◌then◌else◌, ℤ, pos, negsuc, ◌+ℤ◌, int_le}
+use Rattle.std.specs.Prelude.{◌≡◌, ℕ, zero, suc, ◌+◌, ◌<◌, min, List, length, if◌then◌else◌, ℤ, ◌+ℤ◌}
+use Rattle.ob_io.specs.Moments.{is_moment}
 use Rattle.ob_io.specs.Plan.{Plan}
 
 -- the bytes still to come, and the most of them that one read gives
@@ -48,7 +49,7 @@ pub record Ticks : Type 0 where
 
 -- a step on from this moment, or the moment itself where that leads out of the years 0001 to 9999
 abbrev pub next_moment : (step moment : ℤ) → ℤ
-next_moment step moment = if int_le (negsuc 62135596799) (moment +ℤ step) && int_le (moment +ℤ step) (pos 253402300799) then moment +ℤ step else moment
+next_moment step moment = if is_moment (moment +ℤ step) then moment +ℤ step else moment
 
 -- the moments from this one on
 abbrev pub moments_from : (step moment : ℤ) → ℕ → ℤ

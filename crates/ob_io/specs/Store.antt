@@ -3,6 +3,7 @@ use Rattle.std.specs.Prelude.{◌≡◌, ℕ, ◌^◌, ◌<◌, ◌≤◌, ◌==
 use Rattle.std.specs.declared.cmp.Ordering.{Ordering}
 use Rattle.std.specs.Ordering.{nat_cmp, ordering_then}
 use Rattle.std.specs.List.{list_any}
+use Rattle.std.specs.List.Sorted.{IsStrictlySortedBy}
 use Rattle.std.specs.FinMap as finite
 use Rattle.ob_base.specs.declared.id.ModelNo.{ModelNo}
 use Rattle.ob_base.specs.declared.id.FieldNo.{FieldNo}
@@ -86,9 +87,10 @@ IsChangeFit (Put model row) = IsRowFit row
 IsChangeFit (Gone model id) = Fits63 id.0
 IsChangeFit (Next model next) = Fits63 next
 
--- a row that a keeper answers: of the asked id, its links rising, its numbers below 2^63
+-- a row that a keeper answers: of the asked id, its links rising by field and then target, its numbers below 2^63
 pub record IsAnswerOf (id : RecId) (row : KeptRow) : Type 0 where
   pub same_id : row.id ≡ id
+  pub rising : IsStrictlySortedBy link_cmp row.links
   pub targets : All (λ link. Fits63 link.target.0) row.links
 
 -- at most so many ids, above that one and rising

@@ -3,8 +3,8 @@
 ghost use Rattle.std.specs.Prelude.{◌≡◌, ℕ, ◌≤◌, ℤ, Option, option_map, IfSome};
 ghost use Rattle.ob_io.specs.Moments.{IsMoment, later};
 
-/// A clock. It takes no memory and its call doesn't fail: a host that gives no moment
-/// is counted, and the last moment is given again.
+/// A clock. It takes no memory and its call doesn't fail: a form that has no moment to
+/// give may count that and give its last one again.
 pub trait Clock {
     /// The moments that the clock will give, the next one at 0, where it tells them.
     ghost coming: { Self → Option (ℕ → ℤ) };

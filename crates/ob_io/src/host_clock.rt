@@ -1,8 +1,7 @@
 //! The clock of the real thing: the host's, in whole seconds.
 
 ghost use Rattle.std.specs.Prelude.{◌≡◌, ◌≤◌, ◌⊎◌, pos, None, Ok, IfSome};
-ghost use Rattle.std.specs.Option.{SomeIff};
-ghost use Rattle.ob_io.specs.Host.{after_moment};
+ghost use Rattle.ob_io.specs.Host.{after_moment, moment_after, moment_told};
 ghost use Rattle.ob_io.specs.Moments.{IsMoment};
 ghost use Rattle.ob_io.specs.Plan.{one_more};
 
@@ -10,8 +9,8 @@ use crate::clock::Clock;
 use ob_base::NoMemory;
 use ob_base::limits::MAX_MOMENT;
 use std::marker::Model;
-use std::rt;
 use std::time::SystemTime;
+use std::{io, rt};
 
 /// The host's clock. Where the host fails or gives no moment of the years 1970 to 9999,
 /// which is counted, it gives its last moment again, at first 1970-01-01 00:00:00 UTC.
@@ -59,18 +58,19 @@ impl<R: rt::Clock> HostClock<R> {
     }
 }
 
-/// The moment of the host, where it gives one of the years to 9999.
-fn moment_of(rt: &impl rt::Clock) -> Option<i64>
-    ensures { IfSome result IsMoment }
+/// The moment of the host's answer, where that is one of the years to 9999.
+fn moment_of(told: io::Result<SystemTime>) -> Option<i64>
+    ensures told { result ≡ moment_told told }
+    ensures within { IfSome result IsMoment }
 {
-    let now = SystemTime::now(rt).ok()?;
-    let since = now.duration_since(SystemTime::UNIX_EPOCH).ok()?;
+    let since = told.ok()?.duration_since(SystemTime::UNIX_EPOCH).ok()?;
     moment_at(since.as_secs())
 }
 
 /// The moment so many seconds after 1970-01-01 00:00:00 UTC, within the years to 9999.
 fn moment_at(seconds: u64) -> Option<i64>
-    ensures { SomeIff result (seconds ≤ 253402300799) (pos seconds) }
+    ensures value { result ≡ moment_after seconds }
+    ensures within { IfSome result IsMoment }
 {
     let moment = i64::try_from(seconds).ok()?;
     (moment <= MAX_MOMENT).then_some(moment)
@@ -88,7 +88,7 @@ impl<R: rt::Clock> Clock for HostClock<R> {
             ⊎ ((result ≡ self.old.last) × (self.new.faults ≡ one_more self.old.faults)) }
         ensures count { self.old.faults ≤ self.new.faults }
     {
-        let moment = moment_of(&self.rt);
+        let moment = moment_of(SystemTime::now(&self.rt));
         self.give(moment)
     }
 }

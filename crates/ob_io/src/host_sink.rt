@@ -6,7 +6,7 @@ ghost use Rattle.ob_io.specs.Cause.{HasCause};
 ghost use Rattle.ob_io.specs.Bytes.{Writes};
 ghost use Rattle.ob_io.specs.Faults.{count_after};
 
-use crate::fault::Failed;
+use crate::fault::{Failed, counted};
 use crate::sink::Sink;
 use ob_base::NoMemory;
 use std::io;
@@ -61,11 +61,10 @@ fn write_counted<W: Write>(writer: &mut W, piece: &[u8], faults: &mut u64) -> Re
     ensures counted { faults.new ≡ count_after (is_err result) faults.old }
     ensures cause { HasCause faults.old faults.new (IsErr result) }
 {
-    match writer.write(piece) {
-        Ok(count) if count > 0 || piece.is_empty() => Ok(count),
-        _ => {
-            *faults = faults.saturating_add(1);
-            Err(Failed)
-        }
+    let count = counted(writer.write(piece), faults)?;
+    if count == 0 && !piece.is_empty() {
+        *faults = faults.saturating_add(1);
+        return Err(Failed);
     }
+    Ok(count)
 }

@@ -6,7 +6,7 @@ ghost use Rattle.ob_io.specs.Cause.{HasCause};
 ghost use Rattle.ob_io.specs.Bytes.{Reads};
 ghost use Rattle.ob_io.specs.Faults.{count_after};
 
-use crate::fault::Failed;
+use crate::fault::{Failed, counted};
 use crate::source::Source;
 use ob_base::NoMemory;
 use std::io::{Input, Read};
@@ -60,15 +60,8 @@ impl<R: Input> Source for StdSource<R> {
     {
         let mut bytes = [0u8; READ_SIZE];
         let limit = room.len().min(READ_SIZE);
-        match self.reader.read(&mut bytes[..limit]) {
-            Ok(count) => {
-                room[..count].copy_from_slice(&bytes[..count]);
-                Ok(count)
-            }
-            Err(_) => {
-                self.faults = self.faults.saturating_add(1);
-                Err(Failed)
-            }
-        }
+        let count = counted(self.reader.read(&mut bytes[..limit]), &mut self.faults)?;
+        room[..count].copy_from_slice(&bytes[..count]);
+        Ok(count)
     }
 }

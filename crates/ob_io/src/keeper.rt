@@ -10,7 +10,7 @@ use thiserror::Error;
 /// Why a call of a keeper gave no answer.
 #[derive(Clone, Copy, Debug, PartialEq, Eq, Error)]
 pub enum KeepFault {
-    /// The keeper failed. Its count of faults rose in the call.
+    /// The keeper failed. Its count of faults rose in the call, as far as a u64 can.
     #[error("the keeper failed")]
     Failed,
     /// An allocation failed.

@@ -1,7 +1,7 @@
 //! The outside of the server, as traits: where requests come from and replies go
 //! to, who keeps the rows, what the clock gives. Each trait says, in ghost members,
 //! what the thing holds where it tells, and how often it has failed; each call
-//! says exactly what it does to both.
+//! says exactly what it does to the first, and that it fails only where the second rose.
 //!
 //! Rooms: `source`, `sink`, `files`, `door`, `clock` and `keeper` hold a trait each,
 //! and `store` the rows that a keeper keeps. The forms: `memory_source`, `memory_sink`
