@@ -1,4 +1,6 @@
+pub mod BrokenOrderLaws
 pub mod Dotted
 pub mod OrderLaws
 pub mod Risen
+pub mod TallyLaws
 pub mod Walks

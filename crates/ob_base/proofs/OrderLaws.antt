@@ -59,7 +59,7 @@ from_parts (Ref id) = refl
 from_parts (Refs ids) = ap Refs (ids_again ids)
 
 -- where a chain of two answers is equal, both are
-both_equal : (o p : Ordering) → ordering_then o p ≡ Equal → (o ≡ Equal) × (p ≡ Equal)
+pub both_equal : (o p : Ordering) → ordering_then o p ≡ Equal → (o ≡ Equal) × (p ≡ Equal)
 both_equal Less p e = cc
 both_equal Equal p e = (refl, e)
 both_equal Greater p e = cc

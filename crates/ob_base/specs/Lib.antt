@@ -1,7 +1,10 @@
+pub mod Limits
+pub mod Chain
 pub mod Rising
 pub mod Ids
 pub mod Times
 pub mod Tally
 pub mod ValueOrder
+pub mod BrokenOrder
 pub mod PathText
 pub mod Names

@@ -3,9 +3,9 @@
 //! contract: `value_cmp` is the one total order of values, by which `value_eq` is
 //! equality, and `tick` adds one to a count that only contracts see.
 //!
-//! Rooms: `id` (numbers and cells), `sequence`, `word` and `ref_list` (values that
-//! contracts see as lists), `value` (the values and their one order), `steps`
-//! (counting evaluations), `place` and `refusal` (what an answer other than Ok
+//! Rooms: `id` (numbers, and cells with their order), `sequence`, `word` and `ref_list`
+//! (values that contracts see as lists), `value` (the values and their one order),
+//! `steps` (counting evaluations), `place` and `refusal` (what an answer other than Ok
 //! names), `limits` (every bound that a caller can meet).
 #![tactic(auto)]
 
@@ -22,11 +22,11 @@ mod tests;
 mod value;
 mod word;
 
-pub use id::{Cell, FieldNo, ModelNo, RecId};
+pub use id::{Cell, FieldNo, ModelNo, RecId, cell_cmp};
 pub use memory::NoMemory;
 pub use place::{PathStep, Place};
 pub use ref_list::RefList;
-pub use refusal::{Broken, BrokenKind, Op, Refusal};
+pub use refusal::{Broken, BrokenKind, Op, Refusal, broken_cmp};
 pub use sequence::Sequence;
 pub use steps::{Counted, Ledger, Silent, Steps};
 pub use value::{Value, value_cmp, value_eq};

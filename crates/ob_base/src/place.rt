@@ -2,6 +2,7 @@
 
 ghost use Rattle.std.specs.Prelude.{◌≡◌, ◌∷◌, ◌++◌, [], IfOk, OnOk, OnErr};
 ghost use Rattle.ob_base.specs.PathText.{path_text};
+ghost use Rattle.ob_base.specs.declared.place.PathStep.TheVariants.{Key};
 
 use crate::memory::NoMemory;
 use crate::word::Word;
@@ -14,6 +15,18 @@ use std::marker::Model;
 pub enum PathStep {
     Key(Word),
     Item(u64),
+}
+
+impl PathStep {
+    /// The same step again.
+    pub fn try_clone(&self, alloc: Global) -> Result<PathStep, NoMemory>
+        ensures { IfOk result (λ step. step ≡ self.now) }
+    {
+        match self {
+            PathStep::Key(name) => Ok(PathStep::Key(name.try_clone(alloc)?)),
+            PathStep::Item(number) => Ok(PathStep::Item(*number)),
+        }
+    }
 }
 
 impl fmt::Display for PathStep {
@@ -66,6 +79,25 @@ impl Place {
         Ok(())
     }
 
+    /// Goes on to a key of the part that is meant, or leaves the path as it was.
+    pub fn push_key(&mut self, alloc: Global, name: &str) -> Result<(), NoMemory>
+        ensures ok { OnOk result (self.new ≡ self.old ++ Key name.now ∷ []) }
+        ensures err { OnErr result (self.new ≡ self.old) }
+    {
+        self.push(PathStep::Key(Word::from_text(alloc, name)?))
+    }
+
+    /// Goes on by the steps of a path below the part that is meant, or leaves the path as
+    /// it was.
+    pub fn extend(&mut self, alloc: Global, below: &Place) -> Result<(), NoMemory>
+        ensures ok { OnOk result (self.new ≡ self.old ++ below.now) }
+        ensures err { OnErr result (self.new ≡ self.old) }
+    {
+        let mut steps = same_steps(alloc, below.steps())?;
+        self.steps.append(&mut steps)?;
+        Ok(())
+    }
+
     /// The steps from the whole body on.
     pub fn steps(&self) -> &[PathStep]
         ensures { result.now ≡ self.now }
@@ -79,6 +111,17 @@ impl Place {
     {
         Ok(Word::new(format!(in alloc; "{self}")?))
     }
+}
+
+/// The same steps again.
+fn same_steps(alloc: Global, steps: &[PathStep]) -> Result<Vec<PathStep>, NoMemory>
+    ensures { IfOk result (λ copy. copy.items ≡ steps.now) }
+{
+    let mut copy = Vec::new(alloc);
+    for step in steps {
+        copy.push(step.try_clone(alloc)?)?;
+    }
+    Ok(copy)
 }
 
 impl fmt::Display for Place {

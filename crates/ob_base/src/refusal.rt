@@ -1,11 +1,16 @@
-//! Every answer of a call that is not Ok, each with what it names.
+//! Every answer of a call that is not Ok, each with what it names. A new way of being
+//! broken gets its variant here, at its place in the order, and its name in specs/Names.
 
 ghost use Rattle.std.specs.Prelude.{◌≡◌};
+ghost use Rattle.std.specs.Cmp.{IsTotalOrder};
+ghost use Rattle.std.specs.FinMap.{IsAntisymmetric};
+ghost use Rattle.ob_base.specs.BrokenOrder.{broken_order, kind_place};
 ghost use Rattle.ob_base.specs.Names.{op_name, kind_name};
 
-use crate::id::{Cell, FieldNo, ModelNo, RecId};
+use crate::id::{Cell, FieldNo, ModelNo, RecId, cell_cmp};
 use crate::place::Place;
 use crate::word::Word;
+use std::cmp::Ordering;
 use std::fmt;
 
 /// What a call does to rows, where a right or a rule is asked for it.
@@ -42,9 +47,9 @@ impl fmt::Display for Op {
     }
 }
 
-/// How a cell can break what tables must keep. The order is that in which a cell's
-/// kinds are named, the first one first.
-#[derive(Clone, Copy, Debug, PartialEq, Eq, PartialOrd, Ord, Hash)]
+/// How a cell can break what tables must keep. They are declared in the order in which
+/// a cell's kinds are named, the first one first.
+#[derive(Clone, Copy, Debug, PartialEq, Eq, Hash)]
 pub enum BrokenKind {
     Required,
     MissingRef,
@@ -96,6 +101,34 @@ impl BrokenKind {
             BrokenKind::Outside => "Outside",
         }
     }
+
+    /// The place of the kind among those that one cell may have, from 0.
+    fn place(self) -> u8
+        ensures { result ≡ kind_place self }
+    {
+        match self {
+            BrokenKind::Required => 0,
+            BrokenKind::MissingRef => 1,
+            BrokenKind::Unique => 2,
+            BrokenKind::Tree => 3,
+            BrokenKind::Depth => 4,
+            BrokenKind::Restrict => 5,
+            BrokenKind::Check => 6,
+            BrokenKind::Overflow => 7,
+            BrokenKind::TooLong => 8,
+            BrokenKind::ZeroDivisor => 9,
+            BrokenKind::Locked => 10,
+            BrokenKind::Fixed => 11,
+            BrokenKind::Managed => 12,
+            BrokenKind::Limit => 13,
+            BrokenKind::Short => 14,
+            BrokenKind::WrongState => 15,
+            BrokenKind::BackorderChoice => 16,
+            BrokenKind::RouteDepth => 17,
+            BrokenKind::LotNeeded => 18,
+            BrokenKind::Outside => 19,
+        }
+    }
 }
 
 impl fmt::Display for BrokenKind {
@@ -110,10 +143,22 @@ impl fmt::Display for BrokenKind {
 }
 
 /// A cell and how it is broken.
-#[derive(Clone, Copy, Debug, PartialEq, Eq, PartialOrd, Ord, Hash)]
+#[derive(Clone, Copy, Debug, PartialEq, Eq, Hash)]
 pub struct Broken {
     pub kind: BrokenKind,
     pub cell: Cell,
+}
+
+/// Compares broken cells by cell, then by kind in the order in which the kinds are
+/// declared: the least of several is the first kind of the first cell. The order is
+/// total, and only the same cell, broken in the same way, compares as equal.
+#[tactic(auto, using(crate::proofs::BrokenOrderLaws::broken_order_total, crate::proofs::BrokenOrderLaws::broken_order_exact))]
+pub fn broken_cmp(a: &Broken, b: &Broken) -> Ordering
+    ensures order { result ≡ broken_order a.now b.now }
+    ensures total { IsTotalOrder broken_order }
+    ensures exact { IsAntisymmetric broken_order }
+{
+    cell_cmp(&a.cell, &b.cell).then(a.kind.place().cmp(&b.kind.place()))
 }
 
 /// Why a request is refused. Each names the part, right, row, rule or cell that

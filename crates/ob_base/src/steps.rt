@@ -32,6 +32,19 @@ pub struct Counted {
     pub total: u64,
 }
 
+impl Counted {
+    ghost use Rattle.std.specs.Prelude.{min, ◌<◌, ◌-◌, ◌^◌};
+    ghost use Rattle.ob_base.specs.Tally.{Tally, ticked_times};
+
+    /// A law for the crates above: so many ticks add that number to the count, and to the
+    /// total up to the greatest u64. It does nothing.
+    pub fn counts_each_tick()
+        ensures count { (n : ℕ) (tally : Tally Counted) → (ticked_times n ⟦<Counted as Ledger>⟧.noted tally).count ≡ tally.count + n }
+        ensures total { (n : ℕ) (tally : Tally Counted) → tally.ledger.total < 2 ^ 64
+            → (ticked_times n ⟦<Counted as Ledger>⟧.noted tally).ledger.total ≡ min (tally.ledger.total + n) (2 ^ 64 - 1) }
+    {}
+}
+
 impl Ledger for Counted {
     ghost use Rattle.std.specs.Prelude.{min, ◌+◌, ◌-◌, ◌^◌};
 

@@ -63,9 +63,11 @@ fn ledgers_hear_of_each_tick(rt: HostRuntime) {
 fn places_print_their_steps(rt: HostRuntime) -> Result<(), Fail> {
     let mut place = Place::whole(rt.alloc());
     assert_eq!(rt; place.to_word(rt.alloc())?.as_str(), "");
-    place.push(PathStep::Key(Word::from_text(rt.alloc(), "args")?))?;
-    place.push(PathStep::Item(10))?;
-    place.push(PathStep::Key(Word::from_text(rt.alloc(), "name")?))?;
+    place.push_key(rt.alloc(), "args")?;
+    let mut below = Place::whole(rt.alloc());
+    below.push(PathStep::Item(10))?;
+    below.push(PathStep::Key(Word::from_text(rt.alloc(), "name")?))?;
+    place.extend(rt.alloc(), &below)?;
     assert_eq!(rt; place.steps().len(), 3);
     assert_eq!(rt; place.to_word(rt.alloc())?.as_str(), "args.10.name");
     Ok(())
@@ -139,10 +141,16 @@ fn cells_are_ordered_by_model_then_id_then_field(rt: HostRuntime) {
     });
     for pair in rising.windows(2) {
         if let [low, high] = pair {
-            assert!(rt; low < high, "{low:?} {high:?}");
+            assert_eq!(rt; cell_cmp(low, high), Ordering::Less, "{low:?} {high:?}");
         }
     }
 }
+
+const CELL: Cell = Cell {
+    model: ModelNo(1),
+    id: RecId(1),
+    field: FieldNo(1),
+};
 
 #[test]
 fn kinds_are_named_in_this_order(rt: HostRuntime) {
@@ -170,7 +178,8 @@ fn kinds_are_named_in_this_order(rt: HostRuntime) {
     ];
     for pair in rising.windows(2) {
         if let [low, high] = pair {
-            assert!(rt; low < high, "{low} {high}");
+            let [low, high] = [*low, *high].map(|kind| Broken { kind, cell: CELL });
+            assert_eq!(rt; broken_cmp(&low, &high), Ordering::Less, "{low:?} {high:?}");
         }
     }
 }

@@ -1,3 +1,6 @@
+pub mod CommandForms
+pub mod CommandsTaken
+pub mod HeldLaws
 pub mod KeptParts
 pub mod Keys
 pub mod OneBody

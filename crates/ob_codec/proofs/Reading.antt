@@ -7,9 +7,10 @@ use Rattle.serde_json.specs.Data.{Data, array}
 use Rattle.serde_json.specs.View.{view, items_view}
 use Rattle.serde_json.specs.declared.value.Value.{Value as Json, Array}
 use Rattle.serde_json.proofs.Views.{view-Array}
-use Rattle.ob_codec.specs.Commands.{clear_from, id_at, ids_of, ignored, listed, order_at, order_from, orders_of}
+use Rattle.ob_codec.specs.Commands.{clear_from, id_of_json, ids_of, ignored, listed, order_at, order_from, orders_of}
 use Rattle.ob_codec.specs.Input.{clear}
-use Rattle.ob_codec.specs.Steps.{◌>>=◌, each_from}
+use Rattle.ob_base.specs.Chain.{◌>>=◌}
+use Rattle.ob_codec.specs.Steps.{each_from}
 use Rattle.ob_codec.specs.declared.fault.CodecFault.{CodecFault}
 
 -- the items of a list, seen as their data
@@ -21,10 +22,10 @@ view_items : (json : Json) (v : Vec Json Global) → json ≡ Array v → view j
 view_items json v is = ap view is ∙ view-Array v
 
 pub ids_of_items : (command k : ℕ) (json : Json) (v : Vec Json Global) → json ≡ Array v
-    → ids_of command k (view json) ≡ each_from (λ n. id_at (command ∷ k ∷ n ∷ [])) 0 (map view v.items)
+    → ids_of command k (view json) ≡ each_from (λ n. id_of_json (command ∷ k ∷ n ∷ [])) 0 (map view v.items)
 unfolding ids_of
 ids_of_items command k json v is =
-    ap (ids_of command k) (view_items json v is) ∙ ap (each_from (λ n. id_at (command ∷ k ∷ n ∷ [])) 0) (listed_items v.items)
+    ap (ids_of command k) (view_items json v is) ∙ ap (each_from (λ n. id_of_json (command ∷ k ∷ n ∷ [])) 0) (listed_items v.items)
 
 pub order_at_items : (command : ℕ) (json : Json) (v : Vec Json Global) → json ≡ Array v → order_at command (view json) ≡ order_from command (map view v.items)
 unfolding order_at

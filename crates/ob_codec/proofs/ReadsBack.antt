@@ -19,8 +19,8 @@ use Rattle.ob_schema.specs.declared.field_type.Choice.{Choice}
 use Rattle.ob_schema.specs.declared.field_type.FieldType.{FieldType}
 use Rattle.ob_schema.specs.declared.field_type.FieldType.TheVariants as type
 use Rattle.ob_codec.specs.Commands.{id_of_number}
-use Rattle.ob_codec.specs.JsonForm.{Tells, integer_of, key_of, number_value, spelled, text_of, text_value, true_value, value_from}
-use Rattle.ob_codec.specs.Steps.{◌>>=◌}
+use Rattle.ob_codec.specs.JsonForm.{IsJsonOf, integer_of, key_of, number_value, spelled, text_of, text_value, true_value, value_from}
+use Rattle.ob_base.specs.Chain.{◌>>=◌}
 use Rattle.ob_codec.specs.declared.fault.CodecFault.{CodecFault}
 use Rattle.ob_codec.specs.declared.fault.CodecFault.TheVariants as fault
 use Rattle.ob_codec.proofs.Keys.{key_found}
@@ -57,7 +57,7 @@ id_back id within =
 word_back : (r : Result (List ℕ) CodecFault) (text : List ℕ) → r ≡ Ok text → (r >>= λ word. Ok (value.Word word)) ≡ Ok (value.Word text)
 word_back r text e = ap (λ (s : Result (List ℕ) CodecFault). s >>= λ word. Ok (value.Word word)) e
 
-pub reads_back : (t : FieldType) (choices : List Choice) (v : Value) (d : Data) → is_list t ≡ false → IsValueOf t choices v → Tells v d → value_from t choices d ≡ Ok v
+pub reads_back : (t : FieldType) (choices : List Choice) (v : Value) (d : Data) → is_list t ≡ false → IsValueOf t choices v → IsJsonOf v d → value_from t choices d ≡ Ok v
 unfolding value_from number_value text_value
 reads_back type.Boolean choices (value.Bool b) d scalar holds told = ap (value_from type.Boolean choices) told ∙ flag_back choices b
 reads_back type.Integer choices (value.Int n) d scalar holds told =

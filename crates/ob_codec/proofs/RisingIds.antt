@@ -50,3 +50,8 @@ Rises-from_IsRising before (id ∷ ids) first rising within =
 pub first_id : (ids : List RecId) → All IsId ids → 0 < length ids → 0 < get_or (map (λ (id : RecId). id.0) ids) 0 0
 first_id [] within some = absurd (omega arith)
 first_id (id ∷ ids) within some = let here : IsId id = within 0 id (omega arith) in omega (arith, here.0)
+
+-- there are no more ids above this one than numbers up to the limit
+pub length-Rises : (before : ℕ) (ids : List RecId) → before ≤ 4294967295 → Rises before ids → before + length ids ≤ 4294967295
+length-Rises before [] small rises = omega arith
+length-Rises before (id ∷ ids) small rises = omega (arith, rises.0, length-Rises id.0 ids rises.1 rises.2)

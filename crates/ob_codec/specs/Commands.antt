@@ -1,13 +1,16 @@
--- The forms of commands in JSON. The first fault is told: of the elements from the left,
--- then an element that is missing.
+-- The reading of commands from JSON, and where its first fault is told: of the elements
+-- from the left, then an element that is missing. Which JSON is a command stands in
+-- CommandForms.
 use Rattle.std.specs.Prelude.{ℕ, ◌==◌, ◌&&◌, nat_le, nat_lt, List, [], ◌∷◌, length, drop, slice_get, if◌then◌else◌, Bool, true, false, Result, Ok, Err, ⊤}
 use Rattle.std.specs.Option.{option_map_or}
+use Rattle.ob_base.specs.Chain.{◌>>=◌}
+use Rattle.ob_base.specs.Limits.{max_id}
 use Rattle.ob_base.specs.declared.id.RecId.{RecId}
 use Rattle.ob_codec.specs.declared.fault.CodecFault.{CodecFault}
 use Rattle.ob_codec.specs.declared.fault.CodecFault.TheVariants as fault
 use Rattle.ob_codec.specs.Input.{Order, create, update, delete, unlink, link, clear, set}
-use Rattle.ob_codec.specs.Steps.{◌>>=◌, each_from, place_of}
-use Rattle.serde_json.specs.Data.{Data, null, boolean, number, string, array, object, Items, no_items, item, Num, unsigned, negative, float}
+use Rattle.ob_codec.specs.Steps.{each_from, place_of}
+use Rattle.serde_json.specs.Data.{Data, number, array, object, Items, no_items, item, Num, unsigned, negative, float}
 
 -- the items of a JSON list
 abbrev pub listed : Items → List Data
@@ -16,35 +19,24 @@ listed (item d items) = d ∷ listed items
 
 -- an id of 1 to 4,294,967,295, at the place of these numbers
 unfoldable pub id_of_number : List ℕ → Num → Result RecId CodecFault
-id_of_number at (unsigned n) = if nat_le 1 n && nat_le n 4294967295 then Ok (record { 0 = n }) else Err (fault.Range (place_of at))
+id_of_number at (unsigned n) = if nat_le 1 n && nat_le n max_id then Ok (record { 0 = n }) else Err (fault.Range (place_of at))
 id_of_number at (negative _) = Err (fault.Range (place_of at))
 id_of_number at (float _) = Err (fault.Shape (place_of at))
 
 -- an id at the place of these numbers
-unfoldable pub id_at : List ℕ → Data → Result RecId CodecFault
-id_at at null = Err (fault.Shape (place_of at))
-id_at at (boolean _) = Err (fault.Shape (place_of at))
-id_at at (number n) = id_of_number at n
-id_at at (string _) = Err (fault.Shape (place_of at))
-id_at at (array _) = Err (fault.Shape (place_of at))
-id_at at (object _) = Err (fault.Shape (place_of at))
+unfoldable pub id_of_json : List ℕ → Data → Result RecId CodecFault
+id_of_json at (number n) = id_of_number at n
+id_of_json at _ = Err (fault.Shape (place_of at))
 
 -- no list and no object
 abbrev pub is_scalar : Data → Bool
-is_scalar null = true
-is_scalar (boolean _) = true
-is_scalar (number _) = true
-is_scalar (string _) = true
 is_scalar (array _) = false
 is_scalar (object _) = false
+is_scalar _ = true
 
 abbrev pub is_object : Data → Bool
-is_object null = false
-is_object (boolean _) = false
-is_object (number _) = false
-is_object (string _) = false
-is_object (array _) = false
 is_object (object _) = true
+is_object _ = false
 
 -- the wrong kind of JSON at an element of a command
 abbrev pub misshapen : {A : Type 0} → ℕ → ℕ → Result A CodecFault
@@ -72,16 +64,12 @@ values_in command k elements = element command k elements >>= λ d. if is_object
 
 -- an element that is an id
 unfoldable pub id_in : ℕ → ℕ → List Data → Result RecId CodecFault
-id_in command k elements = element command k elements >>= id_at (command ∷ k ∷ [])
+id_in command k elements = element command k elements >>= id_of_json (command ∷ k ∷ [])
 
 -- the ids of a list
 unfoldable pub ids_of : ℕ → ℕ → Data → Result (List RecId) CodecFault
-ids_of command k null = misshapen command k
-ids_of command k (boolean _) = misshapen command k
-ids_of command k (number _) = misshapen command k
-ids_of command k (string _) = misshapen command k
-ids_of command k (array items) = each_from (λ n. id_at (command ∷ k ∷ n ∷ [])) 0 (listed items)
-ids_of command k (object _) = misshapen command k
+ids_of command k (array items) = each_from (λ n. id_of_json (command ∷ k ∷ n ∷ [])) 0 (listed items)
+ids_of command k _ = misshapen command k
 
 -- an element that is a list of ids
 unfoldable pub ids_in : ℕ → ℕ → List Data → Result (List RecId) CodecFault
@@ -135,12 +123,8 @@ code_of_number command (float _) = misshapen command 0
 
 -- the code of a command
 unfoldable pub code_of : ℕ → Data → Result ℕ CodecFault
-code_of command null = misshapen command 0
-code_of command (boolean _) = misshapen command 0
 code_of command (number n) = code_of_number command n
-code_of command (string _) = misshapen command 0
-code_of command (array _) = misshapen command 0
-code_of command (object _) = misshapen command 0
+code_of command _ = misshapen command 0
 
 -- a command by its code
 unfoldable pub order_by : ℕ → ℕ → List Data → Result Order CodecFault
@@ -163,18 +147,10 @@ order_from command elements = do
 
 -- the command at this number of a list
 unfoldable pub order_at : ℕ → Data → Result Order CodecFault
-order_at command null = Err (fault.Shape (place_of (command ∷ [])))
-order_at command (boolean _) = Err (fault.Shape (place_of (command ∷ [])))
-order_at command (number _) = Err (fault.Shape (place_of (command ∷ [])))
-order_at command (string _) = Err (fault.Shape (place_of (command ∷ [])))
 order_at command (array items) = order_from command (listed items)
-order_at command (object _) = Err (fault.Shape (place_of (command ∷ [])))
+order_at command _ = Err (fault.Shape (place_of (command ∷ [])))
 
 -- the commands of a list's value
 unfoldable pub orders_of : Data → Result (List Order) CodecFault
-orders_of null = Err (fault.Shape [])
-orders_of (boolean _) = Err (fault.Shape [])
-orders_of (number _) = Err (fault.Shape [])
-orders_of (string _) = Err (fault.Shape [])
 orders_of (array items) = each_from order_at 0 (listed items)
-orders_of (object _) = Err (fault.Shape [])
+orders_of _ = Err (fault.Shape [])

@@ -1,11 +1,8 @@
 -- What JSON gives a field, seen by its data.
-use Rattle.std.specs.Prelude.{List, map}
+use Rattle.std.specs.Prelude.{List}
 use Rattle.ob_base.specs.declared.id.RecId.{RecId}
-use Rattle.ob_base.specs.declared.value.Value.{Value}
 use Rattle.ob_codec.specs.declared.input.Command.{Command}
 use Rattle.ob_codec.specs.declared.input.Command.TheVariants as command
-use Rattle.ob_codec.specs.declared.input.Input.{Input}
-use Rattle.ob_codec.specs.declared.input.Input.TheVariants as input
 use Rattle.serde_json.specs.Data.{Data}
 use Rattle.serde_json.specs.View.{view}
 
@@ -19,11 +16,6 @@ pub data Order : Type 0 where
   clear : Order
   set : List RecId → Order
 
--- a value, or commands from the left
-pub data Given : Type 0 where
-  plain : Value → Given
-  orders : List Order → Given
-
 -- a command, its JSON seen as its data
 abbrev pub order_of : Command → Order
 order_of (command.Create json) = create (view json)
@@ -33,8 +25,3 @@ order_of (command.Unlink id) = unlink id
 order_of (command.Link id) = link id
 order_of command.Clear = clear
 order_of (command.Set ids) = set ids
-
--- what was given, its JSON seen as its data
-abbrev pub given_of : Input → Given
-given_of (input.Plain v) = plain v
-given_of (input.Commands commands) = orders (map order_of commands)

@@ -1,3 +1,4 @@
+pub mod CommandForms
 pub mod Commands
 pub mod Held
 pub mod Input

@@ -8,15 +8,13 @@ use Rattle.ob_codec.specs.KeptForm.{Field, body_form}
 -- one value for each field, in their order, that the field may hold
 abbrev pub HoldAll : List FieldInfo → List Value → Type 0
 HoldAll [] [] = ⊤
-HoldAll [] (v ∷ values) = ⊥
-HoldAll (field ∷ fields) [] = ⊥
 HoldAll (field ∷ fields) (v ∷ values) = Holds field v × HoldAll fields values
+HoldAll _ _ = ⊥
 
 -- each field's name with its value
 abbrev pub named : List FieldInfo → List Value → List Field
-named [] values = []
-named (field ∷ fields) [] = []
 named (field ∷ fields) (v ∷ values) = record { name = field.name; value = v } ∷ named fields values
+named _ _ = []
 
 -- the body of a row that has these values in these fields
 abbrev pub row_form : List FieldInfo → List Value → List ℕ

@@ -2,15 +2,10 @@
 use Rattle.std.specs.Prelude.{◌≡◌, ◌≢◌, ℕ, ◌+◌, List, [], ◌∷◌, map, Result, Ok, Err}
 use Rattle.ob_base.specs.declared.place.PathStep.{PathStep}
 use Rattle.ob_base.specs.declared.place.PathStep.TheVariants.{Item}
+use Rattle.ob_base.specs.Chain.{◌>>=◌}
 use Rattle.ob_codec.specs.declared.fault.CodecFault.{CodecFault}
 use Rattle.ob_codec.specs.declared.fault.CodecFault.TheVariants.{NoMemory}
 use Rattle.serde_json.specs.Data.{Data}
-
--- the next step, where this one gave something
-infixl 10 ◌>>=◌
-abbrev pub ◌>>=◌ : {A B : Type 0} → Result A CodecFault → (A → Result B CodecFault) → Result B CodecFault
-Ok x >>= f = f x
-Err e >>= f = Err e
 
 -- what each item gives by its number, the first one at this number
 abbrev pub each_from : {A : Type 0} → (ℕ → Data → Result A CodecFault) → ℕ → List Data → Result (List A) CodecFault
@@ -28,8 +23,8 @@ place_of numbers = map Item numbers
 abbrev pub IsFault : CodecFault → CodecFault → Type 0
 IsFault fault wanted = fault ≢ NoMemory → fault ≡ wanted
 
--- An answer gives what is wanted of it, seen by this view; or the wanted fault, or want
--- of memory.
-abbrev pub Gives : {A B : Type 0} → (A → B) → Result A CodecFault → Result B CodecFault → Type 0
-Gives seen (Ok x) wanted = wanted ≡ Ok (seen x)
-Gives seen (Err fault) wanted = fault ≢ NoMemory → wanted ≡ Err fault
+-- An answer, seen by this view, is what is wanted of it; or it is the wanted fault, or
+-- want of memory.
+abbrev pub IsCodecResult : {A B : Type 0} → (A → B) → Result A CodecFault → Result B CodecFault → Type 0
+IsCodecResult seen (Ok x) wanted = wanted ≡ Ok (seen x)
+IsCodecResult seen (Err fault) wanted = fault ≢ NoMemory → wanted ≡ Err fault

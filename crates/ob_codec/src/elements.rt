@@ -5,9 +5,9 @@
 ghost use Rattle.std.specs.Prelude.{◌∷◌, [], IfOk, map};
 ghost use Rattle.serde_json.specs.View.{view, number_view};
 ghost use Rattle.ob_base.specs.Ids.{IsId};
-ghost use Rattle.ob_codec.specs.Commands.{element, ended, id_at, id_in, id_of_number, ids_in, ids_of};
+ghost use Rattle.ob_codec.specs.Commands.{element, ended, id_in, id_of_json, id_of_number, ids_in, ids_of};
 ghost use Rattle.ob_codec.specs.Commands.{ignored, passed_in, values_in};
-ghost use Rattle.ob_codec.specs.Steps.{Gives, each_from};
+ghost use Rattle.ob_codec.specs.Steps.{IsCodecResult, each_from};
 
 use crate::fault::CodecFault;
 use crate::input::Json;
@@ -25,7 +25,7 @@ pub(crate) fn element(
     k: usize,
     elements: &[Json],
 ) -> Result<&Json, CodecFault>
-    ensures { Gives (λ json. view json.now) result (element command k (map view elements.now)) }
+    ensures { IsCodecResult (λ json. view json.now) result (element command k (map view elements.now)) }
 {
     match elements.get(k) {
         Some(json) => Ok(json),
@@ -41,7 +41,7 @@ pub(crate) fn ignored(
     k: usize,
     json: &Json,
 ) -> Result<(), CodecFault>
-    ensures { Gives (λ _. tt) result (ignored command k (view json.now)) }
+    ensures { IsCodecResult (λ _. tt) result (ignored command k (view json.now)) }
 {
     match json {
         Json::Array(_) | Json::Object(_) => Err(shape(alloc, &[command, k])),
@@ -57,7 +57,7 @@ pub(crate) fn passed_in(
     k: usize,
     elements: &[Json],
 ) -> Result<(), CodecFault>
-    ensures { Gives (λ _. tt) result (passed_in command k (map view elements.now)) }
+    ensures { IsCodecResult (λ _. tt) result (passed_in command k (map view elements.now)) }
 {
     ignored(alloc, command, k, element(alloc, command, k, elements)?)
 }
@@ -70,7 +70,7 @@ pub(crate) fn values_in(
     k: usize,
     elements: &[Json],
 ) -> Result<&Json, CodecFault>
-    ensures { Gives (λ json. view json.now) result (values_in command k (map view elements.now)) }
+    ensures { IsCodecResult (λ json. view json.now) result (values_in command k (map view elements.now)) }
 {
     let json = element(alloc, command, k, elements)?;
     match json {
@@ -87,9 +87,9 @@ pub(crate) fn id_in(
     k: usize,
     elements: &[Json],
 ) -> Result<RecId, CodecFault>
-    ensures { Gives (λ id. id) result (id_in command k (map view elements.now)) }
+    ensures { IsCodecResult (λ id. id) result (id_in command k (map view elements.now)) }
 {
-    id_at(alloc, &[command, k], element(alloc, command, k, elements)?)
+    id_of_json(alloc, &[command, k], element(alloc, command, k, elements)?)
 }
 
 /// An element that is a list of ids.
@@ -100,7 +100,7 @@ pub(crate) fn ids_in(
     k: usize,
     elements: &[Json],
 ) -> Result<Sequence<RecId>, CodecFault>
-    ensures { Gives (λ ids. ids) result (ids_in command k (map view elements.now)) }
+    ensures { IsCodecResult (λ ids. ids) result (ids_in command k (map view elements.now)) }
 {
     ids_of(alloc, command, k, element(alloc, command, k, elements)?)
 }
@@ -113,7 +113,7 @@ fn ids_of(
     k: usize,
     json: &Json,
 ) -> Result<Sequence<RecId>, CodecFault>
-    ensures { Gives (λ ids. ids) result (ids_of command k (view json.now)) }
+    ensures { IsCodecResult (λ ids. ids) result (ids_of command k (view json.now)) }
 {
     match json {
         Json::Array(items) => ids_from(alloc, command, k, items.as_slice()),
@@ -128,12 +128,12 @@ fn ids_from(
     k: usize,
     items: &[Json],
 ) -> Result<Sequence<RecId>, CodecFault>
-    ensures { Gives (λ ids. ids) result
-        (each_from (λ n. id_at (command ∷ k ∷ n ∷ [])) 0 (map view items.now)) }
+    ensures { IsCodecResult (λ ids. ids) result
+        (each_from (λ n. id_of_json (command ∷ k ∷ n ∷ [])) 0 (map view items.now)) }
 {
     let mut ids = Sequence::new(alloc);
     for (number, item) in items.iter().enumerate() {
-        ids.push(id_at(alloc, &[command, k, number], item)?)?;
+        ids.push(id_of_json(alloc, &[command, k, number], item)?)?;
     }
     Ok(ids)
 }
@@ -146,7 +146,7 @@ pub(crate) fn ended(
     k: usize,
     elements: &[Json],
 ) -> Result<(), CodecFault>
-    ensures { Gives (λ _. tt) result (ended command k (map view elements.now)) }
+    ensures { IsCodecResult (λ _. tt) result (ended command k (map view elements.now)) }
 {
     if k < elements.len() {
         return Err(shape(alloc, &[command, k]));
@@ -155,9 +155,9 @@ pub(crate) fn ended(
 }
 
 /// An id at the item of these numbers.
-#[tactic(auto, unfolding(crate::specs::Commands::id_at))]
-fn id_at(alloc: Global, numbers: &[usize], json: &Json) -> Result<RecId, CodecFault>
-    ensures { Gives (λ id. id) result (id_at numbers.now (view json.now)) }
+#[tactic(auto, unfolding(crate::specs::Commands::id_of_json))]
+fn id_of_json(alloc: Global, numbers: &[usize], json: &Json) -> Result<RecId, CodecFault>
+    ensures { IsCodecResult (λ id. id) result (id_of_json numbers.now (view json.now)) }
 {
     match json {
         Json::Number(number) => id_of_number(alloc, numbers, number),
@@ -172,7 +172,7 @@ pub(crate) fn id_of_number(
     numbers: &[usize],
     number: &Number,
 ) -> Result<RecId, CodecFault>
-    ensures form { Gives (λ id. id) result (id_of_number numbers.now (number_view number.now)) }
+    ensures form { IsCodecResult (λ id. id) result (id_of_number numbers.now (number_view number.now)) }
     ensures holds { IfOk result IsId }
 {
     match number.as_u64() {

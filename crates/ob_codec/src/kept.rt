@@ -8,9 +8,9 @@ ghost use Rattle.ob_schema.specs.declared.info.FieldInfo.{FieldInfo};
 ghost use Rattle.ob_schema.specs.Fields.{is_kept};
 ghost use Rattle.ob_schema.specs.Models.{HasModel, kept_at};
 ghost use Rattle.ob_codec.specs.KeptForm.{AreFields, Field, body_form, field_form};
-ghost use Rattle.ob_codec.specs.KeptReading.{Gives};
+ghost use Rattle.ob_codec.specs.KeptReading.{IsRowResult};
 ghost use Rattle.ob_codec.specs.RowForm.{HoldAll, named, row_form};
-ghost use Rattle.ob_codec.specs.RowReading.{row_at, values_at};
+ghost use Rattle.ob_codec.specs.RowReading.{body_row, body_values};
 
 use crate::fault::RowFault;
 use crate::kept_reading::fields_of;
@@ -56,15 +56,15 @@ pub fn row_of(
     row_of_fields(alloc, schema.fields(model), bytes)
 }
 
-/// No two lists of values of the same fields have one body, whatever the fields are: each
-/// value has one form, and no form two values.
+/// Lists of values of the same fields that have one body are equal, whatever the fields
+/// are.
 pub fn one_row()
     ensures { (fields : List FieldInfo) (a b : List Value) →
         HoldAll fields a → HoldAll fields b → row_form fields a ≡ row_form fields b → a ≡ b }
 {}
 
-/// No body has two lists of fields, whatever their names and the kinds of their values: so
-/// no body of one model is a body of another, unless the two keep the same fields.
+/// Lists of named values that have one body are equal, whatever the names and the values
+/// are: so a body tells which fields its row has.
 pub fn one_body()
     ensures { (a b : List Field) → AreFields a → AreFields b → body_form a ≡ body_form b → a ≡ b }
 {}
@@ -107,13 +107,13 @@ fn put_fields(out: &mut Vec<u8>, fields: &[FieldInfo], values: &[Value]) -> Resu
 }
 
 /// The values of the kept ones of these fields, from the whole of a body.
-#[tactic(auto, unfolding(crate::specs::RowReading::row_at))]
+#[tactic(auto, unfolding(crate::specs::RowReading::body_row))]
 pub(crate) fn row_of_fields(
     alloc: Global,
     fields: &[FieldInfo],
     body: &[u8],
 ) -> Result<Sequence<Value>, RowFault>
-    ensures read { Gives (λ values. values) result (row_at (filter is_kept fields.now) body.now) }
+    ensures read { IsRowResult (λ values. values) result (body_row (filter is_kept fields.now) body.now) }
     ensures holds { IfOk result (λ values. HoldAll (filter is_kept fields.now) values) }
 {
     let rest = fields_of(kept_count(fields), body)?;
@@ -128,7 +128,7 @@ fn kept_count(fields: &[FieldInfo]) -> usize
 
 /// The values of the kept ones of these fields one after the other, and nothing after them.
 fn values_of(alloc: Global, fields: &[FieldInfo], bytes: &[u8]) -> Result<Sequence<Value>, RowFault>
-    ensures { Gives (λ values. values) result (values_at (filter is_kept fields.now) bytes.now) }
+    ensures { IsRowResult (λ values. values) result (body_values (filter is_kept fields.now) bytes.now) }
 {
     let mut values = Sequence::new(alloc);
     let mut left = bytes;

@@ -4,16 +4,16 @@
 
 ghost use Rattle.std.specs.Prelude.{◌≡◌};
 ghost use Rattle.std.specs.Int.{w16, w32, w64};
-ghost use Rattle.ob_codec.specs.KeptReading.{Gives, first_byte, part_at, front_at, number_at, fields_at, named_at, counted_at, text_at};
+ghost use Rattle.ob_codec.specs.KeptReading.{IsRowResult, first_byte, body_part, body_front, body_number, body_fields, body_named, body_counted, body_text};
 
 use crate::fault::RowFault;
 use crate::kept_form::VERSION;
 use std::str;
 
 /// The fields of a body of this version that has so many of them.
-#[tactic(auto, unfolding(crate::specs::KeptReading::fields_at))]
+#[tactic(auto, unfolding(crate::specs::KeptReading::body_fields))]
 pub(crate) fn fields_of(count: usize, body: &[u8]) -> Result<&[u8], RowFault>
-    ensures { Gives (λ x. x.now) result (fields_at count body.now) }
+    ensures { IsRowResult (λ x. x.now) result (body_fields count body.now) }
 {
     let (version, rest) = byte_of(body)?;
     let (found, rest) = u16_of(rest)?;
@@ -25,9 +25,9 @@ pub(crate) fn fields_of(count: usize, body: &[u8]) -> Result<&[u8], RowFault>
 }
 
 /// The tag of a field of this name, and its content.
-#[tactic(auto, unfolding(crate::specs::KeptReading::named_at))]
+#[tactic(auto, unfolding(crate::specs::KeptReading::body_named))]
 pub(crate) fn named_field<'a>(name: &[u8], bytes: &'a [u8]) -> Result<(u8, &'a [u8]), RowFault>
-    ensures { Gives (λ x. (x.0, x.1.now)) result (named_at name.now bytes.now) }
+    ensures { IsRowResult (λ x. (x.0, x.1.now)) result (body_named name.now bytes.now) }
 {
     let (len, rest) = byte_of(bytes)?;
     let rest = after(name, rest)?;
@@ -39,9 +39,9 @@ pub(crate) fn named_field<'a>(name: &[u8], bytes: &'a [u8]) -> Result<(u8, &'a [
 }
 
 /// Bytes after their length in four bytes, which is at most `limit`.
-#[tactic(auto, unfolding(crate::specs::KeptReading::counted_at))]
+#[tactic(auto, unfolding(crate::specs::KeptReading::body_counted))]
 pub(crate) fn counted_of(limit: usize, bytes: &[u8]) -> Result<(&[u8], &[u8]), RowFault>
-    ensures { Gives (λ x. (x.0.now, x.1.now)) result (counted_at limit bytes.now) }
+    ensures { IsRowResult (λ x. (x.0.now, x.1.now)) result (body_counted limit bytes.now) }
 {
     let (len, rest) = u32_of(bytes)?;
     let len = len as usize;
@@ -52,9 +52,9 @@ pub(crate) fn counted_of(limit: usize, bytes: &[u8]) -> Result<(&[u8], &[u8]), R
 }
 
 /// A text of at most `limit` bytes: its length in four bytes, and UTF-8.
-#[tactic(auto, unfolding(crate::specs::KeptReading::text_at))]
+#[tactic(auto, unfolding(crate::specs::KeptReading::body_text))]
 pub(crate) fn text_of(limit: usize, bytes: &[u8]) -> Result<(&str, &[u8]), RowFault>
-    ensures { Gives (λ x. (x.0.now, x.1.now)) result (text_at limit bytes.now) }
+    ensures { IsRowResult (λ x. (x.0.now, x.1.now)) result (body_text limit bytes.now) }
 {
     let (text, rest) = counted_of(limit, bytes)?;
     match str::from_utf8(text) {
@@ -64,7 +64,7 @@ pub(crate) fn text_of(limit: usize, bytes: &[u8]) -> Result<(&str, &[u8]), RowFa
 }
 
 pub(crate) fn byte_of(bytes: &[u8]) -> Result<(u8, &[u8]), RowFault>
-    ensures { Gives (λ x. (x.0, x.1.now)) result (first_byte bytes.now) }
+    ensures { IsRowResult (λ x. (x.0, x.1.now)) result (first_byte bytes.now) }
 {
     match bytes {
         [] => Err(RowFault::Bad),
@@ -74,34 +74,34 @@ pub(crate) fn byte_of(bytes: &[u8]) -> Result<(u8, &[u8]), RowFault>
 
 /// The next `len` bytes.
 fn part_of(len: usize, bytes: &[u8]) -> Result<(&[u8], &[u8]), RowFault>
-    ensures { Gives (λ x. (x.0.now, x.1.now)) result (part_at len bytes.now) }
+    ensures { IsRowResult (λ x. (x.0.now, x.1.now)) result (body_part len bytes.now) }
 {
     bytes.split_at_checked(len).ok_or(RowFault::Bad)
 }
 
 /// The bytes after this front.
 fn after<'a>(front: &[u8], bytes: &'a [u8]) -> Result<&'a [u8], RowFault>
-    ensures { Gives (λ x. x.now) result (front_at front.now bytes.now) }
+    ensures { IsRowResult (λ x. x.now) result (body_front front.now bytes.now) }
 {
     bytes.strip_prefix(front).ok_or(RowFault::Bad)
 }
 
 fn u16_of(bytes: &[u8]) -> Result<(u16, &[u8]), RowFault>
-    ensures { Gives (λ x. (x.0, x.1.now)) result (number_at w16 bytes.now) }
+    ensures { IsRowResult (λ x. (x.0, x.1.now)) result (body_number w16 bytes.now) }
 {
     let (front, rest) = bytes.split_first_chunk::<2>().ok_or(RowFault::Bad)?;
     Ok((u16::from_be_bytes(*front), rest))
 }
 
 pub(crate) fn u32_of(bytes: &[u8]) -> Result<(u32, &[u8]), RowFault>
-    ensures { Gives (λ x. (x.0, x.1.now)) result (number_at w32 bytes.now) }
+    ensures { IsRowResult (λ x. (x.0, x.1.now)) result (body_number w32 bytes.now) }
 {
     let (front, rest) = bytes.split_first_chunk::<4>().ok_or(RowFault::Bad)?;
     Ok((u32::from_be_bytes(*front), rest))
 }
 
 pub(crate) fn u64_of(bytes: &[u8]) -> Result<(u64, &[u8]), RowFault>
-    ensures { Gives (λ x. (x.0, x.1.now)) result (number_at w64 bytes.now) }
+    ensures { IsRowResult (λ x. (x.0, x.1.now)) result (body_number w64 bytes.now) }
 {
     let (front, rest) = bytes.split_first_chunk::<8>().ok_or(RowFault::Bad)?;
     Ok((u64::from_be_bytes(*front), rest))

@@ -6,9 +6,9 @@ ghost use Rattle.std.specs.Prelude.{◌≡◌, IfSome, is_some};
 ghost use Rattle.std.specs.List.{list_any};
 ghost use Rattle.std.specs.Str.{bytes_eq};
 ghost use Rattle.ob_schema.specs.Values.{keys_of};
-ghost use Rattle.ob_codec.specs.KeptReading.{Gives};
-ghost use Rattle.ob_codec.specs.RowReading.{field_at, tagged_at};
-ghost use Rattle.ob_codec.specs.ValueReading.{content_at, flag_at, integer_at, word_at, key_at, day_at, moment_at, id_at, row_id_at, ids_at, rows_at};
+ghost use Rattle.ob_codec.specs.KeptReading.{IsRowResult};
+ghost use Rattle.ob_codec.specs.RowReading.{body_field, body_tagged};
+ghost use Rattle.ob_codec.specs.ValueReading.{body_content, body_flag, body_integer, body_word, body_key, body_day, body_moment, body_id, body_row_id, body_ids, body_rows};
 
 use crate::fault::RowFault;
 use crate::kept_form::{UNSET, has_unset, tag_of};
@@ -21,28 +21,28 @@ use ob_schema::{Choice, FieldInfo, FieldType};
 use std::alloc::Global;
 
 /// The value of a field, under the field's name.
-#[tactic(auto, unfolding(crate::specs::RowReading::field_at))]
+#[tactic(auto, unfolding(crate::specs::RowReading::body_field))]
 pub(crate) fn field_value<'a>(
     alloc: Global,
     field: &FieldInfo,
     bytes: &'a [u8],
 ) -> Result<(Value, &'a [u8]), RowFault>
-    ensures { Gives (λ x. (x.0, x.1.now)) result (field_at field.now bytes.now) }
+    ensures { IsRowResult (λ x. (x.0, x.1.now)) result (body_field field.now bytes.now) }
 {
     let (tag, content) = named_field(field.name.as_str().as_bytes(), bytes)?;
     tagged_value(alloc, field, tag, content)
 }
 
 /// The value after its tag.
-#[tactic(auto, unfolding(crate::specs::RowReading::tagged_at))]
+#[tactic(auto, unfolding(crate::specs::RowReading::body_tagged))]
 fn tagged_value<'a>(
     alloc: Global,
     field: &FieldInfo,
     tag: u8,
     bytes: &'a [u8],
 ) -> Result<(Value, &'a [u8]), RowFault>
-    ensures { Gives (λ x. (x.0, x.1.now)) result
-        (tagged_at field.now.field_type field.now.selection tag bytes.now) }
+    ensures { IsRowResult (λ x. (x.0, x.1.now)) result
+        (body_tagged field.now.field_type field.now.selection tag bytes.now) }
 {
     if tag == UNSET {
         if has_unset(field.field_type) {
@@ -63,7 +63,7 @@ fn content_value<'a>(
     choices: &[Choice],
     bytes: &'a [u8],
 ) -> Result<(Value, &'a [u8]), RowFault>
-    ensures { Gives (λ x. (x.0, x.1.now)) result (content_at field_type choices.now bytes.now) }
+    ensures { IsRowResult (λ x. (x.0, x.1.now)) result (body_content field_type choices.now bytes.now) }
 {
     match field_type {
         FieldType::Boolean => flag_value(bytes),
@@ -74,13 +74,14 @@ fn content_value<'a>(
         FieldType::Datetime => moment_value(bytes),
         FieldType::Selection => key_value(alloc, choices, bytes),
         FieldType::Many2one => row_value(bytes),
-        FieldType::One2many | FieldType::Many2many => rows_value(alloc, bytes),
+        FieldType::One2many => rows_value(alloc, MAX_ID as usize, bytes),
+        FieldType::Many2many => rows_value(alloc, MAX_TARGETS, bytes),
     }
 }
 
-#[tactic(auto, unfolding(crate::specs::ValueReading::flag_at))]
+#[tactic(auto, unfolding(crate::specs::ValueReading::body_flag))]
 fn flag_value(bytes: &[u8]) -> Result<(Value, &[u8]), RowFault>
-    ensures { Gives (λ x. (x.0, x.1.now)) result (flag_at bytes.now) }
+    ensures { IsRowResult (λ x. (x.0, x.1.now)) result (body_flag bytes.now) }
 {
     let (byte, rest) = byte_of(bytes)?;
     match byte {
@@ -90,18 +91,18 @@ fn flag_value(bytes: &[u8]) -> Result<(Value, &[u8]), RowFault>
     }
 }
 
-#[tactic(auto, unfolding(crate::specs::ValueReading::integer_at))]
+#[tactic(auto, unfolding(crate::specs::ValueReading::body_integer))]
 fn integer_value(bytes: &[u8]) -> Result<(Value, &[u8]), RowFault>
-    ensures { Gives (λ x. (x.0, x.1.now)) result (integer_at bytes.now) }
+    ensures { IsRowResult (λ x. (x.0, x.1.now)) result (body_integer bytes.now) }
 {
     let (number, rest) = u64_of(bytes)?;
     Ok((Value::Int(number.cast_signed()), rest))
 }
 
 /// A text of at most `limit` bytes.
-#[tactic(auto, unfolding(crate::specs::ValueReading::word_at))]
+#[tactic(auto, unfolding(crate::specs::ValueReading::body_word))]
 fn word_value(alloc: Global, limit: usize, bytes: &[u8]) -> Result<(Value, &[u8]), RowFault>
-    ensures { Gives (λ x. (x.0, x.1.now)) result (word_at limit bytes.now) }
+    ensures { IsRowResult (λ x. (x.0, x.1.now)) result (body_word limit bytes.now) }
 {
     match text_of(limit, bytes) {
         Ok((text, rest)) => Ok((Value::Word(Word::from_text(alloc, text)?), rest)),
@@ -110,13 +111,13 @@ fn word_value(alloc: Global, limit: usize, bytes: &[u8]) -> Result<(Value, &[u8]
 }
 
 /// One of the keys of a selection.
-#[tactic(auto, unfolding(crate::specs::ValueReading::key_at))]
+#[tactic(auto, unfolding(crate::specs::ValueReading::body_key))]
 fn key_value<'a>(
     alloc: Global,
     choices: &[Choice],
     bytes: &'a [u8],
 ) -> Result<(Value, &'a [u8]), RowFault>
-    ensures { Gives (λ x. (x.0, x.1.now)) result (key_at choices.now bytes.now) }
+    ensures { IsRowResult (λ x. (x.0, x.1.now)) result (body_key choices.now bytes.now) }
 {
     let (text, rest) = counted_of(MAX_CHAR_BYTES, bytes)?;
     match key_among(choices, text) {
@@ -138,9 +139,9 @@ fn key_among<'a>(choices: &'a [Choice], text: &[u8]) -> Option<&'a Word>
     None
 }
 
-#[tactic(auto, unfolding(crate::specs::ValueReading::day_at))]
+#[tactic(auto, unfolding(crate::specs::ValueReading::body_day))]
 fn day_value(bytes: &[u8]) -> Result<(Value, &[u8]), RowFault>
-    ensures { Gives (λ x. (x.0, x.1.now)) result (day_at bytes.now) }
+    ensures { IsRowResult (λ x. (x.0, x.1.now)) result (body_day bytes.now) }
 {
     let (number, rest) = u32_of(bytes)?;
     let day = number.cast_signed();
@@ -151,9 +152,9 @@ fn day_value(bytes: &[u8]) -> Result<(Value, &[u8]), RowFault>
     }
 }
 
-#[tactic(auto, unfolding(crate::specs::ValueReading::moment_at))]
+#[tactic(auto, unfolding(crate::specs::ValueReading::body_moment))]
 fn moment_value(bytes: &[u8]) -> Result<(Value, &[u8]), RowFault>
-    ensures { Gives (λ x. (x.0, x.1.now)) result (moment_at bytes.now) }
+    ensures { IsRowResult (λ x. (x.0, x.1.now)) result (body_moment bytes.now) }
 {
     let (number, rest) = u64_of(bytes)?;
     let moment = number.cast_signed();
@@ -164,21 +165,21 @@ fn moment_value(bytes: &[u8]) -> Result<(Value, &[u8]), RowFault>
     }
 }
 
-#[tactic(auto, unfolding(crate::specs::ValueReading::row_id_at))]
+#[tactic(auto, unfolding(crate::specs::ValueReading::body_row_id))]
 fn row_value(bytes: &[u8]) -> Result<(Value, &[u8]), RowFault>
-    ensures { Gives (λ x. (x.0, x.1.now)) result (row_id_at bytes.now) }
+    ensures { IsRowResult (λ x. (x.0, x.1.now)) result (body_row_id bytes.now) }
 {
     let (id, rest) = id_of(0, bytes)?;
     Ok((Value::Ref(id), rest))
 }
 
-/// The rows of a list: their count in four bytes, and ids that rise.
-#[tactic(auto, unfolding(crate::specs::ValueReading::rows_at))]
-fn rows_value(alloc: Global, bytes: &[u8]) -> Result<(Value, &[u8]), RowFault>
-    ensures { Gives (λ x. (x.0, x.1.now)) result (rows_at bytes.now) }
+/// The rows of a list, no more than `limit`: their count in four bytes, and ids that rise.
+#[tactic(auto, unfolding(crate::specs::ValueReading::body_rows))]
+fn rows_value(alloc: Global, limit: usize, bytes: &[u8]) -> Result<(Value, &[u8]), RowFault>
+    ensures { IsRowResult (λ x. (x.0, x.1.now)) result (body_rows limit bytes.now) }
 {
     let (count, rest) = u32_of(bytes)?;
-    if count as usize > MAX_TARGETS {
+    if count as usize > limit {
         return Err(RowFault::Bad);
     }
     let (ids, rest) = ids_of(alloc, count, rest)?;
@@ -187,7 +188,7 @@ fn rows_value(alloc: Global, bytes: &[u8]) -> Result<(Value, &[u8]), RowFault>
 
 /// So many ids that rise.
 fn ids_of(alloc: Global, count: u32, bytes: &[u8]) -> Result<(RefList, &[u8]), RowFault>
-    ensures { Gives (λ x. (x.0, x.1.now)) result (ids_at count 0 bytes.now) }
+    ensures { IsRowResult (λ x. (x.0, x.1.now)) result (body_ids count 0 bytes.now) }
 {
     let mut ids = RefList::new(alloc);
     let mut before = 0;
@@ -202,9 +203,9 @@ fn ids_of(alloc: Global, count: u32, bytes: &[u8]) -> Result<(RefList, &[u8]), R
 }
 
 /// An id above this one.
-#[tactic(auto, unfolding(crate::specs::ValueReading::id_at))]
+#[tactic(auto, unfolding(crate::specs::ValueReading::body_id))]
 fn id_of(before: u64, bytes: &[u8]) -> Result<(RecId, &[u8]), RowFault>
-    ensures { Gives (λ x. (x.0, x.1.now)) result (id_at before bytes.now) }
+    ensures { IsRowResult (λ x. (x.0, x.1.now)) result (body_id before bytes.now) }
 {
     let (number, rest) = u64_of(bytes)?;
     if before < number && number <= MAX_ID {

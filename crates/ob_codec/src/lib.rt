@@ -1,6 +1,5 @@
-//! The two forms of a field's values outside the program: JSON, as calls give and get
-//! them, and the bytes of a kept row. Each value has one kept form, and each form is
-//! read back.
+//! The two forms of a field's values outside the program: JSON, and the bytes of a kept
+//! row. A value has one JSON, and the values of a row have one body, which is read as them.
 //!
 //! Rooms: `json` (values from and to JSON), with `input` (what JSON gives a field),
 //! `scalars` (its values), `commands` and `elements` (the commands of x2many fields),
@@ -15,20 +14,18 @@ mod elements;
 mod fault;
 mod input;
 mod json;
-#[cfg(test)]
-mod json_tests;
 mod kept;
 mod kept_form;
 mod kept_reading;
-#[cfg(test)]
-mod kept_tests;
 mod kept_values;
 mod kept_writing;
 mod place;
 mod replies;
 mod scalars;
+#[cfg(test)]
+mod tests;
 
 pub use fault::{CodecFault, RowFault};
 pub use input::{Command, Input, Json};
-pub use json::{from_json, reads_back, to_json};
+pub use json::{command_forms, from_json, one_json, reads_back, to_json, type_and_limits};
 pub use kept::{one_body, one_row, row_bytes, row_of};

@@ -1,21 +1,20 @@
-//! Values as replies tell them in JSON. The forms stand in specs/JsonForm, in `Tells`.
+//! The JSON of values, as replies have it. The forms stand in specs/JsonForm, in `IsJsonOf`.
 
 ghost use Rattle.std.specs.Prelude.{◌≡◌, IfOk, map};
-ghost use Rattle.serde_json.specs.Data.{Items, array, number, unsigned};
 ghost use Rattle.serde_json.specs.View.{view};
-ghost use Rattle.ob_codec.specs.Commands.{listed};
+ghost use Rattle.ob_codec.specs.CommandForms.{id_json, list_json};
 ghost use Rattle.ob_codec.specs.Held.{HasText};
-ghost use Rattle.ob_codec.specs.JsonForm.{Tells};
+ghost use Rattle.ob_codec.specs.JsonForm.{IsJsonOf};
 
 use crate::input::Json;
 use ob_base::{NoMemory, RecId, Value};
 use ob_dates::{day_text, moment_text};
 use std::alloc::Global;
 
-/// The JSON in which a reply tells a value.
+/// The JSON of a value.
 pub(crate) fn value_json(alloc: Global, value: &Value) -> Result<Json, NoMemory>
     requires { HasText value.now }
-    ensures { IfOk result (λ json. Tells value.now (view json)) }
+    ensures { IfOk result (λ json. IsJsonOf value.now (view json)) }
 {
     match value {
         Value::Nil => Ok(Json::Bool(false)),
@@ -29,10 +28,9 @@ pub(crate) fn value_json(alloc: Global, value: &Value) -> Result<Json, NoMemory>
     }
 }
 
-/// The JSON in which a reply tells the ids of a list.
+/// The JSON of the ids of a list.
 fn ids_json(alloc: Global, ids: &[RecId]) -> Result<Json, NoMemory>
-    ensures { IfOk result (λ json. (items : Items) × (view json ≡ array items)
-        × (listed items ≡ map (λ id. number (unsigned id.0)) ids.now)) }
+    ensures { IfOk result (λ json. view json ≡ list_json (map id_json ids.now)) }
 {
     let mut items = Vec::new(alloc);
     for id in ids {

@@ -10,7 +10,7 @@ ghost use Rattle.ob_schema.specs.Values.{IsKey, IsText, IsValueOf, keys_of};
 ghost use Rattle.ob_schema.specs.declared.field_type.Choice.{Choice};
 ghost use Rattle.ob_codec.specs.JsonForm.{empty_value, integer_of, key_of, number_value, spelled};
 ghost use Rattle.ob_codec.specs.JsonForm.{text_of, text_value, true_value, value_from};
-ghost use Rattle.ob_codec.specs.Steps.{Gives};
+ghost use Rattle.ob_codec.specs.Steps.{IsCodecResult};
 
 use crate::elements::id_of_number;
 use crate::fault::CodecFault;
@@ -33,7 +33,7 @@ pub(crate) fn value_of(
     json: &Json,
 ) -> Result<Value, CodecFault>
     requires { is_list field_type ≡ false }
-    ensures form { Gives (λ v. v) result (value_from field_type choices.now (view json.now)) }
+    ensures form { IsCodecResult (λ v. v) result (value_from field_type choices.now (view json.now)) }
     ensures holds { IfOk result (IsValueOf field_type choices.now) }
 {
     match json {
@@ -59,7 +59,7 @@ fn empty_value(field_type: FieldType) -> Value
 /// What `true` stands for.
 #[tactic(auto, unfolding(crate::specs::JsonForm::true_value))]
 fn true_value(alloc: Global, field_type: FieldType) -> Result<Value, CodecFault>
-    ensures form { Gives (λ v. v) result (true_value field_type) }
+    ensures form { IsCodecResult (λ v. v) result (true_value field_type) }
     ensures holds { IfOk result (λ v. (choices : List Choice) → IsValueOf field_type choices v) }
 {
     match field_type {
@@ -71,7 +71,7 @@ fn true_value(alloc: Global, field_type: FieldType) -> Result<Value, CodecFault>
 /// What a number stands for.
 #[tactic(auto, unfolding(crate::specs::JsonForm::number_value))]
 fn number_value(alloc: Global, field_type: FieldType, number: &Number) -> Result<Value, CodecFault>
-    ensures form { Gives (λ v. v) result (number_value field_type (number_view number.now)) }
+    ensures form { IsCodecResult (λ v. v) result (number_value field_type (number_view number.now)) }
     ensures holds { IfOk result (λ v. (choices : List Choice) → IsValueOf field_type choices v) }
 {
     match field_type {
@@ -84,7 +84,7 @@ fn number_value(alloc: Global, field_type: FieldType, number: &Number) -> Result
 /// An integer of 64 bits.
 #[tactic(auto, unfolding(crate::specs::JsonForm::integer_of))]
 fn integer_of(alloc: Global, number: &Number) -> Result<i64, CodecFault>
-    ensures { Gives (λ z. z) result (integer_of (number_view number.now)) }
+    ensures { IsCodecResult (λ z. z) result (integer_of (number_view number.now)) }
 {
     match number.as_i64() {
         Some(integer) => Ok(integer),
@@ -101,7 +101,7 @@ fn text_value(
     choices: &[Choice],
     text: &str,
 ) -> Result<Value, CodecFault>
-    ensures form { Gives (λ v. v) result (text_value field_type choices.now text.now) }
+    ensures form { IsCodecResult (λ v. v) result (text_value field_type choices.now text.now) }
     ensures holds { IfOk result (IsValueOf field_type choices.now) }
 {
     match field_type {
@@ -117,7 +117,7 @@ fn text_value(
 /// A text of so many bytes at most.
 #[tactic(auto, unfolding(crate::specs::JsonForm::text_of))]
 fn text_of(alloc: Global, limit: usize, text: &str) -> Result<Word, CodecFault>
-    ensures form { Gives (λ word. word) result (text_of limit text.now) }
+    ensures form { IsCodecResult (λ word. word) result (text_of limit text.now) }
     ensures holds { IfOk result (IsText limit) }
 {
     if text.len() > limit {
@@ -129,7 +129,7 @@ fn text_of(alloc: Global, limit: usize, text: &str) -> Result<Word, CodecFault>
 /// One of the keys of a selection, within the limit of a char.
 #[tactic(auto, using(crate::proofs::Keys::contains_key), unfolding(crate::specs::JsonForm::key_of))]
 fn key_of(alloc: Global, choices: &[Choice], text: &str) -> Result<Word, CodecFault>
-    ensures form { Gives (λ word. word) result (key_of choices.now text.now) }
+    ensures form { IsCodecResult (λ word. word) result (key_of choices.now text.now) }
     ensures holds { IfOk result (IsKey choices.now) }
 {
     let key = text_of(alloc, MAX_CHAR_BYTES, text)?;
@@ -148,7 +148,7 @@ fn is_declared(choices: &[Choice], text: &str) -> bool
 
 /// What a text spells, if anything.
 fn spelled<T: Drop>(alloc: Global, read: Option<T>) -> Result<T, CodecFault>
-    ensures { Gives (λ x. x) result (spelled read) }
+    ensures { IsCodecResult (λ x. x) result (spelled read) }
 {
     match read {
         Some(value) => Ok(value),

@@ -3,6 +3,7 @@ use Rattle.std.specs.Prelude.{◌≤◌, ℕ, List, length, map, All, Contains, 
 use Rattle.std.specs.Int.{w64}
 use Rattle.std.specs.Str.{IsUtf8}
 use Rattle.ob_base.specs.Ids.{IsId}
+use Rattle.ob_base.specs.Limits.{max_targets}
 use Rattle.ob_base.specs.Rising.{IsRising}
 use Rattle.ob_base.specs.Times.{IsDay, IsMoment}
 use Rattle.ob_base.specs.declared.id.RecId.{RecId}
@@ -26,13 +27,12 @@ pub record IsKey (choices : List Choice) (text : List ℕ) : Type 0 where
   pub short : length text ≤ 8192
   pub declared : Contains (keys_of choices) text
 
--- ids that rise, 65,536 at most
+-- rows that a list may name: ids that rise
 pub record IsTargets (ids : List RecId) : Type 0 where
   pub rising : IsRising ids
   pub within : All IsId ids
-  pub few : length ids ≤ 65536
 
--- a value of the type, or unset where the type has it; a selection has one of the keys
+-- a value of the type, or unset where the type has it; a selection has one of the keys, a many2many at most 65,536 targets
 abbrev pub IsValueOf : FieldType → List Choice → Value → Type 0
 IsValueOf type.Boolean choices (value.Bool b) = ⊤
 IsValueOf type.Integer choices (value.Int n) = FitsSigned w64 n
@@ -49,5 +49,5 @@ IsValueOf type.Selection choices (value.Word text) = IsKey choices text
 IsValueOf type.Many2one choices value.Nil = ⊤
 IsValueOf type.Many2one choices (value.Ref id) = IsId id
 IsValueOf type.One2many choices (value.Refs ids) = IsTargets ids
-IsValueOf type.Many2many choices (value.Refs ids) = IsTargets ids
+IsValueOf type.Many2many choices (value.Refs ids) = IsTargets ids × (length ids ≤ max_targets)
 IsValueOf _ _ _ = ⊥

@@ -2,23 +2,23 @@ use Rattle.std.proofs.Common.{◌≡◌, ℕ, Bool, false, cond, List, Some, Non
 use Rattle.std.specs.Str.{IsUtf8, is_utf8}
 use Rattle.std.proofs.lemmas.Bool.{cases_Bool}
 use Rattle.std.proofs.lemmas.Str.{IsUtf8-from_is_utf8, is_utf8-from_IsUtf8}
-use Rattle.ob_codec.specs.KeptReading.{counted_at, text_at}
+use Rattle.ob_codec.specs.KeptReading.{body_counted, body_text}
 use Rattle.ob_codec.proofs.KeptParts.{bind_at}
 use Rattle.ob_codec.proofs.kept_reading.text_of.Goals as goal
 
 -- bytes that are a text
-found : (limit : ℕ) (bytes text rest : List ℕ) → counted_at limit bytes ≡ Some (text, rest) → IsUtf8 text → text_at limit bytes ≡ Some (text, rest)
-unfolding text_at
+found : (limit : ℕ) (bytes text rest : List ℕ) → body_counted limit bytes ≡ Some (text, rest) → IsUtf8 text → body_text limit bytes ≡ Some (text, rest)
+unfolding body_text
 found limit bytes text rest counted utf8 =
-    bind_at (counted_at limit bytes) _ (text, rest) counted
+    bind_at (body_counted limit bytes) _ (text, rest) counted
     ∙ ap (λ (b : Bool). cond b (Some (text, rest)) None) (is_utf8-from_IsUtf8 text utf8)
 
 -- bytes that are none
-refused : (limit : ℕ) (bytes text rest : List ℕ) → counted_at limit bytes ≡ Some (text, rest) → (IsUtf8 text → ⊥) → text_at limit bytes ≡ None
-unfolding text_at
+refused : (limit : ℕ) (bytes text rest : List ℕ) → body_counted limit bytes ≡ Some (text, rest) → (IsUtf8 text → ⊥) → body_text limit bytes ≡ None
+unfolding body_text
 refused limit bytes text rest counted fault =
     let bad : is_utf8 text ≡ false = elim (cases_Bool (is_utf8 text)) [ inl good ↦ absurd (fault (IsUtf8-from_is_utf8 text good)) | inr other ↦ other ] in
-    bind_at (counted_at limit bytes) _ (text, rest) counted
+    bind_at (body_counted limit bytes) _ (text, rest) counted
     ∙ ap (λ (b : Bool). cond b (Some (text, rest)) None) bad
 
 pub returns-in-Ok : goal.returns-in-Ok

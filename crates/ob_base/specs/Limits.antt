@@ -1,0 +1,46 @@
+-- Every bound that a definition speaks of, by name. The code's constants stand in `limits`.
+use Rattle.std.specs.Prelude.{ℕ, ◌^◌}
+
+-- the greatest id of a row
+abbrev pub max_id : ℕ
+max_id = 4294967295
+
+-- how many targets a many2many cell may have
+abbrev pub max_targets : ℕ
+max_targets = 65536
+
+-- the length in bytes of a char and of a selection
+abbrev pub max_char_bytes : ℕ
+max_char_bytes = 8192
+
+-- the length in bytes of a text
+abbrev pub max_text_bytes : ℕ
+max_text_bytes = 65536
+
+-- how many models there may be
+abbrev pub max_models : ℕ
+max_models = 512
+
+-- how many fields a model may have, automatic and delegated ones among them
+abbrev pub max_fields : ℕ
+max_fields = 256
+
+-- the length in bytes of the name of a model or a field
+abbrev pub max_name_bytes : ℕ
+max_name_bytes = 64
+
+-- the length in bytes of an expression
+abbrev pub max_expression_bytes : ℕ
+max_expression_bytes = 4096
+
+-- how deep an expression may nest
+abbrev pub max_expression_depth : ℕ
+max_expression_depth = 24
+
+-- the length in bytes of a line of requests, without its line feed
+abbrev pub max_line_bytes : ℕ
+max_line_bytes = 2 ^ 23
+
+-- the length in bytes of the whole input of a run
+abbrev pub max_input_bytes : ℕ
+max_input_bytes = 2 ^ 40
