@@ -5,7 +5,7 @@ ghost use Rattle.ob_schema.specs.Models.{HasField, HasModel};
 use crate::answer::told;
 use crate::told::put_command;
 use ob_base::{FieldNo, ModelNo, NoMemory, value_cmp};
-use ob_codec::{CodecFault, Command, Input, Json, from_json, to_json};
+use ob_codec::{CodecFault, Command, Input, Json, from_json, to_json, type_and_limits};
 use ob_schema::Schema;
 use std::alloc::Global;
 use std::cmp::Ordering;
@@ -48,6 +48,7 @@ fn told_value(
     };
     match from_json(alloc, schema, model, field, &json) {
         Ok(Input::Plain(value)) => {
+            type_and_limits();
             let told = to_json(alloc, schema, model, field, &value)?;
             told.to_string(alloc).map_err(|_| NoMemory)
         }
