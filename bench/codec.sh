@@ -1,9 +1,8 @@
 #!/usr/bin/env bash
-# How fast the codec is: bench/codec.sh [ROWS [VALUES]]. Rows read and written per second,
-# and megabytes of JSON values given and told per second, beside python's json on the same
-# texts in the same run; all by the proved program stockd_probe (`tools/build.sh
-# stockd_probe` builds it), which makes each call as often as its input says. Figures, no
-# test.
+# How fast the codec is: bench/codec.sh [ROWS [VALUES]]. Rows read and written, and megabytes
+# of JSON values given and told, per second of a processor, beside python's json on the same
+# texts in the same run; all by the proved program stockd_probe (`tools/build.sh stockd_probe`
+# builds it), which makes each call as often as its input says. Figures, no test.
 set -euo pipefail
 top=$(cd "$(dirname "$0")/.." && pwd)
 rows=${1:-5000000}
@@ -13,12 +12,10 @@ probe=$("$top/tools/proved.sh" stockd_probe)
 body=$(sed -n '1s/^row //p' "$top/crates/stockd_probe/stdin")
 texts=('day "2024-02-29"' 'name "a bolt of the usual length"' 'qty 1234567')
 
+# What the command takes of a processor, so that other work beside it counts little.
 seconds() {
-    local from to
-    from=$(date +%s.%N)
-    "$@" >/dev/null
-    to=$(date +%s.%N)
-    echo "$to $from" | awk '{print $1 - $2}'
+    local TIMEFORMAT=%U
+    { time "$@" >/dev/null; } 2>&1
 }
 
 asked() {
