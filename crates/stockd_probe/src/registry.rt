@@ -5,6 +5,16 @@ use ob_base::{NoMemory, Sequence, Word};
 use ob_schema::{Choice, FieldDef, FieldType, ModelDef, Schema};
 use std::alloc::Global;
 
+/// The plain fields with no key but their type.
+const PLAIN: [(&str, FieldType); 6] = [
+    ("at", FieldType::Datetime),
+    ("day", FieldType::Date),
+    ("done", FieldType::Boolean),
+    ("name", FieldType::Char),
+    ("note", FieldType::Text),
+    ("qty", FieldType::Integer),
+];
+
 /// The registry of `probe.row`. Nothing stands against its definition, so only memory can
 /// be wanting.
 pub(crate) fn registry(alloc: Global) -> Result<Schema, NoMemory> {
@@ -15,12 +25,9 @@ pub(crate) fn registry(alloc: Global) -> Result<Schema, NoMemory> {
 /// The definition of `probe.row`.
 fn model(alloc: Global) -> Result<ModelDef, NoMemory> {
     let mut fields = Sequence::new(alloc);
-    fields.push(field(alloc, "at", FieldType::Datetime)?)?;
-    fields.push(field(alloc, "day", FieldType::Date)?)?;
-    fields.push(field(alloc, "done", FieldType::Boolean)?)?;
-    fields.push(field(alloc, "name", FieldType::Char)?)?;
-    fields.push(field(alloc, "note", FieldType::Text)?)?;
-    fields.push(field(alloc, "qty", FieldType::Integer)?)?;
+    for (name, field_type) in PLAIN {
+        fields.push(field(alloc, name, field_type)?)?;
+    }
     fields.push(state(alloc)?)?;
     fields.push(square(alloc)?)?;
     fields.push(relation(alloc, "owner", FieldType::Many2one)?)?;

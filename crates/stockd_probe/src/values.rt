@@ -4,7 +4,7 @@ ghost use Rattle.ob_schema.specs.Models.{HasField, HasModel};
 
 use crate::answer::told;
 use crate::told::put_command;
-use ob_base::{FieldNo, ModelNo, NoMemory, value_cmp};
+use ob_base::{FieldNo, ModelNo, NoMemory, Value, value_cmp};
 use ob_codec::{CodecFault, Command, Input, Json, from_json, to_json, type_and_limits};
 use ob_schema::Schema;
 use std::alloc::Global;
@@ -112,19 +112,34 @@ fn told_order(
 ) -> Result<String, NoMemory>
     requires { HasField schema.now model field }
 {
-    let a = match from_json(alloc, schema, model, field, a) {
-        Ok(Input::Plain(value)) => value,
-        Ok(Input::Commands(_)) => return told(alloc, "commands"),
-        Err(fault) => return told_fault(alloc, fault),
+    let a = match plain_value(alloc, schema, model, field, a)? {
+        Ok(value) => value,
+        Err(why) => return Ok(why),
     };
-    let b = match from_json(alloc, schema, model, field, b) {
-        Ok(Input::Plain(value)) => value,
-        Ok(Input::Commands(_)) => return told(alloc, "commands"),
-        Err(fault) => return told_fault(alloc, fault),
+    let b = match plain_value(alloc, schema, model, field, b)? {
+        Ok(value) => value,
+        Err(why) => return Ok(why),
     };
     match value_cmp(&a, &b) {
         Ordering::Less => told(alloc, "Less"),
         Ordering::Equal => told(alloc, "Equal"),
         Ordering::Greater => told(alloc, "Greater"),
+    }
+}
+
+/// The value that JSON gives a field, or why it gives none.
+fn plain_value(
+    alloc: Global,
+    schema: &Schema,
+    model: ModelNo,
+    field: FieldNo,
+    json: &Json,
+) -> Result<Result<Value, String>, NoMemory>
+    requires { HasField schema.now model field }
+{
+    match from_json(alloc, schema, model, field, json) {
+        Ok(Input::Plain(value)) => Ok(Ok(value)),
+        Ok(Input::Commands(_)) => Ok(Err(told(alloc, "commands")?)),
+        Err(fault) => Ok(Err(told_fault(alloc, fault)?)),
     }
 }
