@@ -2,9 +2,11 @@
 # How the time of `call` grows with the rows that are kept: 100,000 and then 200,000
 # creates, with one read after each hundred. Prints both times, the requests per second
 # and the ratio of the two times, which stays under 2.4 where the cost of a request
-# doesn't grow with the rows before it. Figures, no test.
+# doesn't grow with the rows before it. By the proved program, which tools/build.sh builds.
+# Figures, no test.
 set -euo pipefail
 top=$(cd "$(dirname "$0")/.." && pwd)
+program=$("$top/tools/proved.sh" stockd)
 work=$(mktemp -d)
 trap 'rm -rf "$work"' EXIT
 
@@ -24,12 +26,11 @@ PY
 seconds() {
     local from to
     from=$(date +%s.%N)
-    "$top/stockd" call <"$1" >"$work/replies"
+    "$program" call <"$1" >"$work/replies"
     to=$(date +%s.%N)
     echo "$to $from" | awk '{print $1 - $2}'
 }
 
-"$top/stockd" call </dev/null
 requests 100000 >"$work/small"
 requests 200000 >"$work/large"
 small=$(seconds "$work/small")

@@ -23,11 +23,12 @@ done
 
 # The program over objects in memory, in place of the host's: the same `run`.
 python3 - "$place" <<'PROGRAM'
+import re
 import sys
 
 main = sys.argv[1] + "/crates/stockd/src/main.rt"
 text = open(main).read()
-head = text[: text.index("ghost use")]
+head = text[: re.search(r"^(ghost use|use|pub use) ", text, re.M).start()]
 request = (
     '{"jsonrpc":"2.0","method":"call","params":{"service":"object","method":"execute_kw",'
     '"args":["stock",2,"admin","demo.line",%s]},"id":%d}\\n'

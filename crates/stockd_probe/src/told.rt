@@ -1,0 +1,66 @@
+//! How answers write values and commands: a value of each variant reads otherwise, where
+//! JSON has one form for several.
+
+use ob_base::{NoMemory, RecId, Value};
+use ob_codec::{Command, Json};
+use std::alloc::Global;
+
+/// Adds a value.
+pub(crate) fn put_value(alloc: Global, text: &mut String, value: &Value) -> Result<(), NoMemory> {
+    match value {
+        Value::Nil => write!(text, "unset")?,
+        Value::Bool(flag) => write!(text, "{flag}")?,
+        Value::Int(number) => write!(text, "{number}")?,
+        Value::Word(word) => put_json(alloc, text, &Json::try_from_str(alloc, word.as_str())?)?,
+        Value::Day(day) => write!(text, "day:{day}")?,
+        Value::Moment(moment) => write!(text, "moment:{moment}")?,
+        Value::Ref(id) => put_id(text, "id:", *id)?,
+        Value::Refs(ids) => put_ids(text, "ids:", ids.as_slice())?,
+    }
+    Ok(())
+}
+
+/// Adds a command.
+pub(crate) fn put_command(
+    alloc: Global,
+    text: &mut String,
+    command: &Command,
+) -> Result<(), NoMemory> {
+    match command {
+        Command::Create(values) => {
+            write!(text, "create:")?;
+            put_json(alloc, text, values)
+        }
+        Command::Update(id, values) => {
+            put_id(text, "update:", *id)?;
+            write!(text, ":")?;
+            put_json(alloc, text, values)
+        }
+        Command::Delete(id) => put_id(text, "delete:", *id),
+        Command::Unlink(id) => put_id(text, "unlink:", *id),
+        Command::Link(id) => put_id(text, "link:", *id),
+        Command::Clear => Ok(write!(text, "clear")?),
+        Command::Set(ids) => put_ids(text, "set:", ids.as_slice()),
+    }
+}
+
+/// Adds JSON.
+fn put_json(alloc: Global, text: &mut String, json: &Json) -> Result<(), NoMemory> {
+    let json = json.to_string(alloc).map_err(|_| NoMemory)?;
+    Ok(text.push_str(json.as_str())?)
+}
+
+/// Adds an id after its word.
+fn put_id(text: &mut String, word: &str, id: RecId) -> Result<(), NoMemory> {
+    let number = id.0;
+    Ok(write!(text, "{word}{number}")?)
+}
+
+/// Adds ids after their word.
+fn put_ids(text: &mut String, word: &str, ids: &[RecId]) -> Result<(), NoMemory> {
+    text.push_str(word)?;
+    for (i, id) in ids.iter().enumerate() {
+        put_id(text, if i > 0 { "," } else { "" }, *id)?;
+    }
+    Ok(())
+}
