@@ -48,7 +48,8 @@ IsStoreFit-empty = record {
 
 pub IsStoreFit-changed : (change : Change) (store : Store) → IsStoreFit store → IsChangeFit change → IsStoreFit (changed change store)
 IsStoreFit-changed (Put model row) store fit h = record {
-  rows = each-insert rows_total exact_rows IsRowOf store.rows (record { model = model; id = row.id }) (in_order row) (record { same_id = refl; rising = in_order-rising row; targets = All-items (λ link. Fits63 link.target.0) row.links h.targets }) fit.rows;
+  rows = each-insert rows_total exact_rows IsRowOf store.rows (record { model = model; id = row.id }) (in_order row)
+      (record { same_id = refl; rising = in_order-rising row; targets = All-items (λ link. Fits63 link.target.0) row.links h.targets }) fit.rows;
   ids = each-insert rows_total exact_rows IsIdFit store.rows (record { model = model; id = row.id }) (in_order row) h.id fit.ids;
   next_ids = fit.next_ids;
 }
