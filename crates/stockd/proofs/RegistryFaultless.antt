@@ -23,8 +23,8 @@ use Rattle.ob_schema.specs.Names.{is_field_name, is_model_name}
 use Rattle.ob_schema.specs.Definitions.{has_field, is_automatic}
 use Rattle.ob_schema.specs.Keys.{fits}
 use Rattle.ob_schema.specs.Faults.{IsFirst, IsFaulty, IsInverse, is_dotted, is_unserved, AtEntry, AtField, HasExpression, HasTerm, HasTooMuch, HasTree, HasTyped, HasUnknownInverse}
-use Rattle.ob_schema.specs.Faults.{HasUnknownRelation, HasWrongInverse, HasWrongKey, HasWrongKeys, HasWrongKind, HasWrongPath, IsDeclaredTwice, IsFaultless, IsNamedBefore, IsPastLimit, IsTextFault, NamesNoField, NamesNoModel}
-use Rattle.ob_schema.specs.Formulas.{IsExpression, computed_numbers, depends_on, fields_read, found_in, names_computed, number_of}
+use Rattle.ob_schema.specs.Faults.{HasUnknownRelation, HasWrongInverse, HasWrongKey, HasWrongKeys, HasWrongKind, HasWrongPath, IsDeclaredTwice, IsFaultless, IsMisread, IsNamedBefore, IsPastLimit, IsTextFault, NamesNoField, NamesNoModel}
+use Rattle.ob_schema.specs.Formulas.{IsExpression, computed_numbers, depends_of, fields_read, found_in, names_computed, number_of}
 use Rattle.stockd.specs.Model.{line_def, line_defs, plain_field, subtotal_field}
 use Rattle.stockd.proofs.RegistryText.{OneTree, no_text_fault, subtotal_expression, subtotal_tree}
 
@@ -231,10 +231,10 @@ subtotal_numbers = (refl, refl, refl)
 -- it says on what it depends, and reads nothing else
 subtotal_path : OneTree → HasWrongPath line_defs line_def subtotal_field → ⊥
 subtotal_path one (inl (typed, has, wrong)) =
-    let Wrong = λ (number : FieldNo). (Contains (depends_on line_def subtotal_field) number → ⊥) ⊎ Contains (computed_numbers line_def) number in
+    let Wrong = IsMisread line_def (depends_of subtotal_field) in
     any_of_two Wrong (number_of line_def (codes "qty")) (number_of line_def (codes "price"))
-    (λ w. elim w [ inl missing ↦ missing (0, lit< tt, refl) | inr computed ↦ apart (codes "qty") (omega (arith, subtotal_numbers)) computed ])
-    (λ w. elim w [ inl missing ↦ missing (1, lit< tt, refl) | inr computed ↦ apart (codes "price") (omega (arith, subtotal_numbers)) computed ])
+    (λ w. elim w [ inl missing ↦ missing (0, codes "qty", lit< tt, refl, refl) | inr computed ↦ apart (codes "qty") (omega (arith, subtotal_numbers)) computed ])
+    (λ w. elim w [ inl missing ↦ missing (1, codes "price", lit< tt, refl, refl) | inr computed ↦ apart (codes "price") (omega (arith, subtotal_numbers)) computed ])
     (subst (λ (t : TypedTree). Any Wrong (fields_read t)) (subtotal_is one typed has) wrong)
 subtotal_path one (inr computed) = any_of_two (λ path. names_computed line_def path ≡ true) (codes "qty") (codes "price") (not_true (names_computed line_def (codes "qty")) refl) (not_true (names_computed line_def (codes "price")) refl) computed
 
