@@ -1,6 +1,6 @@
 //! What was worked out by hand: values, commands, JSON and bodies. `json` and `rows` call
-//! the four public calls over a registry that was built; of relations, which no registry
-//! has yet, they call the functions right below. The registry stands here.
+//! the four public calls over a registry that was built, with a field of every type. The
+//! registry stands here.
 
 mod json;
 mod rows;
@@ -11,7 +11,7 @@ use std::alloc::Global;
 use std::test::Fail;
 
 /// The fields of `demo.all`, each named by its type.
-const TYPES: [(&'static str, FieldType); 7] = [
+const TYPES: [(&'static str, FieldType); 10] = [
     ("boolean", FieldType::Boolean),
     ("integer", FieldType::Integer),
     ("char", FieldType::Char),
@@ -19,17 +19,22 @@ const TYPES: [(&'static str, FieldType); 7] = [
     ("date", FieldType::Date),
     ("datetime", FieldType::Datetime),
     ("selection", FieldType::Selection),
+    ("many2one", FieldType::Many2one),
+    ("one2many", FieldType::One2many),
+    ("many2many", FieldType::Many2many),
 ];
 
-/// The fields of `demo.person`.
-const PERSON: [(&'static str, FieldType); 3] = [
+/// The fields of `demo.person`, with the users who made and wrote a row.
+const PERSON: [(&'static str, FieldType); 5] = [
     ("name", FieldType::Char),
     ("phone", FieldType::Char),
     ("city", FieldType::Char),
+    ("create_uid", FieldType::Many2one),
+    ("write_uid", FieldType::Many2one),
 ];
 
-/// A registry of the models `demo.all`, whose selection has the one key `done`, and
-/// `demo.person`.
+/// A registry of the models `demo.all`, whose selection has the one key `done` and whose
+/// relations lead to itself, and `demo.person`.
 fn registry(alloc: Global) -> Result<Schema, Fail> {
     let mut defs = Vec::new(alloc);
     defs.push(model_def(alloc, "demo.all", &TYPES)?)?;
@@ -65,6 +70,16 @@ fn field_def(alloc: Global, name: &str, field_type: FieldType) -> Result<FieldDe
         FieldType::Selection => Some(done(alloc)?),
         _ => None,
     };
+    let relation = match field_type {
+        FieldType::Many2one | FieldType::One2many | FieldType::Many2many => {
+            Some(Word::from_text(alloc, "demo.all")?)
+        }
+        _ => None,
+    };
+    let inverse = match field_type {
+        FieldType::One2many => Some(Word::from_text(alloc, "many2one")?),
+        _ => None,
+    };
     Ok(FieldDef {
         name: Word::from_text(alloc, name)?,
         field_type,
@@ -76,8 +91,8 @@ fn field_def(alloc: Global, name: &str, field_type: FieldType) -> Result<FieldDe
         store: None,
         recursive: None,
         related: None,
-        relation: None,
-        inverse: None,
+        relation,
+        inverse,
         mirror: None,
         ondelete: None,
         selection,

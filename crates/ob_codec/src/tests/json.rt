@@ -42,6 +42,7 @@ many2one|0|out of range at
 many2one|4294967296|out of range at 
 many2one|-1|out of range at 
 many2many|[[6,0,[3,1]]]|commands
+one2many|[[6,0,[3,1]]]|commands
 many2many|{}|wrong shape at 
 many2many|false|wrong shape at 
 many2many|[[5],7]|wrong shape at 1
@@ -80,7 +81,7 @@ fn given_values(rt: HostRuntime) -> Result<(), Fail> {
     Ok(())
 }
 
-/// What a JSON text gives the field of `demo.all` of this name; a relation where it has none.
+/// What a JSON text gives the field of `demo.all` of this name.
 fn given(
     alloc: Global,
     schema: &Schema,
@@ -93,8 +94,7 @@ fn given(
     };
     match schema.field(model, field) {
         Some(number) => Ok(from_json(alloc, schema, model, number, &json)),
-        None if field == "many2one" => Ok(input_of(alloc, FieldType::Many2one, &[], &json)),
-        None => Ok(input_of(alloc, FieldType::Many2many, &[], &json)),
+        None => Err(Fail::new(format_args!("no field"))),
     }
 }
 
@@ -142,8 +142,8 @@ fn text_of(alloc: Global, len: u32) -> Result<String, AllocError> {
 #[test]
 fn commands(rt: HostRuntime) -> Result<(), Fail> {
     let text = r#"[[0,null,{"a":1}],[1,7,{}],[2,8],[3,9,"x"],[4,6],[5,1.5,true],[6,0,[3,1]]]"#;
-    let json = Json::from_str(rt.alloc(), text)?;
-    let Input::Commands(commands) = input_of(rt.alloc(), FieldType::Many2many, &[], &json)? else {
+    let schema = registry(rt.alloc())?;
+    let Input::Commands(commands) = given(rt.alloc(), &schema, "many2many", text)?? else {
         panic!(rt; "no commands");
     };
     match commands.as_slice() {
@@ -171,7 +171,9 @@ char|null|false
 text|"a\n"|"a\n"
 date|"0001-01-01"|"0001-01-01"
 datetime|"2023-11-14 22:13:20"|"2023-11-14 22:13:20"
-selection|"done"|"done""#;
+selection|"done"|"done"
+many2one|4294967295|4294967295
+many2one|null|false"#;
 
 #[test]
 fn json_of_values(rt: HostRuntime) -> Result<(), Fail> {
@@ -194,6 +196,12 @@ fn json_of_values(rt: HostRuntime) -> Result<(), Fail> {
         assert_eq!(rt; json.to_string(alloc)?.as_str(), wanted, "{line}");
     }
 
+    Ok(())
+}
+
+#[test]
+fn json_of_targets(rt: HostRuntime) -> Result<(), Fail> {
+    let alloc = rt.alloc();
     let mut ids = RefList::new(alloc);
     ids.push(RecId(1))?;
     ids.push(RecId(3))?;

@@ -1,23 +1,25 @@
 //! Bodies of rows whose bytes were worked out by hand.
 
-ghost use Rattle.std.specs.Prelude.{◌<◌, ◌≤◌, All, IsTrue, length};
+ghost use Rattle.std.specs.Prelude.{◌<◌};
 
 use super::{done, registry};
-use crate::kept::{bytes_of_fields, row_of_fields};
+use crate::kept::row_of_fields;
 use crate::{RowFault, row_bytes, row_of};
 use ob_base::{NoMemory, RecId, Sequence, Value, Word, value_eq};
 use ob_schema::{FieldInfo, FieldType, OnDelete, Origin};
 use std::alloc::Global;
 use std::test::Fail;
 
-/// A row of `demo.person` of the name `Al`, made at 1,700,000,000: the head, then city,
-/// create_date, name, phone and write_date.
-const ROW: [u8; 69] = *b"\x01\x00\x05\
+/// A row of `demo.person` of the name `Al`, made by the user 2 at 1,700,000,000: the head,
+/// then city, create_date, create_uid, name, phone, write_date and write_uid.
+const ROW: [u8; 108] = *b"\x01\x00\x07\
     \x04city\x00\
     \x0bcreate_date\x05\x00\x00\x00\x00\x65\x53\xf1\x00\
+    \x0acreate_uid\x06\x00\x00\x00\x00\x00\x00\x00\x02\
     \x04name\x03\x00\x00\x00\x02Al\
     \x05phone\x00\
-    \x0awrite_date\x05\x00\x00\x00\x00\x65\x53\xf1\x00";
+    \x0awrite_date\x05\x00\x00\x00\x00\x65\x53\xf1\x00\
+    \x09write_uid\x06\x00\x00\x00\x00\x00\x00\x00\x02";
 
 #[test]
 fn rows(rt: HostRuntime) -> Result<(), Fail> {
@@ -30,9 +32,11 @@ fn rows(rt: HostRuntime) -> Result<(), Fail> {
     let wanted = [
         Value::Nil,
         Value::Moment(1_700_000_000),
+        Value::Ref(RecId(2)),
         Value::Word(Word::from_text(alloc, "Al")?),
         Value::Nil,
         Value::Moment(1_700_000_000),
+        Value::Ref(RecId(2)),
     ];
     assert!(rt; are_equal(values.as_slice(), &wanted));
     let body = row_bytes(alloc, &schema, model, values.as_slice())?;
@@ -42,10 +46,10 @@ fn rows(rt: HostRuntime) -> Result<(), Fail> {
     longer.push(0)?;
     let bodies: [&[u8]; 6] = [
         &[],
-        &ROW[..68],
+        &ROW[..107],
         &longer,
         &changed(0, 2),
-        &changed(2, 6),
+        &changed(2, 8),
         &changed(4, b'C'),
     ];
     for body in bodies {
@@ -60,62 +64,12 @@ fn are_equal(values: &[Value], wanted: &[Value]) -> bool {
 }
 
 /// The row with another byte at one place.
-fn changed(at: usize, byte: u8) -> [u8; 69]
-    requires { at < 69 }
+fn changed(at: usize, byte: u8) -> [u8; 108]
+    requires { at < 108 }
 {
     let mut body = ROW;
     body[at] = byte;
     body
-}
-
-/// The same person once its rows name the users who made and wrote them: user 2.
-const PERSON: [u8; 108] = *b"\x01\x00\x07\
-    \x04city\x00\
-    \x0bcreate_date\x05\x00\x00\x00\x00\x65\x53\xf1\x00\
-    \x0acreate_uid\x06\x00\x00\x00\x00\x00\x00\x00\x02\
-    \x04name\x03\x00\x00\x00\x02Al\
-    \x05phone\x00\
-    \x0awrite_date\x05\x00\x00\x00\x00\x65\x53\xf1\x00\
-    \x09write_uid\x06\x00\x00\x00\x00\x00\x00\x00\x02";
-
-#[test]
-fn person(rt: HostRuntime) -> Result<(), Fail> {
-    let alloc = rt.alloc();
-    let fields = person_fields(alloc)?;
-    let values = row_of_fields(alloc, fields.as_slice(), &PERSON)?;
-    let wanted = [
-        Value::Nil,
-        Value::Moment(1_700_000_000),
-        Value::Ref(RecId(2)),
-        Value::Word(Word::from_text(alloc, "Al")?),
-        Value::Nil,
-        Value::Moment(1_700_000_000),
-        Value::Ref(RecId(2)),
-    ];
-    assert!(rt; are_equal(values.as_slice(), &wanted));
-    assert!(rt; fields.len() <= 256 && are_short(fields.as_slice()));
-    let body = bytes_of_fields(alloc, fields.as_slice(), values.as_slice())?;
-    assert_eq!(rt; body.as_slice(), PERSON.as_slice());
-
-    let read = row_of_fields(alloc, fields.as_slice(), &PERSON[..107]);
-    assert!(rt; matches!(read, Err(RowFault::Bad)));
-    Ok(())
-}
-
-/// The fields of a person. Its id isn't kept.
-fn person_fields(alloc: Global) -> Result<Sequence<FieldInfo>, NoMemory> {
-    let mut fields = Sequence::new(alloc);
-    fields.push(field_info(alloc, "city", FieldType::Char)?)?;
-    fields.push(field_info(alloc, "create_date", FieldType::Datetime)?)?;
-    fields.push(field_info(alloc, "create_uid", FieldType::Many2one)?)?;
-    let mut id = field_info(alloc, "id", FieldType::Integer)?;
-    id.origin = Origin::Id;
-    fields.push(id)?;
-    fields.push(field_info(alloc, "name", FieldType::Char)?)?;
-    fields.push(field_info(alloc, "phone", FieldType::Char)?)?;
-    fields.push(field_info(alloc, "write_date", FieldType::Datetime)?)?;
-    fields.push(field_info(alloc, "write_uid", FieldType::Many2one)?)?;
-    Ok(fields)
 }
 
 /// A plain field, with the one key `done`.
@@ -139,13 +93,6 @@ fn field_info(alloc: Global, name: &str, field_type: FieldType) -> Result<FieldI
         fixed: false,
         secret: false,
     })
-}
-
-/// Whether each name is short enough to be written.
-fn are_short(fields: &[FieldInfo]) -> bool
-    ensures { IsTrue result → All (λ field. length field.name ≤ 64) fields.now }
-{
-    fields.iter().all(|field| field.name.len() <= 64)
 }
 
 /// A case a line: a type, the bytes of a field's value, and whether they are one.
