@@ -12,7 +12,7 @@ use Rattle.wh_quant.specs.declared.quant.Quant.{Quant}
 use Rattle.wh_quant.specs.declared.quant.Line.{Line}
 use Rattle.wh_quant.specs.declared.spot.Spot.{Spot}
 use Rattle.wh_quant.specs.Spots.{spot_of, source_spot, destination_spot, spot_cmp, is_at}
-use Rattle.wh_quant.specs.Moves.{Inventory, empty_quant, source_quant, incoming_date, destination_quant}
+use Rattle.wh_quant.specs.Moves.{Holdings, empty_quant, source_quant, incoming_date, destination_quant}
 
 -- where a chain of two answers is equal, both are
 pub both_equal : (o p : Ordering) → ordering_then o p ≡ Equal → (o ≡ Equal) × (p ≡ Equal)
@@ -59,10 +59,10 @@ found_in p P e [] none all = none
 found_in p P e (q ∷ qs) none all = found_cons p P q e qs (p q) refl (λ h. All-head P q qs all) (found_in p P e qs none (All-tail P q qs all))
 
 -- the quant that a line takes from stands at its source, and the one that it brings to at its destination
-pub spot-source_quant : (now : ℤ) (line : Line) (stock : Inventory) → spot_of (source_quant now line stock) ≡ source_spot line
+pub spot-source_quant : (now : ℤ) (line : Line) (stock : Holdings) → spot_of (source_quant now line stock) ≡ source_spot line
 spot-source_quant now line stock = found_or (is_at (source_spot line)) (λ q. spot_of q ≡ source_spot line) (empty_quant stock.next (source_spot line) now line.guarded_from)
     stock.quants refl (spot_from_is_at (source_spot line))
 
-pub spot-destination_quant : (now : ℤ) (line : Line) (source : Quant) (stock : Inventory) → spot_of (destination_quant now line source stock) ≡ destination_spot line
+pub spot-destination_quant : (now : ℤ) (line : Line) (source : Quant) (stock : Holdings) → spot_of (destination_quant now line source stock) ≡ destination_spot line
 spot-destination_quant now line source stock = found_or (is_at (destination_spot line)) (λ q. spot_of q ≡ destination_spot line)
     (empty_quant stock.next (destination_spot line) (incoming_date now line source) line.guarded_to) stock.quants refl (spot_from_is_at (destination_spot line))

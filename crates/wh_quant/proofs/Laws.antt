@@ -15,20 +15,20 @@ use Rattle.wh_quant.specs.declared.quant.Line.{Line}
 use Rattle.wh_quant.specs.declared.spot.Spot.{Spot}
 use Rattle.wh_quant.specs.Spots.{spot_of, source_spot, destination_spot, is_at}
 use Rattle.wh_quant.specs.Sums.{sum_of, quantity_for, IsCovered}
-use Rattle.wh_quant.specs.Moves.{Inventory, RiseById, placed, empty_quant, source_quant, lowered, incoming_date, destination_quant}
-use Rattle.wh_quant.specs.Moves.{raised, after_taking, brought, after_line, after_lines, Suffices, AllSuffice, IsMoved, AreGuardedBy}
+use Rattle.wh_quant.specs.Moves.{Holdings, RiseById, quants_with, empty_quant, source_quant, lowered, incoming_date, destination_quant}
+use Rattle.wh_quant.specs.Moves.{raised, after_taking, destination_after, after_line, holdings_after, Suffices, AllSuffice, IsMoved, AreGuardedBy}
 use Rattle.wh_quant.proofs.Totals.{total-IsPermutation}
 use Rattle.wh_quant.proofs.Starts.{id_of}
 use Rattle.wh_quant.proofs.Exact.{found_in, spot-source_quant, spot-destination_quant}
-use Rattle.wh_quant.proofs.Kept.{is_left, sum-after_lines, sum-left}
-use Rattle.wh_quant.proofs.Order.{InOrder, order-after_lines}
+use Rattle.wh_quant.proofs.Kept.{is_left, sum-holdings_after, sum-left}
+use Rattle.wh_quant.proofs.Order.{InOrder, order-holdings_after}
 use Rattle.wh_quant.proofs.Runs.{next-after_line}
 
 module _ (now : ℤ) (next : ℕ) (quants : List Quant) (lines : List Line) (moved : List Quant) (is : IsMoved now next quants lines moved) where
   pub moved_sums : (product : RecId) → sum_of product moved ≡ sum_of product quants
   moved_sums product =
-      rw is.left (sum-left product (after_lines now is.start lines).quants)
-      ∙ sum-after_lines product now is.start lines
+      rw is.left (sum-left product (holdings_after now is.start lines).quants)
+      ∙ sum-holdings_after product now is.start lines
       ∙ total-IsPermutation (quantity_for product) quants is.start.quants is.starts.same
 
   start_order : All (λ q. q.id.0 < next) quants → InOrder is.start
@@ -55,11 +55,11 @@ rise_again (q ∷ qs) apart k within =
 rise-filter : (p : Quant → Bool) (qs : List Quant) → RiseById qs → RiseById (filter p qs)
 rise-filter p qs rising = rise_again (filter p qs) (AllPairs-filter (λ a b. id_of a < id_of b) p qs (rise_apart qs rising))
 
-next-after_lines : (now : ℤ) (stock : Inventory) (lines : List Line) → (after_lines now stock lines).next ≤ stock.next + 2 * length lines
-next-after_lines now stock [] = omega arith
-next-after_lines now stock (line ∷ lines) =
+next-holdings_after : (now : ℤ) (stock : Holdings) (lines : List Line) → (holdings_after now stock lines).next ≤ stock.next + 2 * length lines
+next-holdings_after now stock [] = omega arith
+next-holdings_after now stock (line ∷ lines) =
     let first = next-after_line now stock line in
-    let rest = next-after_lines now (after_line now stock line) lines in
+    let rest = next-holdings_after now (after_line now stock line) lines in
     omega (arith, first, rest)
 
 below_of : (n : ℕ) (qs : List Quant) → All (λ id. id < n) (map id_of qs) → All (λ q. q.id.0 < n) qs
@@ -69,18 +69,18 @@ below_of n qs below k d within =
     rw (get_or-map id_of qs k d 0 within) at found
 
 module _ (now : ℤ) (next : ℕ) (quants : List Quant) (lines : List Line) (moved : List Quant) (is : IsMoved now next quants lines moved) (below : All (λ q. q.id.0 < next) quants) where
-  after_order : InOrder (after_lines now is.start lines)
-  after_order = order-after_lines now is.start lines (start_order now next quants lines moved is below)
+  after_order : InOrder (holdings_after now is.start lines)
+  after_order = order-holdings_after now is.start lines (start_order now next quants lines moved is below)
 
   pub moved_rising : RiseById moved
-  moved_rising = rw is.left (rise-filter is_left (after_lines now is.start lines).quants after_order.rising)
+  moved_rising = rw is.left (rise-filter is_left (holdings_after now is.start lines).quants after_order.rising)
 
   pub moved_ids : All (λ q. q.id.0 < next + 2 * length lines) moved
   moved_ids =
-      let bound : (after_lines now is.start lines).next ≤ next + 2 * length lines = rw (← is.starts.next_is) (next-after_lines now is.start lines) in
-      let all = below_of (after_lines now is.start lines).next (after_lines now is.start lines).quants after_order.below in
-      rw is.left (All-filter is_left (λ q. q.id.0 < next + 2 * length lines) (after_lines now is.start lines).quants
-      (All-weaker (λ q. q.id.0 < (after_lines now is.start lines).next) (λ q. q.id.0 < next + 2 * length lines) (λ q h. omega (arith, h, bound)) (after_lines now is.start lines).quants all))
+      let bound : (holdings_after now is.start lines).next ≤ next + 2 * length lines = rw (← is.starts.next_is) (next-holdings_after now is.start lines) in
+      let all = below_of (holdings_after now is.start lines).next (holdings_after now is.start lines).quants after_order.below in
+      rw is.left (All-filter is_left (λ q. q.id.0 < next + 2 * length lines) (holdings_after now is.start lines).quants
+      (All-weaker (λ q. q.id.0 < (holdings_after now is.start lines).next) (λ q. q.id.0 < next + 2 * length lines) (λ q h. omega (arith, h, bound)) (holdings_after now is.start lines).quants all))
 
 -- ---- what covers reservations
 
@@ -88,13 +88,13 @@ module _ (now : ℤ) (next : ℕ) (quants : List Quant) (lines : List Line) (mov
 abbrev IsFit : (RecId → Bool) → Quant → Type 0
 IsFit guards q = (q.guarded ≡ guards q.place) × IsCovered q
 
-fit_cons : (P : Quant → Type 0) (new q : Quant) (qs : List Quant) (b : Bool) → P new → All P (q ∷ qs) → All P (placed new qs) → All P (cond b (new ∷ qs) (q ∷ placed new qs))
+fit_cons : (P : Quant → Type 0) (new q : Quant) (qs : List Quant) (b : Bool) → P new → All P (q ∷ qs) → All P (quants_with new qs) → All P (cond b (new ∷ qs) (q ∷ quants_with new qs))
 fit_cons P new q qs true fit all rest = All-cons P new qs fit (All-tail P q qs all)
-fit_cons P new q qs false fit all rest = All-cons P q (placed new qs) (All-head P q qs all) rest
+fit_cons P new q qs false fit all rest = All-cons P q (quants_with new qs) (All-head P q qs all) rest
 
-All-placed : (P : Quant → Type 0) (new : Quant) (qs : List Quant) → P new → All P qs → All P (placed new qs)
-All-placed P new [] fit all = All-cons P new [] fit (All-nil P)
-All-placed P new (q ∷ qs) fit all = fit_cons P new q qs (is_at (spot_of new) q) fit all (All-placed P new qs fit (All-tail P q qs all))
+All-quants_with : (P : Quant → Type 0) (new : Quant) (qs : List Quant) → P new → All P qs → All P (quants_with new qs)
+All-quants_with P new [] fit all = All-cons P new [] fit (All-nil P)
+All-quants_with P new (q ∷ qs) fit all = fit_cons P new q qs (is_at (spot_of new) q) fit all (All-quants_with P new qs fit (All-tail P q qs all))
 
 -- a guarded source that suffices stays covered, and another is not guarded
 lowered_covered : (line : Line) (q : Quant) (b : Bool) → line.guarded_from ≡ b → q.guarded ≡ b → IsCovered q → Suffices line q → IsCovered (lowered line q)
@@ -112,7 +112,7 @@ raised_covered line source q least covered h =
 none_covered : (id : ℕ) (spot : Spot) (in_date : ℤ) (guarded : Bool) → IsCovered (empty_quant id spot in_date guarded)
 none_covered id spot in_date guarded h = (omega (arith, ints), omega (arith, ints))
 
-module _ (guards : RecId → Bool) (now : ℤ) (stock : Inventory) (line : Line) (from : line.guarded_from ≡ guards line.from) (to : line.guarded_to ≡ guards line.to)
+module _ (guards : RecId → Bool) (now : ℤ) (stock : Holdings) (line : Line) (from : line.guarded_from ≡ guards line.from) (to : line.guarded_to ≡ guards line.to)
     (least : pos 0 ≤ℤ line.amount) (enough : Suffices line (source_quant now line stock)) (all : All (IsFit guards) stock.quants) where
   fit_source : IsFit guards (source_quant now line stock)
   fit_source = found_in (is_at (source_spot line)) (IsFit guards) (empty_quant stock.next (source_spot line) now line.guarded_from) stock.quants
@@ -126,7 +126,7 @@ module _ (guards : RecId → Bool) (now : ℤ) (stock : Inventory) (line : Line)
       (fit_source.0, lowered_covered line source line.guarded_from refl guarded fit_source.1 enough)
 
   fit_taken : All (IsFit guards) (after_taking now line stock).quants
-  fit_taken = All-placed (IsFit guards) (lowered line (source_quant now line stock)) stock.quants fit_lowered all
+  fit_taken = All-quants_with (IsFit guards) (lowered line (source_quant now line stock)) stock.quants fit_lowered all
 
   pub fit-after_line : All (IsFit guards) (after_line now stock line).quants
   fit-after_line =
@@ -136,16 +136,16 @@ module _ (guards : RecId → Bool) (now : ℤ) (stock : Inventory) (line : Line)
       let there = destination_quant now line source taken in
       let fit : IsFit guards there = found_in (is_at (destination_spot line)) (IsFit guards) e taken.quants
       (to, none_covered taken.next (destination_spot line) (incoming_date now line source) line.guarded_to) fit_taken in
-      All-placed (IsFit guards) (brought now line stock) taken.quants (fit.0, raised_covered line source there least fit.1) fit_taken
+      All-quants_with (IsFit guards) (destination_after now line stock) taken.quants (fit.0, raised_covered line source there least fit.1) fit_taken
 
-fit-after_lines : (guards : RecId → Bool) (now : ℤ) (stock : Inventory) (lines : List Line) →
+fit-holdings_after : (guards : RecId → Bool) (now : ℤ) (stock : Holdings) (lines : List Line) →
     All (λ line. (line.guarded_from ≡ guards line.from) × (line.guarded_to ≡ guards line.to)) lines → All (λ line. pos 0 ≤ℤ line.amount) lines →
-    AllSuffice now stock lines (length lines) → All (IsFit guards) stock.quants → All (IsFit guards) (after_lines now stock lines).quants
-fit-after_lines guards now stock [] told least enough all = all
-fit-after_lines guards now stock (line ∷ lines) told least enough all =
+    AllSuffice now stock lines (length lines) → All (IsFit guards) stock.quants → All (IsFit guards) (holdings_after now stock lines).quants
+fit-holdings_after guards now stock [] told least enough all = all
+fit-holdings_after guards now stock (line ∷ lines) told least enough all =
     let here = All-head (λ line. (line.guarded_from ≡ guards line.from) × (line.guarded_to ≡ guards line.to)) line lines told in
     let first = fit-after_line guards now stock line here.0 here.1 (All-head (λ line. pos 0 ≤ℤ line.amount) line lines least) (enough 0 line (omega arith) refl) all in
-    fit-after_lines guards now (after_line now stock line) lines (All-tail (λ line. (line.guarded_from ≡ guards line.from) × (line.guarded_to ≡ guards line.to)) line lines told)
+    fit-holdings_after guards now (after_line now stock line) lines (All-tail (λ line. (line.guarded_from ≡ guards line.from) × (line.guarded_to ≡ guards line.to)) line lines told)
     (All-tail (λ line. pos 0 ≤ℤ line.amount) line lines least)
     (λ k other below at. enough (suc k) other (omega arith) at) first
 
@@ -156,5 +156,5 @@ pub moved_covered : (now : ℤ) (next : ℕ) (quants : List Quant) (lines : List
     AreGuardedBy guards quants lines → All (λ line. pos 0 ≤ℤ line.amount) lines → All IsCovered quants → All IsCovered moved
 moved_covered now next quants lines moved is guards told least covered =
     let before = All-permutation (IsFit guards) quants is.start.quants is.starts.same (fit_start guards quants told.0 covered) in
-    let after = fit-after_lines guards now is.start lines told.1 least is.suffice before in
-    rw is.left (All-filter is_left IsCovered (after_lines now is.start lines).quants (All-weaker (IsFit guards) IsCovered (λ q h. h.1) (after_lines now is.start lines).quants after))
+    let after = fit-holdings_after guards now is.start lines told.1 least is.suffice before in
+    rw is.left (All-filter is_left IsCovered (holdings_after now is.start lines).quants (All-weaker (IsFit guards) IsCovered (λ q h. h.1) (holdings_after now is.start lines).quants after))

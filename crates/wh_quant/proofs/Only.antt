@@ -23,8 +23,8 @@ use Rattle.wh_quant.specs.declared.stock.Stock.{Stock}
 use Rattle.wh_quant.specs.declared.stock.Take.{Take}
 use Rattle.wh_quant.specs.declared.stock.Removal.{Removal}
 use Rattle.wh_quant.specs.declared.stock.Removal.TheVariants.{Fifo, Lifo, Fefo, Closest}
-use Rattle.wh_quant.specs.Takes.{date_cmp, removal_cmp, IsRanked, takes_from, IsTaken}
-use Rattle.wh_quant.specs.Moves.{Inventory, RiseById, IsStart, source_quant, after_lines, FallsShort, IsMoved, IsShortAt}
+use Rattle.wh_quant.specs.Takes.{date_cmp, removal_cmp, IsRanked, takes_from, AreTakes}
+use Rattle.wh_quant.specs.Moves.{Holdings, RiseById, IsStart, source_quant, holdings_after, FallsShort, IsMoved, IsShortAt}
 use Rattle.wh_quant.proofs.Removals.{removal_cmp_total}
 use Rattle.wh_quant.proofs.Starts.{id_of}
 use Rattle.wh_quant.proofs.Exact.{both_equal}
@@ -143,7 +143,7 @@ module _ (order : Removal) (stocks : List Stock) (distinct : IsDistinct nat_eq (
   ranked_only a b is is' = same_permutation (removal_cmp_total order) a b (ranked_strictly a is) (ranked_strictly b is') (IsPermutation-trans a _ b (IsPermutation-sym _ a is.same) is'.same)
 
   -- where ids differ there is one list of takes
-  pub taken_only : (want : ℤ) (a b : List Take) → IsTaken order stocks want a → IsTaken order stocks want b → a ≡ b
+  pub taken_only : (want : ℤ) (a b : List Take) → AreTakes order stocks want a → AreTakes order stocks want b → a ≡ b
   taken_only want a b (ranked, is, e) (ranked', is', e') = e ∙ ap (takes_from want) (ranked_only ranked ranked' is is') ∙ sym e'
 
 -- ---- quants by id
@@ -159,7 +159,7 @@ rise_strictly qs rising =
     let less = Less-from_sorted nat_cmp (map id_of qs) k (k + 1) 0 (sorted_from_strictly_increasing (map id_of qs) rising) (omega arith) far in
     rw (get_or-map id_of qs k no_quant 0 (omega arith), get_or-map id_of qs (k + 1) no_quant 0 within) at less)
 
-start_only : (quants : List Quant) (next : ℕ) (a b : Inventory) → IsStart quants next a → IsStart quants next b → a ≡ b
+start_only : (quants : List Quant) (next : ℕ) (a b : Holdings) → IsStart quants next a → IsStart quants next b → a ≡ b
 start_only quants next a b is is' =
     let lists : a.quants ≡ b.quants = same_permutation (on_total id_of nat_cmp_total) a.quants b.quants (rise_strictly a.quants is.rising) (rise_strictly b.quants is'.rising)
     (IsPermutation-trans a.quants quants b.quants (IsPermutation-sym quants a.quants is.same) is'.same) in
@@ -168,7 +168,7 @@ start_only quants next a b is is' =
 -- there is one list of quants after lines
 pub moved_only : (now : ℤ) (next : ℕ) (quants : List Quant) (lines : List Line) (a b : List Quant) → IsMoved now next quants lines a → IsMoved now next quants lines b → a ≡ b
 moved_only now next quants lines a b is is' =
-    is.left ∙ ap (λ start. filter is_left (after_lines now start lines).quants) (start_only quants next is.start is'.start is.starts is'.starts) ∙ sym is'.left
+    is.left ∙ ap (λ start. filter is_left (holdings_after now start lines).quants) (start_only quants next is.start is'.start is.starts is'.starts) ∙ sym is'.left
 
 -- and where there is one, no line falls short
 pub moved_not_short : (now : ℤ) (next : ℕ) (quants : List Quant) (lines : List Line) (moved : List Quant) (i : ℕ) → IsMoved now next quants lines moved → IsShortAt now next quants lines i → ⊥
@@ -176,6 +176,6 @@ moved_not_short now next quants lines moved i is short =
     let same : short.start ≡ is.start = start_only quants next short.start is.start short.starts is.starts in
     let within = slice_get_within lines i short.line short.is in
     let enough = is.suffice i short.line within short.is in
-    let lacks : FallsShort short.line (source_quant now short.line (after_lines now is.start (take i lines))) = rw (sym same) short.short in
+    let lacks : FallsShort short.line (source_quant now short.line (holdings_after now is.start (take i lines))) = rw (sym same) short.short in
     let most = enough lacks.0 in
     elim lacks.1 [ inl h ↦ absurd (omega (arith, ints, h, most.0)) | inr h ↦ absurd (omega (arith, ints, h, most.1)) ]

@@ -13,7 +13,7 @@ use Rattle.ob_base.specs.declared.id.RecId.{RecId}
 use Rattle.wh_quant.specs.declared.quant.Quant.{Quant}
 use Rattle.wh_quant.specs.declared.spot.Spot.{Spot}
 use Rattle.wh_quant.specs.Spots.{spot_of, spot_cmp, is_at}
-use Rattle.wh_quant.specs.Moves.{Inventory, placed, with_quant}
+use Rattle.wh_quant.specs.Moves.{Holdings, quants_with, with_quant}
 use Rattle.wh_quant.specs.Indexed.{first_place, AreFirstPlaces}
 
 -- ---- one test
@@ -73,30 +73,30 @@ pub first_place-same : (p r : Quant → Bool) → ((q : Quant) → p q ≡ r q) 
 first_place-same p r alike [] = refl
 first_place-same p r alike (q ∷ qs) = rw (alike q, first_place-same p r alike qs) refl
 
--- ---- a quant that is placed
+-- ---- a quant that is put in
 
 first_cons : (new q : Quant) (qs : List Quant) (i : ℕ) (b : Bool) (o : Option ℕ) → is_at (spot_of new) q ≡ b → first_place (is_at (spot_of new)) qs ≡ o →
-    ((j : ℕ) → first_place (is_at (spot_of new)) qs ≡ Some j → placed new qs ≡ set qs j new) → cond b (Some 0) (option_map (λ n. suc n) o) ≡ Some i →
-    placed new (q ∷ qs) ≡ set (q ∷ qs) i new
+    ((j : ℕ) → first_place (is_at (spot_of new)) qs ≡ Some j → quants_with new qs ≡ set qs j new) → cond b (Some 0) (option_map (λ n. suc n) o) ≡ Some i →
+    quants_with new (q ∷ qs) ≡ set (q ∷ qs) i new
 first_cons new q qs i true o is at rest h = rw (sym (same_Some 0 i h), is) refl
 first_cons new q qs i false None is at rest h = absurd (cc h)
 first_cons new q qs i false (Some j) is at rest h = rw (sym (same_Some (suc j) i h), is) (ap (λ t. q ∷ t) (rest j at))
 
 -- it takes the place of the first of its spot
-pub placed_first : (new : Quant) (qs : List Quant) (i : ℕ) → first_place (is_at (spot_of new)) qs ≡ Some i → placed new qs ≡ set qs i new
-placed_first new [] i h = absurd (cc h)
-placed_first new (q ∷ qs) i h = first_cons new q qs i (is_at (spot_of new) q) (first_place (is_at (spot_of new)) qs) refl refl (placed_first new qs) h
+pub quants_with_first : (new : Quant) (qs : List Quant) (i : ℕ) → first_place (is_at (spot_of new)) qs ≡ Some i → quants_with new qs ≡ set qs i new
+quants_with_first new [] i h = absurd (cc h)
+quants_with_first new (q ∷ qs) i h = first_cons new q qs i (is_at (spot_of new) q) (first_place (is_at (spot_of new)) qs) refl refl (quants_with_first new qs) h
 
 last_cons : (new q : Quant) (qs : List Quant) (b : Bool) (o : Option ℕ) → is_at (spot_of new) q ≡ b → first_place (is_at (spot_of new)) qs ≡ o →
-    (first_place (is_at (spot_of new)) qs ≡ None → placed new qs ≡ qs ++ new ∷ []) → cond b (Some 0) (option_map (λ n. suc n) o) ≡ None → placed new (q ∷ qs) ≡ (q ∷ qs) ++ new ∷ []
+    (first_place (is_at (spot_of new)) qs ≡ None → quants_with new qs ≡ qs ++ new ∷ []) → cond b (Some 0) (option_map (λ n. suc n) o) ≡ None → quants_with new (q ∷ qs) ≡ (q ∷ qs) ++ new ∷ []
 last_cons new q qs true o is at rest h = absurd (cc h)
 last_cons new q qs false None is at rest h = rw is (ap (λ t. q ∷ t) (rest at))
 last_cons new q qs false (Some j) is at rest h = absurd (cc h)
 
 -- or the end, where its spot has none
-pub placed_last : (new : Quant) (qs : List Quant) → first_place (is_at (spot_of new)) qs ≡ None → placed new qs ≡ qs ++ new ∷ []
-placed_last new [] h = refl
-placed_last new (q ∷ qs) h = last_cons new q qs (is_at (spot_of new) q) (first_place (is_at (spot_of new)) qs) refl refl (placed_last new qs) h
+pub quants_with_last : (new : Quant) (qs : List Quant) → first_place (is_at (spot_of new)) qs ≡ None → quants_with new qs ≡ qs ++ new ∷ []
+quants_with_last new [] h = refl
+quants_with_last new (q ∷ qs) h = last_cons new q qs (is_at (spot_of new) q) (first_place (is_at (spot_of new)) qs) refl refl (quants_with_last new qs) h
 
 -- ---- an index by spot
 
@@ -174,14 +174,14 @@ indexed_push_tested places more qs q s t n b index at key end is h updates =
     (ap (tree.get spot_cmp places) (sym at) ∙ none_from_test (tree.get spot_cmp places s) (sym is ∙ h))
     (λ spot. updates spot ∙ rw (key, end) refl)
 
--- ---- an inventory with a quant put in
+-- ---- holdings with a quant put in
 
-pub put_first : (stock : Inventory) (q : Quant) (i : ℕ) → first_place (is_at (spot_of q)) stock.quants ≡ Some i →
-    ◌≡◌ {A = Inventory} (record { quants = set stock.quants i q; next = stock.next }) (with_quant q stock)
+pub put_first : (stock : Holdings) (q : Quant) (i : ℕ) → first_place (is_at (spot_of q)) stock.quants ≡ Some i →
+    ◌≡◌ {A = Holdings} (record { quants = set stock.quants i q; next = stock.next }) (with_quant q stock)
 put_first stock q i h =
     let found = ((at_first (is_at (spot_of q)) stock.quants i h).1 q).1 in
-    rw (placed_first q stock.quants i h, found) refl
+    rw (quants_with_first q stock.quants i h, found) refl
 
-pub put_last : (stock : Inventory) (q : Quant) → first_place (is_at (spot_of q)) stock.quants ≡ None →
-    ◌≡◌ {A = Inventory} (record { quants = stock.quants ++ q ∷ []; next = stock.next + 1 }) (with_quant q stock)
-put_last stock q h = rw (placed_last q stock.quants h, none_first (is_at (spot_of q)) stock.quants h) refl
+pub put_last : (stock : Holdings) (q : Quant) → first_place (is_at (spot_of q)) stock.quants ≡ None →
+    ◌≡◌ {A = Holdings} (record { quants = stock.quants ++ q ∷ []; next = stock.next + 1 }) (with_quant q stock)
+put_last stock q h = rw (quants_with_last q stock.quants h, none_first (is_at (spot_of q)) stock.quants h) refl

@@ -13,7 +13,7 @@ use Rattle.wh_quant.specs.declared.stock.Stock.{Stock}
 use Rattle.wh_quant.specs.declared.stock.Take.{Take}
 use Rattle.wh_quant.specs.declared.stock.Removal.{Removal}
 use Rattle.wh_quant.specs.Sums.{total}
-use Rattle.wh_quant.specs.Takes.{HasFree, IsRanked, gifts, takes_from, IsTaken, IsWithin}
+use Rattle.wh_quant.specs.Takes.{HasFree, IsRanked, gifts, takes_from, AreTakes, IsTakeOf}
 use Rattle.wh_quant.proofs.Totals.{total-IsPermutation, total-least}
 
 lt_yes : (a b : ℤ) → a <ℤ b → int_lt a b ≡ true
@@ -75,17 +75,17 @@ pub left_fits : (left free amount : ℤ) → FitsSigned w64 left → pos 0 <ℤ 
 left_fits left free amount fits some has least = omega (arith, ints, clamps)
 
 -- the takes of a wanted quantity are of stocks, within what is free there
-takes_within : (stocks : List Stock) (want : ℤ) (xs : List Stock) → All HasFree xs → All (Contains stocks) xs → All (IsWithin stocks) (takes_from want xs)
-takes_within stocks want [] free among = All-nil (IsWithin stocks)
+takes_within : (stocks : List Stock) (want : ℤ) (xs : List Stock) → All HasFree xs → All (Contains stocks) xs → All (IsTakeOf stocks) (takes_from want xs)
+takes_within stocks want [] free among = All-nil (IsTakeOf stocks)
 takes_within stocks want (s ∷ xs) free among =
     let has : pos 0 <ℤ s.free = All-head HasFree s xs free in
     let others = All-tail HasFree s xs free in
     by_lt_z (pos 0) want
     (λ h. let amount = int_min s.free want in
-    let here : IsWithin stocks (record { quant = s.quant; amount = amount }) = (s, All-head (Contains stocks) s xs among, refl, omega (arith, ints, clamps), omega (arith, ints, clamps)) in
-    rw (takes_more want amount s xs h free refl) (All-cons (IsWithin stocks) (record { quant = s.quant; amount = amount }) (takes_from (want -ℤ amount) xs) here
+    let here : IsTakeOf stocks (record { quant = s.quant; amount = amount }) = (s, All-head (Contains stocks) s xs among, refl, omega (arith, ints, clamps), omega (arith, ints, clamps)) in
+    rw (takes_more want amount s xs h free refl) (All-cons (IsTakeOf stocks) (record { quant = s.quant; amount = amount }) (takes_from (want -ℤ amount) xs) here
     (takes_within stocks (want -ℤ amount) xs others (All-tail (Contains stocks) s xs among))))
-    (λ h. rw (takes_none want (s ∷ xs) h free) (All-nil (IsWithin stocks)))
+    (λ h. rw (takes_none want (s ∷ xs) h free) (All-nil (IsTakeOf stocks)))
 
 -- together they are what is wanted, or all that is free
 takes_whole : (want : ℤ) (xs : List Stock) → All HasFree xs → total (λ t. t.amount) (takes_from want xs) ≡ int_min (int_max (pos 0) want) (total (λ s. s.free) xs)
@@ -119,7 +119,7 @@ module _ (order : Removal) (stocks ranked : List Stock) (is : IsRanked order sto
   ranked_among = All-permutation (Contains stocks) (filter (λ s. int_lt (pos 0) s.free) stocks) ranked is.same
       (All-filter (λ s. int_lt (pos 0) s.free) (Contains stocks) stocks (All-contains_itself stocks))
 
-  pub taken_within : (want : ℤ) → All (IsWithin stocks) (takes_from want ranked)
+  pub taken_within : (want : ℤ) → All (IsTakeOf stocks) (takes_from want ranked)
   taken_within want = takes_within stocks want ranked ranked_free ranked_among
 
   pub taken_whole : (want : ℤ) → total (λ t. t.amount) (takes_from want ranked) ≡ int_min (int_max (pos 0) want) (total (λ s. int_max (pos 0) s.free) stocks)

@@ -6,11 +6,11 @@ use Rattle.wh_quant.specs.declared.quant.Quant.{Quant}
 use Rattle.wh_quant.specs.declared.spot.Spot.{Spot}
 use Rattle.wh_quant.specs.declared.indexed.IndexedQuants.{IndexedQuants}
 use Rattle.wh_quant.specs.Spots.{spot_cmp, is_at}
-use Rattle.wh_quant.specs.Moves.{Inventory}
+use Rattle.wh_quant.specs.Moves.{Holdings}
 
 -- the quants and the next id, without the index
-abbrev pub inventory_of : IndexedQuants → Inventory
-inventory_of stock = record { quants = stock.quants.items; next = stock.next }
+abbrev pub holdings_of : IndexedQuants → Holdings
+holdings_of stock = record { quants = stock.quants.items; next = stock.next }
 
 -- the place of the first quant that passes, where one does
 abbrev pub first_place : (Quant → Bool) → List Quant → Option ℕ

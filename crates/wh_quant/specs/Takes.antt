@@ -47,9 +47,9 @@ abbrev pub takes_from : ℤ → List Stock → List Take
 takes_from want ranked = filter (λ t. int_lt (pos 0) t.amount) (gifts want ranked)
 
 -- the takes of a wanted quantity from stocks in an order of removal
-abbrev pub IsTaken : Removal → List Stock → ℤ → List Take → Type 0
-IsTaken order stocks want taken = (ranked : List Stock) × IsRanked order stocks ranked × (taken ≡ takes_from want ranked)
+abbrev pub AreTakes : Removal → List Stock → ℤ → List Take → Type 0
+AreTakes order stocks want taken = (ranked : List Stock) × IsRanked order stocks ranked × (taken ≡ takes_from want ranked)
 
 -- the take gives something of a stock, and no more than is free there
-abbrev pub IsWithin : List Stock → Take → Type 0
-IsWithin stocks t = (s : Stock) × Contains stocks s × (t.quant ≡ s.quant) × (pos 0 <ℤ t.amount) × (t.amount ≤ℤ s.free)
+abbrev pub IsTakeOf : List Stock → Take → Type 0
+IsTakeOf stocks t = (s : Stock) × Contains stocks s × (t.quant ≡ s.quant) × (pos 0 <ℤ t.amount) × (t.amount ≤ℤ s.free)

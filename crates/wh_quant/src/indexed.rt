@@ -5,7 +5,7 @@ ghost use Rattle.std.specs.Prelude.{◌≡◌, ◌+◌, ◌<◌, ◌^◌, nat_eq
 ghost use Rattle.wh_quant.specs.Spots.{spot_of, is_at};
 ghost use Rattle.std.specs.List.{IsDistinct};
 ghost use Rattle.wh_quant.specs.Moves.{with_quant, IsStart};
-ghost use Rattle.wh_quant.specs.Indexed.{inventory_of, IsIndexed, AreFirstPlaces};
+ghost use Rattle.wh_quant.specs.Indexed.{holdings_of, IsIndexed, AreFirstPlaces};
 
 use crate::quant::Quant;
 use crate::spot::Spot;
@@ -25,7 +25,7 @@ impl IndexedQuants {
     /// The quants by id.
     pub(crate) fn open(alloc: Global, quants: &[Quant], next: u64) -> Result<Self, NoMemory>
         requires { IsDistinct nat_eq (map (λ q. q.id.0) quants.now) }
-        ensures start { IfOk result (λ stock. IsStart quants.now next (inventory_of stock)) }
+        ensures start { IfOk result (λ stock. IsStart quants.now next (holdings_of stock)) }
         ensures indexed { IfOk result IsIndexed }
     {
         let mut by_id = Vec::from_slice(alloc, quants)?;
@@ -41,7 +41,7 @@ impl IndexedQuants {
     /// The quant of least id at the spot, where there is one.
     pub(crate) fn find(&self, spot: Spot) -> Option<Quant>
         requires { IsIndexed self.now }
-        ensures { result ≡ find (is_at spot) (inventory_of self.now).quants }
+        ensures { result ≡ find (is_at spot) (holdings_of self.now).quants }
     {
         match self.places.get(&spot) {
             Some(place) => Some(self.quants[*place]),
@@ -54,7 +54,7 @@ impl IndexedQuants {
     pub(crate) fn put(&mut self, quant: Quant) -> Result<(), NoMemory>
         requires indexed { IsIndexed self.old }
         requires room { self.old.next + 1 < 2 ^ 64 }
-        ensures put { OnOk result (inventory_of self.new ≡ with_quant quant (inventory_of self.old)) }
+        ensures put { OnOk result (holdings_of self.new ≡ with_quant quant (holdings_of self.old)) }
         ensures still { OnOk result (IsIndexed self.new) }
     {
         match self.places.get(&quant.spot()) {

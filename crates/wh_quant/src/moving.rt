@@ -6,7 +6,7 @@ ghost use Rattle.ob_base.specs.declared.id.RecId.{RecId};
 ghost use Rattle.wh_quant.specs.declared.quant.Quant.{Quant};
 ghost use Rattle.wh_quant.specs.Moves.{IsMoved, IsShortAt, SumsFit, AreGuardedBy, RiseById, LineFits, source_quant, after_line, Suffices, FallsShort};
 ghost use Rattle.wh_quant.specs.Sums.{sum_of, IsCovered};
-ghost use Rattle.wh_quant.specs.Indexed.{inventory_of, IsIndexed};
+ghost use Rattle.wh_quant.specs.Indexed.{holdings_of, IsIndexed};
 
 use crate::indexed::IndexedQuants;
 use crate::quant::{Line, LineFault, Quant};
@@ -57,11 +57,11 @@ pub fn move_lines(
 fn move_line(stock: &mut IndexedQuants, line: &Line, now: i64, number: u32) -> Result<(), LineFault>
     requires indexed { IsIndexed stock.old }
     requires ids { stock.old.next + 2 < 2 ^ 64 }
-    requires fits { Suffices line.now (source_quant now line.now (inventory_of stock.old)) → LineFits now line.now (inventory_of stock.old) }
-    ensures moved { OnOk result (inventory_of stock.new ≡ after_line now (inventory_of stock.old) line.now) }
-    ensures enough { OnOk result (Suffices line.now (source_quant now line.now (inventory_of stock.old))) }
+    requires fits { Suffices line.now (source_quant now line.now (holdings_of stock.old)) → LineFits now line.now (holdings_of stock.old) }
+    ensures moved { OnOk result (holdings_of stock.new ≡ after_line now (holdings_of stock.old) line.now) }
+    ensures enough { OnOk result (Suffices line.now (source_quant now line.now (holdings_of stock.old))) }
     ensures still { OnOk result (IsIndexed stock.new) }
-    ensures short { (i : ℕ) → result ≡ Err (LineFault.Short i) → (i ≡ number) × FallsShort line.now (source_quant now line.now (inventory_of stock.old)) }
+    ensures short { (i : ℕ) → result ≡ Err (LineFault.Short i) → (i ≡ number) × FallsShort line.now (source_quant now line.now (holdings_of stock.old)) }
 {
     let absent = Quant::empty(stock.next, line.source(), now, line.guarded_from);
     let source = stock.find(line.source()).unwrap_or(absent);

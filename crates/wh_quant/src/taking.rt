@@ -4,7 +4,7 @@ ghost use Rattle.std.specs.Prelude.{◌≡◌, pos, nat_eq, List, map, IfOk, All
 ghost use Rattle.std.specs.List.{IsDistinct};
 ghost use Rattle.std.specs.Int.{int_min, int_max};
 ghost use Rattle.wh_quant.specs.declared.stock.Take.{Take};
-ghost use Rattle.wh_quant.specs.Takes.{HasFree, IsRanked, takes_from, IsTaken, IsWithin};
+ghost use Rattle.wh_quant.specs.Takes.{HasFree, IsRanked, takes_from, AreTakes, IsTakeOf};
 ghost use Rattle.wh_quant.specs.Sums.{total};
 
 use crate::stock::{Removal, Stock, Take};
@@ -20,13 +20,13 @@ pub fn takes(
     want: i64,
     order: Removal,
 ) -> Result<Sequence<Take>, NoMemory>
-    ensures taken { IfOk result (IsTaken order free.now want) }
+    ensures taken { IfOk result (AreTakes order free.now want) }
 
     // Where no two stocks share an id, no other list is so taken.
-    ensures only { IsDistinct nat_eq (map (λ s. s.quant.0) free.now) → (a b : List Take) → IsTaken order free.now want a → IsTaken order free.now want b → a ≡ b }
+    ensures only { IsDistinct nat_eq (map (λ s. s.quant.0) free.now) → (a b : List Take) → AreTakes order free.now want a → AreTakes order free.now want b → a ≡ b }
 
     // No take is of more than is free, and together they give all that is wanted, where it is there, and no more.
-    ensures within { IfOk result (All (IsWithin free.now)) }
+    ensures within { IfOk result (All (IsTakeOf free.now)) }
     ensures whole { IfOk result (λ taken. total (λ t. t.amount) taken ≡ int_min (int_max (pos 0) want) (total (λ s. int_max (pos 0) s.free) free.now)) }
 {
     let candidates = ranked(alloc, free, order)?;

@@ -5,7 +5,7 @@ use Rattle.std.proofs.lemmas.Int.{to_z-of_z}
 use Rattle.std.proofs.lemmas.Result.{IfOk-weaker}
 use Rattle.wh_quant.specs.declared.stock.Take.{Take}
 use Rattle.wh_quant.specs.Sums.{total}
-use Rattle.wh_quant.specs.Takes.{IsRanked, takes_from, IsWithin}
+use Rattle.wh_quant.specs.Takes.{IsRanked, takes_from, IsTakeOf}
 use Rattle.wh_quant.proofs.Sorting.{behind}
 use Rattle.wh_quant.proofs.Taken.{ranked_free, taken_within, taken_whole}
 use Rattle.wh_quant.proofs.Only.{taken_only}
@@ -17,7 +17,7 @@ given-requires c = rw c.as_slice.ensures.value (ranked_free c.args.order c.args.
 pub returns-clause-within : goal.returns-clause-within
 returns-clause-within c =
     let order : IsRanked c.args.order c.args.free.now (map behind c.as_slice.result.now) = rw c.as_slice.ensures.value c.in_ok-candidates.ensures in
-    IfOk-weaker c.given.result (λ (taken : List Take). taken ≡ takes_from (to_z w64 (of_z w64 c.args.want)) (map behind c.as_slice.result.now)) (All (IsWithin c.args.free.now))
+    IfOk-weaker c.given.result (λ (taken : List Take). taken ≡ takes_from (to_z w64 (of_z w64 c.args.want)) (map behind c.as_slice.result.now)) (All (IsTakeOf c.args.free.now))
     (λ taken is. rw is (taken_within c.args.order c.args.free.now (map behind c.as_slice.result.now) order (to_z w64 (of_z w64 c.args.want)))) c.given.ensures
 
 pub returns-clause-whole : goal.returns-clause-whole

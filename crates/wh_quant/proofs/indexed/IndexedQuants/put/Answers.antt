@@ -1,7 +1,7 @@
 use Rattle.std.proofs.Common.{◌≡◌, ap, sym, ◌∙◌, Some, None, refl, length, arith}
 use Rattle.std.specs.BTreeMap as tree
 use Rattle.wh_quant.specs.Spots.{spot_cmp, spot_of, is_at}
-use Rattle.wh_quant.specs.Indexed.{inventory_of, first_place}
+use Rattle.wh_quant.specs.Indexed.{holdings_of, first_place}
 use Rattle.wh_quant.proofs.Places.{at_first, indexed_set, indexed_push, put_first, put_last}
 use Rattle.wh_quant.proofs.indexed.IndexedQuants.put.Goals as goal
 
@@ -16,7 +16,7 @@ pub returns-in-Some-clause-put : goal.returns-in-Some-clause-put
 returns-in-Some-clause-put c =
     let at : tree.get spot_cmp c.args.self.now.places (spot_of c.args.quant) ≡ Some c.in-Some.place.now = ap (tree.get spot_cmp c.args.self.now.places) (sym c.spot.ensures) ∙ sym
     c.in-Some.ensures.value in
-    put_first (inventory_of c.args.self.now) c.args.quant c.in-Some.place.now (sym (c.requires.indexed (spot_of c.args.quant)) ∙ at)
+    put_first (holdings_of c.args.self.now) c.args.quant c.in-Some.place.now (sym (c.requires.indexed (spot_of c.args.quant)) ∙ at)
 
 pub returns-in-Some-clause-still : goal.returns-in-Some-clause-still
 returns-in-Some-clause-still c =
@@ -27,7 +27,7 @@ returns-in-Some-clause-still c =
 pub returns-in_ok-push-in-None-clause-put : goal.returns-in_ok-push-in-None-clause-put
 returns-in_ok-push-in-None-clause-put c =
     let none : tree.get spot_cmp c.args.self.now.places (spot_of c.args.quant) ≡ None = ap (tree.get spot_cmp c.args.self.now.places) (sym c.spot.ensures) ∙ sym c.in-None.ensures.value in
-    rw c.in_ok-push-in-None.ensures.items (put_last (inventory_of c.args.self.now) c.args.quant (sym (c.requires.indexed (spot_of c.args.quant)) ∙ none))
+    rw c.in_ok-push-in-None.ensures.items (put_last (holdings_of c.args.self.now) c.args.quant (sym (c.requires.indexed (spot_of c.args.quant)) ∙ none))
 
 pub returns-in_ok-push-in-None-clause-still : goal.returns-in_ok-push-in-None-clause-still
 returns-in_ok-push-in-None-clause-still c =
