@@ -46,7 +46,8 @@ Leads rules place [] last = place ≡ last
 Leads rules place (id ∷ ids) last = (rule : RouteRule) × IsPullRule rules place rule × (id ≡ rule.id) × Leads rules rule.src ids last
 
 -- with one more member
-pub Leads-push : (rules : List RouteRule) (place : RecId) (ids : List RecId) (last : RecId) (rule : RouteRule) → Leads rules place ids last → IsPullRule rules last rule → Leads rules place (ids ++ rule.id ∷ []) rule.src
+pub Leads-push : (rules : List RouteRule) (place : RecId) (ids : List RecId) (last : RecId) (rule : RouteRule) → Leads rules place ids last → IsPullRule rules last rule →
+    Leads rules place (ids ++ rule.id ∷ []) rule.src
 Leads-push rules place [] last rule p is = (rule, (rw p is), refl, refl)
 Leads-push rules place (id ∷ ids) last rule (first, is_first, e, rest) is = (first, is_first, e, Leads-push rules first.src ids last rule rest is)
 
@@ -56,7 +57,8 @@ IsChain-end rules place [] last p none = rw p none
 IsChain-end rules place (id ∷ ids) last (first, is, e, rest) none = (first, is, e, IsChain-end rules first.src ids last rest none)
 
 -- where one follows each chain is longer
-pub longer : (rules : List RouteRule) (place : RecId) (ids : List RecId) (last : RecId) (rule : RouteRule) → Leads rules place ids last → IsPullRule rules last rule → (chain : List RecId) → IsChain rules place chain → length ids < length chain
+pub longer : (rules : List RouteRule) (place : RecId) (ids : List RecId) (last : RecId) (rule : RouteRule) → Leads rules place ids last → IsPullRule rules last rule →
+    (chain : List RecId) → IsChain rules place chain → length ids < length chain
 longer rules place [] last rule p is [] none = absurd (none_or_one rules last rule (rw (sym p) none) is)
 longer rules place [] last rule p is (y ∷ ys) chain = omega arith
 longer rules place (id ∷ ids) last rule (first, is_first, e, rest) is [] none = absurd (none_or_one rules place first none is_first)

@@ -15,7 +15,8 @@ loop-rule-preserved c =
     elim c.if-pulls_to.branch [
       | then-pulls_to w ↦
           let pulls : PullsTo c.args.place rule = c.pulls_to.ensures.0 w.if-pulls_to.true in
-          rw (w.found-is, more) (pulls_take seen c.args.place c.loop-rule.found rule w.earlier.result c.loop-rule.invariant pulls w.earlier.ensures.both w.earlier.ensures.one w.earlier.ensures.no_later)
+          rw (w.found-is, more) (pulls_take seen c.args.place c.loop-rule.found rule w.earlier.result c.loop-rule.invariant pulls w.earlier.ensures.both w.earlier.ensures.one
+          w.earlier.ensures.no_later)
       | else-pulls_to w ↦
           let not : ¬ PullsTo c.args.place rule = λ pulls. cc (c.pulls_to.ensures.1 pulls, w.if-pulls_to.false) in
           rw (w.found-is, more) (pulls_skip seen c.args.place c.loop-rule.found rule c.loop-rule.invariant not)

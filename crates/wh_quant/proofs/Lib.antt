@@ -1,0 +1,12 @@
+pub mod Removals
+pub mod Totals
+pub mod Taken
+pub mod Sorting
+pub mod Places
+pub mod Starts
+pub mod Runs
+pub mod Exact
+pub mod Kept
+pub mod Order
+pub mod Laws
+pub mod Only

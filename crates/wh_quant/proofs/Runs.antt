@@ -1,0 +1,77 @@
+-- Lines one after the other: one more line, and what each keeps.
+use Rattle.std.proofs.Common.{◌≡◌, ℕ, ℤ, ◌+◌, ◌*◌, ◌<◌, ◌≤◌, List, length, take, get_or, Some, Bool, true, false, cond, refl, sym, ◌∙◌, ap, subst, inl, inr, arith}
+use Rattle.std.specs.Prelude.{slice_get, is_some}
+use Rattle.std.specs.List.{find, filter}
+use Rattle.std.proofs.lemmas.List.{take_all}
+use Rattle.std.proofs.lemmas.List.Sums.{fold_more}
+use Rattle.std.proofs.lemmas.Option.{same_Some}
+use Rattle.std.proofs.lemmas.Bool.{cases_lt}
+use Rattle.wh_quant.specs.declared.quant.Quant.{Quant}
+use Rattle.wh_quant.specs.declared.quant.Line.{Line}
+use Rattle.wh_quant.specs.Spots.{spot_of, is_at}
+use Rattle.wh_quant.specs.Moves.{Holdings, with_quant, source_quant, lowered, destination_after, after_taking, after_line, holdings_after}
+use Rattle.wh_quant.specs.Moves.{Suffices, FallsShort, AllSuffice, IsStart, IsMoved, IsShortAt, LineFits, SumsFit}
+use Rattle.wh_quant.proofs.Kept.{is_left}
+
+one_more_at_most : (b : Bool) (n : ℕ) → cond b n (n + 1) ≤ n + 1
+one_more_at_most true n = omega arith
+one_more_at_most false n = omega arith
+
+-- a quant takes one new id at most
+pub next-with_quant : (q : Quant) (stock : Holdings) → (with_quant q stock).next ≤ stock.next + 1
+next-with_quant q stock = one_more_at_most (is_some (find (is_at (spot_of q)) stock.quants)) stock.next
+
+-- a line takes two at most
+pub next-after_line : (now : ℤ) (stock : Holdings) (line : Line) → (after_line now stock line).next ≤ stock.next + 2
+next-after_line now stock line =
+    let first = next-with_quant (lowered line (source_quant now line stock)) stock in
+    let second = next-with_quant (destination_after now line stock) (after_taking now line stock) in
+    omega (arith, first, second)
+
+-- one more line
+pub holdings_after-more : (now : ℤ) (start stock more : Holdings) (lines : List Line) (n : ℕ) (d : Line) → n < length lines → stock ≡ holdings_after now start (take n lines) →
+    more ≡ after_line now stock (get_or lines n d) → more ≡ holdings_after now start (take (n + 1) lines)
+holdings_after-more now start stock more lines n d within is moved =
+    moved ∙ ap (λ stock. after_line now stock (get_or lines n d)) is ∙ sym (fold_more (after_line now) start lines n d within)
+
+-- the sources of the first lines suffice, and that of one more
+pub AllSuffice-more : (now : ℤ) (start : Holdings) (lines : List Line) (n : ℕ) (line : Line) → AllSuffice now start lines n → slice_get lines n ≡ Some line →
+    Suffices line (source_quant now line (holdings_after now start (take n lines))) → AllSuffice now start lines (n + 1)
+AllSuffice-more now start lines n line so_far is enough k other below at =
+    elim (cases_lt k n) [
+      | inl before ↦ so_far k other before at
+      | inr past ↦
+          let here : k ≡ n = omega arith in
+          let same : line ≡ other = same_Some line other (sym is ∙ rw (sym here) at) in
+          rw (here, ← same) enough
+    ]
+
+-- at a line whose source suffices, the sums that it makes fit
+pub fits_at : (now m : ℤ) (next : ℕ) (quants : List Quant) (lines : List Line) (start stock : Holdings) (n : ℕ) (line : Line) → m ≡ now → SumsFit now next quants lines →
+    IsStart quants next start → stock ≡ holdings_after m start (take n lines) → AllSuffice m start lines n → slice_get lines n ≡ Some line →
+    Suffices line (source_quant m line stock) → LineFits m line stock
+fits_at now m next quants lines start stock n line e fits starts is so_far at enough =
+    let P : ℤ → Type 0 = λ m. stock ≡ holdings_after m start (take n lines) → AllSuffice m start lines n → Suffices line (source_quant m line stock) → LineFits m line stock in
+    subst P (sym e) (λ is so_far enough. rw is (fits start n line starts (AllSuffice-more now start lines n line so_far at (rw (sym is) enough)) at)) is so_far enough
+
+-- a line whose source falls short is the first one
+pub short_at : (now m : ℤ) (next : ℕ) (quants : List Quant) (lines : List Line) (start stock : Holdings) (n : ℕ) (line : Line) → m ≡ now → IsStart quants next start →
+    stock ≡ holdings_after m start (take n lines) → AllSuffice m start lines n → slice_get lines n ≡ Some line → FallsShort line (source_quant m line stock) →
+    IsShortAt now next quants lines n
+short_at now m next quants lines start stock n line e starts is so_far at short =
+    let P : ℤ → Type 0 = λ m. stock ≡ holdings_after m start (take n lines) → AllSuffice m start lines n → FallsShort line (source_quant m line stock) → IsShortAt now next quants lines n in
+    subst P (sym e) (λ is so_far short. record { start = start; starts = starts; suffice = so_far; line = line; is = at; short = rw (sym is) short }) is so_far short
+
+-- after the last line
+pub moved_all : (now m : ℤ) (next : ℕ) (quants : List Quant) (lines : List Line) (start stock : Holdings) (n : ℕ) (moved : List Quant) → m ≡ now → IsStart quants next start →
+    stock ≡ holdings_after m start (take n lines) → AllSuffice m start lines n → n ≡ length lines → moved ≡ filter is_left stock.quants → IsMoved now next quants lines moved
+moved_all now m next quants lines start stock n moved e starts is so_far end left =
+    let P : ℤ → Type 0 = λ m. stock ≡ holdings_after m start (take n lines) → AllSuffice m start lines n → IsMoved now next quants lines moved in
+    let whole : take n lines ≡ lines = take_all n lines (omega arith) in
+    subst P (sym e) (λ is so_far. record {
+      start = start;
+      starts = starts;
+      suffice = rw (sym end) so_far;
+      left = left ∙ ap (λ (stock : Holdings). filter is_left stock.quants)
+          (is ∙ ap (holdings_after now start) whole);
+    }) is so_far

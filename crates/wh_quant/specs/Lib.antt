@@ -1,0 +1,5 @@
+pub mod Takes
+pub mod Spots
+pub mod Moves
+pub mod Sums
+pub mod Indexed
