@@ -8,7 +8,8 @@ use Rattle.serde_json.specs.Data.{Data}
 use Rattle.ob_base.specs.Ids.{IsId}
 use Rattle.ob_base.specs.declared.id.RecId.{RecId}
 use Rattle.ob_codec.specs.CommandForms.{AreOrdersJson, HasElements, IsOrderJson, IsOrderListJson, IsScalar, id_json, list_json, number_json}
-use Rattle.ob_codec.specs.Commands.{clear_from, code_of, code_of_number, create_from, element, ended, id_in, id_of_json, id_of_number, ids_in, ids_of, ignored, named_row, order_at, order_by, order_from, orders_of, passed_if_any, passed_in, set_from, update_from, values_in}
+use Rattle.ob_codec.specs.Commands.{clear_from, code_of, code_of_number, create_from, element, ended, id_in, id_of_json, id_of_number, ids_in, ids_of}
+use Rattle.ob_codec.specs.Commands.{ignored, named_row, order_at, order_by, order_from, orders_of, passed_if_any, passed_in, set_from, update_from, values_in}
 use Rattle.ob_codec.specs.Input.{Order, create, update, delete, unlink, link, clear, set}
 use Rattle.ob_codec.specs.Steps.{each_from}
 use Rattle.ob_codec.proofs.CommandForms.{listed-items_of}

@@ -33,7 +33,8 @@ ids_again [] rest fits = refl
 ids_again (id ∷ ids) rest fits =
     let others = flat_map (λ (i : RecId). to_be_bytes w64 i.0) ids in
     ap (any_ids (suc (length ids))) (append_assoc (to_be_bytes w64 id.0) others rest)
-    ∙ bind_at (body_number w64 (to_be_bytes w64 id.0 ++ (others ++ rest))) (λ i. option_and_then (λ is. Some (record { 0 = i.0 } ∷ is.0, is.1)) (any_ids (length ids) i.1)) (id.0, others ++ rest) (number_again w64 (2 ^ 64) wide64 id.0 (others ++ rest) fits.0)
+    ∙ bind_at (body_number w64 (to_be_bytes w64 id.0 ++ (others ++ rest))) (λ i. option_and_then (λ is. Some (record { 0 = i.0 } ∷ is.0, is.1)) (any_ids (length ids) i.1)) (id.0, others ++ rest)
+    (number_again w64 (2 ^ 64) wide64 id.0 (others ++ rest) fits.0)
     ∙ bind_at (any_ids (length ids) (others ++ rest)) (λ is. Some (id ∷ is.0, is.1)) (ids, rest) (ids_again ids rest fits.1)
 
 -- the value of a tag and a content

@@ -23,14 +23,16 @@ fails_on fault.NoMemory read whole failed none = tt
 
 -- ---- ids
 
-pub ids_fail : (n left before : ℕ) (ids : List RecId) (bytes : List ℕ) (whole : Option (List RecId × List ℕ)) (e : RowFault) → n ≡ suc left → IsRowFault e (body_id before bytes) → read_after ids (body_ids n before bytes) ≡ whole → IsRowFault e whole
+pub ids_fail : (n left before : ℕ) (ids : List RecId) (bytes : List ℕ) (whole : Option (List RecId × List ℕ)) (e : RowFault) → n ≡ suc left → IsRowFault e (body_id before bytes)
+    → read_after ids (body_ids n before bytes) ≡ whole → IsRowFault e whole
 unfolding body_ids
 ids_fail n left before ids bytes whole e more failed same =
     fails_on e (body_id before bytes) whole failed
     (λ none. sym same ∙ ap (λ (k : ℕ). read_after ids (body_ids k before bytes)) more
     ∙ ap (λ (o : Option (RecId × List ℕ)). read_after ids (option_and_then (λ id. option_and_then (λ is. Some (id.0 ∷ is.0, is.1)) (body_ids left id.0.0 id.1)) o)) none)
 
-pub ids_more : (n left before : ℕ) (ids : List RecId) (bytes : List ℕ) (id : RecId) (rest : List ℕ) (whole : Option (List RecId × List ℕ)) → n ≡ suc left → body_id before bytes ≡ Some (id, rest) → read_after ids (body_ids n before bytes) ≡ whole → read_after (ids ++ id ∷ []) (body_ids left id.0 rest) ≡ whole
+pub ids_more : (n left before : ℕ) (ids : List RecId) (bytes : List ℕ) (id : RecId) (rest : List ℕ) (whole : Option (List RecId × List ℕ)) → n ≡ suc left → body_id before bytes ≡ Some (id, rest)
+    → read_after ids (body_ids n before bytes) ≡ whole → read_after (ids ++ id ∷ []) (body_ids left id.0 rest) ≡ whole
 unfolding body_ids
 ids_more n left before ids bytes id rest whole more read same =
     read_after-more ids id (body_ids left id.0 rest)
@@ -59,14 +61,16 @@ kept_pass fields i field lt at other =
     ap (filter is_kept) (drop_more fields i field lt ∙ ap (λ (f : FieldInfo). f ∷ drop (i + 1) fields) (sym at))
     ∙ ap (λ (b : Bool). cond b (field ∷ filter is_kept (drop (i + 1) fields)) (filter is_kept (drop (i + 1) fields))) other
 
-pub values_fail : (all rest : List FieldInfo) (field : FieldInfo) (values : List Value) (bytes : List ℕ) (whole : Option (List Value)) (e : RowFault) → all ≡ field ∷ rest → IsRowFault e (body_field field bytes) → listed_after values (body_values all bytes) ≡ whole → IsRowFault e whole
+pub values_fail : (all rest : List FieldInfo) (field : FieldInfo) (values : List Value) (bytes : List ℕ) (whole : Option (List Value)) (e : RowFault) → all ≡ field ∷ rest → IsRowFault e (body_field field bytes)
+    → listed_after values (body_values all bytes) ≡ whole → IsRowFault e whole
 unfolding body_values
 values_fail all rest field values bytes whole e more failed same =
     fails_on e (body_field field bytes) whole failed
     (λ none. sym same ∙ ap (λ (fs : List FieldInfo). listed_after values (body_values fs bytes)) more
     ∙ ap (λ (o : Option (Value × List ℕ)). listed_after values (option_and_then (λ v. option_and_then (λ vs. Some (v.0 ∷ vs)) (body_values rest v.1)) o)) none)
 
-pub values_more : (all rest : List FieldInfo) (field : FieldInfo) (values : List Value) (bytes : List ℕ) (v : Value) (left : List ℕ) (whole : Option (List Value)) → all ≡ field ∷ rest → body_field field bytes ≡ Some (v, left) → listed_after values (body_values all bytes) ≡ whole → listed_after (values ++ v ∷ []) (body_values rest left) ≡ whole
+pub values_more : (all rest : List FieldInfo) (field : FieldInfo) (values : List Value) (bytes : List ℕ) (v : Value) (left : List ℕ) (whole : Option (List Value)) → all ≡ field ∷ rest → body_field field bytes ≡ Some (v, left)
+    → listed_after values (body_values all bytes) ≡ whole → listed_after (values ++ v ∷ []) (body_values rest left) ≡ whole
 unfolding body_values
 values_more all rest field values bytes v left whole more read same =
     listed_after-more values v (body_values rest left)
@@ -78,7 +82,8 @@ pub values_pass : (all rest : List FieldInfo) (values : List Value) (bytes : Lis
 values_pass all rest values bytes whole pass same = ap (λ (fs : List FieldInfo). listed_after values (body_values fs bytes)) (sym pass) ∙ same
 
 -- nothing is left to read
-pub values_end : (fields : List FieldInfo) (i : ℕ) (values : List Value) (bytes : List ℕ) (whole : Option (List Value)) → length fields ≤ i → bytes ≡ [] → listed_after values (body_values (filter is_kept (drop i fields)) bytes) ≡ whole → whole ≡ Some values
+pub values_end : (fields : List FieldInfo) (i : ℕ) (values : List Value) (bytes : List ℕ) (whole : Option (List Value)) → length fields ≤ i → bytes ≡ []
+    → listed_after values (body_values (filter is_kept (drop i fields)) bytes) ≡ whole → whole ≡ Some values
 unfolding body_values
 values_end fields i values bytes whole past nothing same =
     sym same
@@ -93,7 +98,8 @@ rest_left bytes some =
     let full : eqb (length bytes) 0 ≡ false = grind (arith, nat_tests) in
     ap (λ (b : Bool). cond b (Some []) None) full
 
-pub values_left : (fields : List FieldInfo) (i : ℕ) (values : List Value) (bytes : List ℕ) (whole : Option (List Value)) → length fields ≤ i → 0 < length bytes → listed_after values (body_values (filter is_kept (drop i fields)) bytes) ≡ whole → whole ≡ None
+pub values_left : (fields : List FieldInfo) (i : ℕ) (values : List Value) (bytes : List ℕ) (whole : Option (List Value)) → length fields ≤ i → 0 < length bytes
+    → listed_after values (body_values (filter is_kept (drop i fields)) bytes) ≡ whole → whole ≡ None
 values_left fields i values bytes whole past some same =
     sym same
     ∙ ap (λ (fs : List FieldInfo). listed_after values (body_values (filter is_kept fs) bytes)) (drop_all i fields past)

@@ -177,10 +177,12 @@ unfolding body_row
 row_fail fields body count fault.Bad same failed = ap (λ (o : Option (List ℕ)). option_and_then (λ rest. body_values fields rest) o) (ap (λ (n : ℕ). body_fields n body) (sym same) ∙ failed)
 row_fail fields body count fault.NoMemory same failed = tt
 
-pub row_more : (fields : List FieldInfo) (body : List ℕ) (count : ℕ) (rest : List ℕ) (r : Result (List Value) RowFault) → count ≡ length fields → body_fields count body ≡ Some rest → IsRowResult (λ values. values) r (body_values fields rest) → IsRowResult (λ values. values) r (body_row fields body)
+pub row_more : (fields : List FieldInfo) (body : List ℕ) (count : ℕ) (rest : List ℕ) (r : Result (List Value) RowFault) → count ≡ length fields → body_fields count body ≡ Some rest
+    → IsRowResult (λ values. values) r (body_values fields rest) → IsRowResult (λ values. values) r (body_row fields body)
 unfolding body_row
 row_more fields body count rest r same read given =
-    let reads : (option_and_then (λ left. body_values fields left) (body_fields (length fields) body)) ≡ body_values fields rest = ap (λ (o : Option (List ℕ)). option_and_then (λ left. body_values fields left) o) (ap (λ (n : ℕ). body_fields n body) (sym same) ∙ read) in
+    let reads : (option_and_then (λ left. body_values fields left) (body_fields (length fields) body)) ≡ body_values fields rest = ap (λ (o : Option (List ℕ)). option_and_then (λ left. body_values fields left) o)
+    (ap (λ (n : ℕ). body_fields n body) (sym same) ∙ read) in
     subst (λ (o : Option (List Value)). IsRowResult (λ values. values) r o) (sym reads) given
 
 -- ---- the kept fields of a model
@@ -205,12 +207,14 @@ pub read_holds : (fields : List FieldInfo) (body : List ℕ) (r : Result (List V
 read_holds fields body (Ok values) fits given = (row_takes fields body values fits given).0
 read_holds fields body (Err e) fits given = tt
 
-pub read_only : (fields : List FieldInfo) (body : List ℕ) (r : Result (List Value) RowFault) (values : List Value) → length fields < 2 ^ 16 → HoldAll fields values → body ≡ row_form fields values → IsRowResult (λ values. values) r (body_row fields body) → (r ≡ Ok values) ⊎ (r ≡ Err fault.NoMemory)
+pub read_only : (fields : List FieldInfo) (body : List ℕ) (r : Result (List Value) RowFault) (values : List Value) → length fields < 2 ^ 16 → HoldAll fields values → body ≡ row_form fields values
+    → IsRowResult (λ values. values) r (body_row fields body) → (r ≡ Ok values) ⊎ (r ≡ Err fault.NoMemory)
 read_only fields body (Ok found) values few holds e given = inl (ap Ok (same_Some found values (sym given ∙ ap (body_row fields) e ∙ row_again fields values few holds)))
 read_only fields body (Err fault.Bad) values few holds e given = absurd (let n : None ≡ Some values = sym given ∙ ap (body_row fields) e ∙ row_again fields values few holds in cc)
 read_only fields body (Err fault.NoMemory) values few holds e given = inr refl
 
-pub read_bad : (fields : List FieldInfo) (body : List ℕ) (r : Result (List Value) RowFault) → length fields < 2 ^ 16 → IsRowResult (λ values. values) r (body_row fields body) → IsErrOf r fault.Bad → (values : List Value) → HoldAll fields values → body ≡ row_form fields values → ⊥
+pub read_bad : (fields : List FieldInfo) (body : List ℕ) (r : Result (List Value) RowFault) → length fields < 2 ^ 16 → IsRowResult (λ values. values) r (body_row fields body) → IsErrOf r fault.Bad → (values : List Value)
+    → HoldAll fields values → body ≡ row_form fields values → ⊥
 read_bad fields body r few given bad values holds e =
     elim (read_only fields body r values few holds e given) [
       | inl found ↦ (let n : Ok values ≡ Err fault.Bad = sym found ∙ bad in cc)

@@ -81,7 +81,8 @@ pub moment_text_is : (text : List ℕ) → shape_of text ≡ moment_shape → te
 moment_text_is text e =
     date_split text (has_date_of_moment text e) (byte_from_shape text moment_shape 4 45 e refl (omega arith)) (byte_from_shape text moment_shape 7 45 e refl (omega arith))
     ∙ ap (date_form (number_in text 0 4) (number_in text 5 2) (number_in text 8 2))
-    (time_split text (has_time text e) (length_from_shape text moment_shape e) (byte_from_shape text moment_shape 10 32 e refl (omega arith)) (byte_from_shape text moment_shape 13 58 e refl (omega arith)) (byte_from_shape text moment_shape 16 58 e refl (omega arith)))
+    (time_split text (has_time text e) (length_from_shape text moment_shape e) (byte_from_shape text moment_shape 10 32 e refl (omega arith)) (byte_from_shape text moment_shape 13 58 e refl (omega arith))
+    (byte_from_shape text moment_shape 16 58 e refl (omega arith)))
 
 -- ---- and the form has the shape, and gives the numbers again
 

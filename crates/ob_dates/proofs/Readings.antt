@@ -1,5 +1,6 @@
 -- What a text of a day or of a moment is read as, and that no two are read as one.
-use Rattle.std.proofs.Common.{◌≡◌, ℕ, ◌+◌, ◌*◌, ◌/◌, ◌%◌, ◌<◌, ◌≤◌, ◌&&◌, Bool, true, false, inl, inr, cond, refl, sym, ap, ◌∙◌, arith, ℤ, pos, negsuc, ◌+ℤ◌, ◌*ℤ◌, ◌≤ℤ◌, ◌<ℤ◌, List, [], ◌++◌, Option, Some, None, FitsSigned, to_z, of_z, to_z-of_z, w32, w64}
+use Rattle.std.proofs.Common.{◌≡◌, ℕ, ◌+◌, ◌*◌, ◌/◌, ◌%◌, ◌<◌, ◌≤◌, ◌&&◌, Bool, true, false, inl, inr, cond, refl, sym, ap, ◌∙◌}
+use Rattle.std.proofs.Common.{arith, ℤ, pos, negsuc, ◌+ℤ◌, ◌*ℤ◌, ◌≤ℤ◌, ◌<ℤ◌, List, [], ◌++◌, Option, Some, None, FitsSigned, to_z, of_z, to_z-of_z, w32, w64}
 use Rattle.std.specs.Prelude.{nat_le, unsigned_abs}
 use Rattle.std.specs.Int.{int_div_euclid, int_rem_euclid}
 use Rattle.std.specs.Str.{bytes_eq}

@@ -14,7 +14,8 @@ loop-number-preserved c =
 pub returns-in_err-ignored : goal.returns-in_err-ignored
 returns-in_err-ignored c =
     let p = err_from_is_err_and c.from_residual.result c.from_residual.ensures.1 in
-    rw (p.1, p.2) (λ known. IsPassedTo-stop c.args.command c.args.elements.now c.loop-number.number c.index-elements-number.result _ c.loop-number-test.true c.index-elements-number.is (c.in_err-ignored.ensures known) c.loop-number.invariant)
+    rw (p.1, p.2) (λ known. IsPassedTo-stop c.args.command c.args.elements.now c.loop-number.number c.index-elements-number.result _ c.loop-number-test.true c.index-elements-number.is (c.in_err-ignored.ensures known)
+    c.loop-number.invariant)
 
 pub returns : goal.returns
 returns c =

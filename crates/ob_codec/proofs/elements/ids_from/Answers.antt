@@ -13,7 +13,8 @@ loop-number-init c =
 pub loop-number-preserved : goal.loop-number-preserved
 loop-number-preserved c =
     let pushed = c.in_ok-push.ensures.ok in
-    rw pushed (IsReadTo-more _ c.args.items.now c.loop-number.number c.loop-number.ids c.index-items-number.result c.in_ok-id_of_json.field-0 c.loop-number-test.true c.index-items-number.is c.in_ok-id_of_json.ensures c.loop-number.invariant)
+    rw pushed (IsReadTo-more _ c.args.items.now c.loop-number.number c.loop-number.ids c.index-items-number.result c.in_ok-id_of_json.field-0 c.loop-number-test.true c.index-items-number.is c.in_ok-id_of_json.ensures
+    c.loop-number.invariant)
 
 pub returns-in_err-id_of_json : goal.returns-in_err-id_of_json
 returns-in_err-id_of_json c =

@@ -13,7 +13,8 @@ returns-in_err-value c =
     let i = c.loop-field.field-index in
     let more = kept_more fields i c.field-item.result (omega arith) c.field-item.is (sym c.if-is_kept.ensures) in
     let p = err_from_is_err_and c.from_residual.result c.from_residual.ensures.1 in
-    rw (p.1, p.2) (values_fail (filter is_kept (drop i fields)) (filter is_kept (drop (i + 1) fields)) c.field-item.result c.loop-field.values c.loop-field.left.now (body_values (filter is_kept fields) c.args.bytes.now) c.in_err-value.field-0.0 more c.in_err-value.ensures c.loop-field.invariant)
+    rw (p.1, p.2) (values_fail (filter is_kept (drop i fields)) (filter is_kept (drop (i + 1) fields)) c.field-item.result c.loop-field.values c.loop-field.left.now (body_values (filter is_kept fields) c.args.bytes.now)
+    c.in_err-value.field-0.0 more c.in_err-value.ensures c.loop-field.invariant)
 
 pub loop-field-preserved : goal.loop-field-preserved
 loop-field-preserved c =
@@ -23,14 +24,16 @@ loop-field-preserved c =
     elim c.if-is_kept.branch [
       | then-is_kept+in_ok-value+in_ok-push w ↦ (let more = kept_more fields i c.field-item.result (omega arith) c.field-item.is (sym w.if-is_kept.ensures) in
           rw (w.values-is, w.in_ok-push.ensures.ok, w.left-is)
-          (values_more (filter is_kept (drop i fields)) (filter is_kept (drop (i + 1) fields)) c.field-item.result c.loop-field.values c.loop-field.left.now w.in_ok-value.value w.in_ok-value.rest.now whole more w.in_ok-value.ensures c.loop-field.invariant))
+          (values_more (filter is_kept (drop i fields)) (filter is_kept (drop (i + 1) fields)) c.field-item.result c.loop-field.values
+          c.loop-field.left.now w.in_ok-value.value w.in_ok-value.rest.now whole more w.in_ok-value.ensures c.loop-field.invariant))
       | else-is_kept w ↦ (let pass = kept_pass fields i c.field-item.result (omega arith) c.field-item.is (sym w.if-is_kept.ensures) in
           rw (w.values-is, w.left-is)
           (values_pass (filter is_kept (drop i fields)) (filter is_kept (drop (i + 1) fields)) c.loop-field.values c.loop-field.left.now whole pass c.loop-field.invariant))
     ]
 
 pub returns-then-is_empty : goal.returns-then-is_empty
-returns-then-is_empty c = values_end c.args.fields.now c.loop-field.field-index c.loop-field.values c.loop-field.left.now (body_values (filter is_kept c.args.fields.now) c.args.bytes.now) (omega arith) (nil_from_length c.loop-field.left.now (grind arith)) c.loop-field.invariant
+returns-then-is_empty c = values_end c.args.fields.now c.loop-field.field-index c.loop-field.values c.loop-field.left.now (body_values (filter is_kept c.args.fields.now) c.args.bytes.now) (omega arith)
+    (nil_from_length c.loop-field.left.now (grind arith)) c.loop-field.invariant
 
 pub returns-else-is_empty : goal.returns-else-is_empty
 returns-else-is_empty c = values_left c.args.fields.now c.loop-field.field-index c.loop-field.values c.loop-field.left.now (body_values (filter is_kept c.args.fields.now) c.args.bytes.now) (omega arith) (grind arith) c.loop-field.invariant
