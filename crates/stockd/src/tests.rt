@@ -13,9 +13,7 @@ mod places;
 use case::play;
 use std::test::Fail;
 
-#[test]
-fn worked_requests(rt: HostRuntime) -> Result<(), Fail> {
-    let page = r#"
+const WORKED_REQUESTS: &str = r#"
 == empty input
 status 0
 kept demo.line ids
@@ -89,12 +87,13 @@ status 0
 kept demo.line ids 1,2
 kept demo.line next 3
 "#;
-    play(&rt, rt.alloc(), page)
-}
 
 #[test]
-fn lines_of_the_input(rt: HostRuntime) -> Result<(), Fail> {
-    let page = r#"
+fn worked_requests(rt: HostRuntime) -> Result<(), Fail> {
+    play(&rt, rt.alloc(), WORKED_REQUESTS)
+}
+
+const LINES_OF_THE_INPUT: &str = r#"
 == blank lines
 bytes 20 09 0d 0a 0a
 bytes 20
@@ -147,5 +146,8 @@ clock 1700000000 1
 = [{"create_date":"2023-11-14 22:13:21","id":1,"write_date":"2023-11-14 22:13:21"}]
 status 0
 "#;
-    play(&rt, rt.alloc(), page)
+
+#[test]
+fn lines_of_the_input(rt: HostRuntime) -> Result<(), Fail> {
+    play(&rt, rt.alloc(), LINES_OF_THE_INPUT)
 }

@@ -3,9 +3,7 @@
 use super::case::play;
 use std::test::Fail;
 
-#[test]
-fn optional_arguments(rt: HostRuntime) -> Result<(), Fail> {
-    let page = r#"
+const OPTIONAL_ARGUMENTS: &str = r#"
 == fields as null or false, and nothing else that gives them
 2 demo.line create [{"name":"bolt","qty":3,"price":25}]
 = 1
@@ -95,5 +93,8 @@ status 0
 ! Request malformed at params.args.6.fields.0
 status 0
 "#;
-    play(&rt, rt.alloc(), page)
+
+#[test]
+fn optional_arguments(rt: HostRuntime) -> Result<(), Fail> {
+    play(&rt, rt.alloc(), OPTIONAL_ARGUMENTS)
 }

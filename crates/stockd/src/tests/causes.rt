@@ -4,9 +4,7 @@
 use super::case::play;
 use std::test::Fail;
 
-#[test]
-fn each_status_and_each_refusal(rt: HostRuntime) -> Result<(), Fail> {
-    let page = r#"
+const EACH_STATUS_AND_EACH_REFUSAL: &str = r#"
 == other words than the one action
 words serve
 2 demo.line create [{}]
@@ -102,12 +100,13 @@ fail keeper 4
 status 0
 kept demo.line ids
 "#;
-    play(&rt, rt.alloc(), page)
-}
 
 #[test]
-fn each_call_of_the_keeper_fails(rt: HostRuntime) -> Result<(), Fail> {
-    let page = r#"
+fn each_status_and_each_refusal(rt: HostRuntime) -> Result<(), Fail> {
+    play(&rt, rt.alloc(), EACH_STATUS_AND_EACH_REFUSAL)
+}
+
+const EACH_CALL_OF_THE_KEEPER_FAILS: &str = r#"
 == the first at opening
 fail keeper 1
 2 demo.line create [{}]
@@ -188,12 +187,13 @@ fail keeper 9
 = [{"id":2,"qty":0},{"id":1,"qty":0}]
 status 0
 "#;
-    play(&rt, rt.alloc(), page)
-}
 
 #[test]
-fn each_read_and_each_write_fails(rt: HostRuntime) -> Result<(), Fail> {
-    let page = r#"
+fn each_call_of_the_keeper_fails(rt: HostRuntime) -> Result<(), Fail> {
+    play(&rt, rt.alloc(), EACH_CALL_OF_THE_KEEPER_FAILS)
+}
+
+const EACH_READ_AND_EACH_WRITE_FAILS: &str = r#"
 # A create in short has 146 bytes, so that each read gives one line.
 == the first read
 cut 146
@@ -296,5 +296,8 @@ fail keeper 1
 fail sink 1
 status 6
 "#;
-    play(&rt, rt.alloc(), page)
+
+#[test]
+fn each_read_and_each_write_fails(rt: HostRuntime) -> Result<(), Fail> {
+    play(&rt, rt.alloc(), EACH_READ_AND_EACH_WRITE_FAILS)
 }

@@ -4,9 +4,7 @@
 use super::case::play;
 use std::test::Fail;
 
-#[test]
-fn each_part_of_an_envelope(rt: HostRuntime) -> Result<(), Fail> {
-    let page = r#"
+const EACH_PART_OF_AN_ENVELOPE: &str = r#"
 == bodies that are no object
 > [1
 < {"error":{"code":200,"data":{"message":"malformed at ","name":"Request"},"message":"Odoo Server Error"},"id":null,"jsonrpc":"2.0"}
@@ -69,12 +67,13 @@ status 0
 = 1
 status 0
 "#;
-    play(&rt, rt.alloc(), page)
-}
 
 #[test]
-fn each_element_of_a_call(rt: HostRuntime) -> Result<(), Fail> {
-    let page = r#"
+fn each_part_of_an_envelope(rt: HostRuntime) -> Result<(), Fail> {
+    play(&rt, rt.alloc(), EACH_PART_OF_AN_ENVELOPE)
+}
+
+const EACH_ELEMENT_OF_A_CALL: &str = r#"
 == how many there are
 > {"id":1,"method":"call","params":{"service":"object","method":"execute_kw","args":[]}}
 ! Request malformed at params.args.0
@@ -117,12 +116,13 @@ status 0
 status 0
 kept demo.line ids
 "#;
-    play(&rt, rt.alloc(), page)
-}
 
 #[test]
-fn each_argument_of_a_create(rt: HostRuntime) -> Result<(), Fail> {
-    let page = r#"
+fn each_element_of_a_call(rt: HostRuntime) -> Result<(), Fail> {
+    play(&rt, rt.alloc(), EACH_ELEMENT_OF_A_CALL)
+}
+
+const EACH_ARGUMENT_OF_A_CREATE: &str = r#"
 == keys and values
 2 demo.line create [{"qty":1.5,"price":1e3}]
 ! Request malformed at params.args.5.0.price
@@ -207,12 +207,13 @@ times 126 ]
 < {"error":{"code":200,"data":{"message":"malformed at ","name":"Request"},"message":"Odoo Server Error"},"id":null,"jsonrpc":"2.0"}
 status 0
 "#;
-    play(&rt, rt.alloc(), page)
-}
 
 #[test]
-fn each_argument_of_a_read(rt: HostRuntime) -> Result<(), Fail> {
-    let page = r#"
+fn each_argument_of_a_create(rt: HostRuntime) -> Result<(), Fail> {
+    play(&rt, rt.alloc(), EACH_ARGUMENT_OF_A_CREATE)
+}
+
+const EACH_ARGUMENT_OF_A_READ: &str = r#"
 == malformed
 2 demo.line create [{"name":"bolt","qty":3,"price":25}]
 = 1
@@ -265,5 +266,8 @@ status 0
 = [{"id":1,"name":"bolt","subtotal":75}]
 status 0
 "#;
-    play(&rt, rt.alloc(), page)
+
+#[test]
+fn each_argument_of_a_read(rt: HostRuntime) -> Result<(), Fail> {
+    play(&rt, rt.alloc(), EACH_ARGUMENT_OF_A_READ)
 }
