@@ -14,7 +14,7 @@ use Rattle.std.proofs.lemmas.Option.{cond_some, same_Some}
 use Rattle.std.proofs.lemmas.Slice.Eq.{bytes_eq-Decides}
 use Rattle.std.proofs.lemmas.Str.{IsUtf8-from_is_utf8, is_utf8-from_IsUtf8}
 use Rattle.ob_base.specs.Ids.{IsId}
-use Rattle.ob_base.specs.Times.{IsDay, IsMoment}
+use Rattle.ob_base.specs.Times.{IsDay, IsMoment, is_day, is_moment}
 use Rattle.ob_base.specs.declared.id.RecId.{RecId}
 use Rattle.ob_base.specs.declared.value.Value.{Value}
 use Rattle.ob_base.specs.declared.value.Value.TheVariants.{Nil, Bool as Flag, Int, Word, Day, Moment, Ref, Refs}
@@ -24,7 +24,7 @@ use Rattle.ob_schema.specs.declared.field_type.FieldType.{FieldType}
 use Rattle.ob_schema.specs.declared.field_type.FieldType.TheVariants as type
 use Rattle.ob_codec.specs.KeptForm.{HasContent, content_of}
 use Rattle.ob_codec.specs.KeptReading.{first_byte, body_part, body_number, body_counted, body_text}
-use Rattle.ob_codec.specs.ValueReading.{tag_of, has_unset, body_content, body_flag, body_integer, body_word, body_key, is_day, body_day, is_moment, body_moment, body_id, body_row_id, body_ids, body_rows}
+use Rattle.ob_codec.specs.ValueReading.{tag_of, has_unset, body_content, body_flag, body_integer, body_word, body_key, body_day, body_moment, body_id, body_row_id, body_ids, body_rows}
 use Rattle.ob_codec.specs.RowReading.{body_tagged}
 use Rattle.ob_codec.proofs.KeptParts.{IsBytes, bind_some, bind_at, chosen, Takes, Takes-then, first_takes, part_takes, part_again, wide32, wide64, number_takes, number_again}
 use Rattle.ob_codec.proofs.RisingIds.{Rises, IsRising-from_Rises, All-from_Rises, Rises-from_IsRising, first_id, length-Rises}

@@ -1,9 +1,10 @@
 -- Reading the content of a field's value: the value, which the field may hold, and the bytes after it.
-use Rattle.std.specs.Prelude.{ℕ, zero, suc, ℤ, pos, negsuc, List, [], ◌∷◌, Bool, true, false, Option, Some, None, option_and_then, nat_lt, nat_le, int_le, ◌==◌, ◌&&◌, if◌then◌else◌}
+use Rattle.std.specs.Prelude.{ℕ, zero, suc, List, [], ◌∷◌, Bool, true, false, Option, Some, None, option_and_then, nat_lt, nat_le, ◌==◌, ◌&&◌, if◌then◌else◌}
 use Rattle.std.specs.Int.{w32, w64, cast_signed}
 use Rattle.std.specs.List.{list_any}
 use Rattle.std.specs.Str.{bytes_eq}
 use Rattle.ob_base.specs.Limits.{max_char_bytes, max_id, max_targets, max_text_bytes}
+use Rattle.ob_base.specs.Times.{is_day, is_moment}
 use Rattle.ob_base.specs.declared.id.RecId.{RecId}
 use Rattle.ob_base.specs.declared.value.Value.{Value}
 use Rattle.ob_base.specs.declared.value.Value.TheVariants as value
@@ -53,18 +54,12 @@ body_key choices bytes =
     if list_any (bytes_eq text.0) (keys_of choices) then Some (value.Word text.0, text.1) else None) (body_counted max_char_bytes bytes)
 
 -- a day of the years 0001 to 9999
-abbrev pub is_day : ℤ → Bool
-is_day n = int_le (negsuc 719161) n && int_le n (pos 2932896)
-
 unfoldable pub body_day : List ℕ → Option (Value × List ℕ)
 body_day bytes =
     option_and_then (λ n.
     if is_day (cast_signed w32 n.0) then Some (value.Day (cast_signed w32 n.0), n.1) else None) (body_number w32 bytes)
 
 -- a second of the years 0001 to 9999
-abbrev pub is_moment : ℤ → Bool
-is_moment n = int_le (negsuc 62135596799) n && int_le n (pos 253402300799)
-
 unfoldable pub body_moment : List ℕ → Option (Value × List ℕ)
 body_moment bytes =
     option_and_then (λ n.

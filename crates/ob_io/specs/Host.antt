@@ -2,7 +2,7 @@
 use Rattle.std.specs.Prelude.{ℕ, ◌/◌, ℤ, pos, List, Option, None, Some, Result, Ok, Err, if◌then◌else◌}
 use Rattle.std.specs.declared.time.SystemTime.{SystemTime}
 use Rattle.std.specs.Time.{system_time_nanos}
-use Rattle.ob_io.specs.Moments.{is_moment}
+use Rattle.ob_base.specs.Times.{is_moment}
 use Rattle.ob_io.specs.Plan.{one_more}
 
 -- the bytes still to come, where the runtime's reader tells them, and how often the host failed

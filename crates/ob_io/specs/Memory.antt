@@ -1,6 +1,6 @@
 -- What the objects in memory hold, as contracts see them.
 use Rattle.std.specs.Prelude.{◌≡◌, ℕ, zero, suc, ◌+◌, ◌<◌, min, List, length, if◌then◌else◌, ℤ, ◌+ℤ◌}
-use Rattle.ob_io.specs.Moments.{is_moment}
+use Rattle.ob_base.specs.Times.{is_moment}
 use Rattle.ob_io.specs.Plan.{Plan}
 
 -- the bytes still to come, and the most of them that one read gives

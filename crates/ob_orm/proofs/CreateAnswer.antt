@@ -135,14 +135,14 @@ refused_answer (Some store) models call rose why next is refused = λ tables kep
 
 -- a create that is carried out is the machine's
 made_here : (models : List ModelInfo) (call : Call) (info : ModelInfo) (store : Store) (tables : Tables) (rose : Type 0) (next : ℕ) (values kept : List Value) (created : Created) → model_at models call.model ≡ Some info → IsServed info → ArePlain info values
-    → created_row info call.now (view call.args.now) (view call.kw.now) ≡ Ok (gathered info values) → next ≡ next_id tables call.model → next ≤ 4294967295 → AreKept info next (gathered info values) kept
+    → created_row info call.now (view call.args.now) (view call.kw.now) ≡ Ok (gathered info values) → next ≡ next_id tables call.model → next ≤ max_id → AreKept info next (gathered info values) kept
     → view created.json ≡ number (unsigned next) → created.changes ≡ changes_of models call.model next kept → Kept models store tables → IsSound models tables → CreateAnswers models store tables (called_by call info) rose (Ok created)
 made_here models call info store tables rose next values kept created at served known given same low are json changes stands sound =
     let row = gathered info values in
     let id = next_id tables call.model in
     let are' : AreKept info id row kept = subst (λ (n : ℕ). AreKept info n row kept) same are in
     let here = kept_sound info id values kept known are' in
-    let below : id ≤ 4294967295 = omega arith in (
+    let below : id ≤ max_id = omega arith in (
       made call.model row tables,
       record {
         row = row;
@@ -158,7 +158,7 @@ made_here models call info store tables rose next values kept created at served 
 
 -- over any keeper that tells its rows
 pub made_answer : (stored : Option Store) (models : List ModelInfo) (call : Call) (rose : Type 0) (next : ℕ) (values kept : List Value) (created : Created) → IfSome stored (λ store. next ≡ next_of store call.model) → IfSome (model_at models call.model) IsServed → IfSome (model_at models call.model) (λ info. ArePlain info values)
-    → RowIs models call values → next ≤ 4294967295 → IfSome (model_at models call.model) (λ info. AreKept info next (gathered info values) kept)
+    → RowIs models call values → next ≤ max_id → IfSome (model_at models call.model) (λ info. AreKept info next (gathered info values) kept)
     → view created.json ≡ number (unsigned next) → created.changes ≡ changes_of models call.model next kept → AnsweredSo stored models call rose (Ok created)
 made_answer None models call rose next values kept created is served known row low are json changes = tt
 made_answer (Some store) models call rose next values kept created is served known row low are json changes = λ tables stands sound. by tables stands sound (model_at models call.model) refl served known row are where

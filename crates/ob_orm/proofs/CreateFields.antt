@@ -100,7 +100,7 @@ plain_kept info values i f id v known served at is v_is =
     )
 
 -- the value of an id
-pub id_kept : (info : ModelInfo) (values : List Value) (i : ℕ) (f : FieldInfo) (id : ℕ) → id ≤ 4294967295 → IsModel info → slice_get info.fields i ≡ Some f → f.origin ≡ origin.Id → KeepsField (suc i, f) id (gathered info values) None
+pub id_kept : (info : ModelInfo) (values : List Value) (i : ℕ) (f : FieldInfo) (id : ℕ) → id ≤ max_id → IsModel info → slice_get info.fields i ≡ Some f → f.origin ≡ origin.Id → KeepsField (suc i, f) id (gathered info values) None
 id_kept info values i f id low valid at is =
     let integer : f.field_type ≡ type.Integer = subst (IsOriginIn info.fields f) is (All-at (λ g. IsOriginIn info.fields g g.origin) info.fields i f at valid.formulas) in
     let fits : FitsSigned w64 (pos id) = grind (arith, ints) in (
@@ -175,7 +175,7 @@ plain_at models cell f values v w at served known is read same =
     gives_at models cell f values (Ok (Some v)) there at (plain_kept there.info values there.place f cell.id.0 v known' served' there.field_is is found)
 
 -- of the id
-pub id_at : (models : List ModelInfo) (cell : Cell) (f : FieldInfo) (values : List Value) → field_at models cell.model cell.field ≡ Some f → IfSome (model_at models cell.model) IsModel → cell.id.0 ≤ 4294967295 → f.origin ≡ origin.Id → GivesAt models cell values (Ok None)
+pub id_at : (models : List ModelInfo) (cell : Cell) (f : FieldInfo) (values : List Value) → field_at models cell.model cell.field ≡ Some f → IfSome (model_at models cell.model) IsModel → cell.id.0 ≤ max_id → f.origin ≡ origin.Id → GivesAt models cell values (Ok None)
 id_at models cell f values at valid low is =
     let there = FieldIn-from_at models cell.model cell.field f at in
     let valid' = told (model_at models cell.model) there.info IsModel there.model_is valid in

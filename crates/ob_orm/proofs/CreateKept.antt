@@ -21,7 +21,7 @@ use Rattle.ob_schema.specs.Fields.{Column, columns, is_kept, kept_fields}
 use Rattle.ob_schema.specs.Models.{HasField, field_at, model_at, numbered}
 use Rattle.ob_schema.specs.declared.info.FieldInfo.{FieldInfo}
 use Rattle.ob_schema.specs.declared.info.ModelInfo.{ModelInfo}
-use Rattle.ob_orm.specs.Create.{cell_of, kind_of}
+use Rattle.ob_orm.specs.Create.{cell_of, broken_kind}
 use Rattle.ob_orm.specs.CreateSteps.{AreKept, BreaksCell, BreaksRow, GivesField, KeepsField, evaluations_of, gathered}
 use Rattle.ob_orm.specs.Evaluations.{HasTicked, computed_count, is_computed}
 use Rattle.ob_orm.specs.Kept.{kept_values}
@@ -134,7 +134,7 @@ row_broken model info id row i f cell (refusal.FieldRight m field) at is broken 
 row_broken model info id row i f cell (refusal.Missing m id') at is broken = absurd broken
 row_broken model info id row i f cell (refusal.Rule m op id' name) at is broken = absurd broken
 row_broken model info id row i f cell (refusal.Constraint b) at is (fault, faults, b_is) =
-    ((suc i, f), fault, record { column_of = Contains-columns info i f at; faults = faults }, b_is ∙ ap (λ (c : Cell). record { kind = kind_of fault; cell = c }) is)
+    ((suc i, f), fault, record { column_of = Contains-columns info i f at; faults = faults }, b_is ∙ ap (λ (c : Cell). record { kind = broken_kind fault; cell = c }) is)
 row_broken model info id row i f cell refusal.Keeper at is broken = absurd broken
 row_broken model info id row i f cell refusal.NoMemory at is broken = tt
 

@@ -215,7 +215,7 @@ made_kept models model info store tables row values at kept none are = λ other.
   by other (Some found) is = there other found is (told (model_at models other) found (λ m. KeepsModel other m store tables) is (kept other))
 
 -- the tables go on to be sound
-pub made_sound : (models : List ModelInfo) (model : ModelNo) (info : ModelInfo) (tables : Tables) (row : Row) → model_at models model ≡ Some info → IsSound models tables → IsSoundRow info (next_id tables model) row → next_id tables model ≤ 4294967295
+pub made_sound : (models : List ModelInfo) (model : ModelNo) (info : ModelInfo) (tables : Tables) (row : Row) → model_at models model ≡ Some info → IsSound models tables → IsSoundRow info (next_id tables model) row → next_id tables model ≤ max_id
     → IsSound models (made model row tables)
 made_sound models model info tables row at sound here low = λ other. by other (model_at models other) refl where
   own : IsSoundModel model info tables
@@ -271,7 +271,7 @@ pub kept_sound : (info : ModelInfo) (id : ℕ) (values kept : List Value) → Ar
 kept_sound info id values kept known are = record { forms = known.forms; values = are.whole }
 
 -- nothing of it is broken
-pub none_broken : (model : ModelNo) (info : ModelInfo) (row : Row) (next : ℕ) (b : Broken) → IsSoundRow info next row → next ≤ 4294967295 → Breaks model info next row b → ⊥
+pub none_broken : (model : ModelNo) (info : ModelInfo) (row : Row) (next : ℕ) (b : Broken) → IsSoundRow info next row → next ≤ max_id → Breaks model info next row b → ⊥
 none_broken model info row next b sound low (inl high) = omega (arith, high.0)
 none_broken model info row next b sound low (inr (column, fault, has, is)) =
     let (v, worth, holds) : HasValue next row column = All-contains (HasValue next row) (columns info) column sound.values has.column_of in

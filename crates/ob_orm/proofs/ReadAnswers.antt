@@ -40,37 +40,37 @@ use Rattle.ob_orm.proofs.ReadSteps.{Refuses-weaker, known_map, told_map}
 -- ---- the ids that are asked for
 
 -- a number that passes the test is within the limit
-id_fits : (n : ℕ) (b : Bool) (o : Option ℕ) → b ≡ (nat_le 1 n && nat_le n 4294967295) → cond b (Some n) None ≡ o → IfSome o (λ id. id ≤ 4294967295)
+id_fits : (n : ℕ) (b : Bool) (o : Option ℕ) → b ≡ (nat_le 1 n && nat_le n 4294967295) → cond b (Some n) None ≡ o → IfSome o (λ id. id ≤ max_id)
 id_fits n b None test e = tt
-id_fits n true (Some id) test e = let same : n ≡ id = cc in let low : n ≤ 4294967295 = grind (arith, nat_tests) in subst (λ (m : ℕ). m ≤ 4294967295) same low
+id_fits n true (Some id) test e = let same : n ≡ id = cc in let low : n ≤ max_id = grind (arith, nat_tests) in subst (λ (m : ℕ). m ≤ max_id) same low
 id_fits n false (Some id) test e = absurd cc
 
 -- a number that is an id is within the limit
-bounded : (o : Option ℕ) → IfSome (option_and_then (λ n. cond (nat_le 1 n && nat_le n 4294967295) (Some n) None) o) (λ id. id ≤ 4294967295)
+bounded : (o : Option ℕ) → IfSome (option_and_then (λ n. cond (nat_le 1 n && nat_le n 4294967295) (Some n) None) o) (λ id. id ≤ max_id)
 bounded None = tt
 bounded (Some n) = id_fits n (nat_le 1 n && nat_le n 4294967295) (cond (nat_le 1 n && nat_le n 4294967295) (Some n) None) refl refl
 
 -- the ids of a list are within the limit
-ids_fit : (ds : List Data) → All (λ id. id ≤ 4294967295) (filter_map id_from ds)
-ids_fit [] = All-nil (λ (id : ℕ). id ≤ 4294967295)
+ids_fit : (ds : List Data) → All (λ id. id ≤ max_id) (filter_map id_from ds)
+ids_fit [] = All-nil (λ (id : ℕ). id ≤ max_id)
 ids_fit (d ∷ ds) = one (id_from d) (bounded (option_and_then as_u64 (as_number d))) (ids_fit ds)
   where
-    one : (o : Option ℕ) → IfSome o (λ id. id ≤ 4294967295) → All (λ id. id ≤ 4294967295) (filter_map id_from ds) → All (λ id. id ≤ 4294967295) (cons_option o (filter_map id_from ds))
+    one : (o : Option ℕ) → IfSome o (λ id. id ≤ max_id) → All (λ id. id ≤ max_id) (filter_map id_from ds) → All (λ id. id ≤ max_id) (cons_option o (filter_map id_from ds))
     one None here more = more
-    one (Some id) here more = All-cons (λ (id : ℕ). id ≤ 4294967295) id (filter_map id_from ds) here more
+    one (Some id) here more = All-cons (λ (id : ℕ). id ≤ max_id) id (filter_map id_from ds) here more
 
 -- the ids of an argument are within the limit
-all_fit : (d : Data) → All (λ id. id ≤ 4294967295) (ids_in d)
-all_fit null = All-nil (λ (id : ℕ). id ≤ 4294967295)
-all_fit (boolean b) = All-nil (λ (id : ℕ). id ≤ 4294967295)
+all_fit : (d : Data) → All (λ id. id ≤ max_id) (ids_in d)
+all_fit null = All-nil (λ (id : ℕ). id ≤ max_id)
+all_fit (boolean b) = All-nil (λ (id : ℕ). id ≤ max_id)
 all_fit (number n) = ids_fit (number n ∷ [])
-all_fit (string text) = All-nil (λ (id : ℕ). id ≤ 4294967295)
+all_fit (string text) = All-nil (λ (id : ℕ). id ≤ max_id)
 all_fit (array items) = ids_fit (listed items)
-all_fit (object _) = All-nil (λ (id : ℕ). id ≤ 4294967295)
+all_fit (object _) = All-nil (λ (id : ℕ). id ≤ max_id)
 
 -- the ids that are asked for are within the limit
-pub asked_fit : (d : Data) (ids : List ℕ) → ids ≡ once (ids_in d) → All (λ id. id ≤ 4294967295) ids
-asked_fit d ids e = subst (All (λ id. id ≤ 4294967295)) (sym e) (All-once (λ id. id ≤ 4294967295) (ids_in d) (all_fit d))
+pub asked_fit : (d : Data) (ids : List ℕ) → ids ≡ once (ids_in d) → All (λ id. id ≤ max_id) ids
+asked_fit d ids e = subst (All (λ id. id ≤ max_id)) (sym e) (All-once (λ id. id ≤ max_id) (ids_in d) (all_fit d))
 
 -- ---- the fields that are asked for
 

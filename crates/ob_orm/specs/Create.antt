@@ -76,10 +76,10 @@ abbrev pub created_row : ModelInfo → ℤ → (args kw : Data) → Result Row (
 created_row info now args kw = arguments_of (create_expects info.fields) args kw >>= row_from info now
 
 -- how a cell is broken whose formula has this fault
-abbrev pub kind_of : ValueFault → BrokenKind
-kind_of overflow = broken.Overflow
-kind_of too_long = broken.TooLong
-kind_of zero_divisor = broken.ZeroDivisor
+abbrev pub broken_kind : ValueFault → BrokenKind
+broken_kind overflow = broken.Overflow
+broken_kind too_long = broken.TooLong
+broken_kind zero_divisor = broken.ZeroDivisor
 
 -- a field of the row
 abbrev pub cell_of : ModelNo → ℕ → ℕ → Cell
@@ -99,7 +99,7 @@ pub record IsIdColumn (info : ModelInfo) (column : Column) : Type 0 where
 abbrev pub Breaks : ModelNo → ModelInfo → ℕ → Row → Broken → Type 0
 Breaks model info id row b =
     ((max_id < id) × (column : Column) × IsIdColumn info column × (b ≡ record { kind = broken.Limit; cell = cell_of model id column.0 }))
-    ⊎ ((column : Column) × (fault : ValueFault) × HasFault info id row column fault × (b ≡ record { kind = kind_of fault; cell = cell_of model id column.0 }))
+    ⊎ ((column : Column) × (fault : ValueFault) × HasFault info id row column fault × (b ≡ record { kind = broken_kind fault; cell = cell_of model id column.0 }))
 
 -- why a create at this moment is refused where the model's next id is this
 abbrev pub CreateRefuses : ModelNo → ModelInfo → ℤ → ℕ → (args kw : Data) → Refusal → Type 0

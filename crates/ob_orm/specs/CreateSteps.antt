@@ -23,7 +23,7 @@ use Rattle.ob_schema.specs.Types.{is_list}
 use Rattle.ob_schema.specs.declared.field_type.FieldType.TheVariants as type
 use Rattle.ob_schema.specs.declared.info.FieldInfo.{FieldInfo}
 use Rattle.ob_schema.specs.declared.info.ModelInfo.{ModelInfo}
-use Rattle.ob_orm.specs.Create.{HasFault, cell_of, is_stamp, kind_of}
+use Rattle.ob_orm.specs.Create.{HasFault, cell_of, is_stamp, broken_kind}
 use Rattle.ob_orm.specs.Evaluations.{is_computed}
 use Rattle.ob_orm.specs.Kept.{kept_values}
 use Rattle.ob_orm.specs.Scratch.{val}
@@ -72,7 +72,7 @@ HoldsOperands values = EachField (λ number k. (1 ≤ number.0) × (number.0 ≤
 
 -- the cell is broken by what its value is, or memory is wanting
 abbrev pub BreaksCell : Cell → Result Value ValueFault → Refusal → Type 0
-BreaksCell cell meant (refusal.Constraint b) = (fault : ValueFault) × (meant ≡ Err fault) × (b ≡ record { kind = kind_of fault; cell = cell })
+BreaksCell cell meant (refusal.Constraint b) = (fault : ValueFault) × (meant ≡ Err fault) × (b ≡ record { kind = broken_kind fault; cell = cell })
 BreaksCell cell meant refusal.NoMemory = ⊤
 BreaksCell cell meant _ = ⊥
 
@@ -107,7 +107,7 @@ changes_of models model id values = Put model (record { id = record { 0 = id }; 
 
 -- a field of the row has no value, or memory is wanting
 abbrev pub BreaksRow : ModelNo → ModelInfo → ℕ → Row → Refusal → Type 0
-BreaksRow model info id row (refusal.Constraint b) = (column : Column) × (fault : ValueFault) × HasFault info id row column fault × (b ≡ record { kind = kind_of fault; cell = cell_of model id column.0 })
+BreaksRow model info id row (refusal.Constraint b) = (column : Column) × (fault : ValueFault) × HasFault info id row column fault × (b ≡ record { kind = broken_kind fault; cell = cell_of model id column.0 })
 BreaksRow model info id row refusal.NoMemory = ⊤
 BreaksRow model info id row _ = ⊥
 

@@ -10,8 +10,8 @@ use Rattle.ob_schema.specs.declared.info.FieldInfo.{FieldInfo}
 use Rattle.ob_call.specs.Arguments.{entries}
 
 -- the field of a name
-abbrev pub field_of : List FieldInfo → List ℕ → Option FieldInfo
-field_of fields name = option_and_then (λ number. numbered fields number.0) (field_named fields name)
+abbrev pub field_of_name : List FieldInfo → List ℕ → Option FieldInfo
+field_of_name fields name = option_and_then (λ number. numbered fields number.0) (field_named fields name)
 
 -- whether calls give values to a field: it is plain, and not managed
 abbrev pub is_free : FieldInfo → Bool
@@ -19,7 +19,7 @@ is_free field = is_plain_kept field && not field.managed
 
 -- whether calls give a value to the field of this name
 abbrev pub is_given : List FieldInfo → List ℕ → Bool
-is_given fields name = option_map_or is_free (field_of fields name) false
+is_given fields name = option_map_or is_free (field_of_name fields name) false
 
 -- the place of the first key that a test refuses
 abbrev pub first_key : (List ℕ → Bool) → List (List ℕ × Data) → Option (List PathStep)

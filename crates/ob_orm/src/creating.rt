@@ -3,6 +3,7 @@
 ghost use Rattle.std.specs.Prelude.{◌≡◌, ◌≤◌, ℕ, false, All, IfOk, IfErr, IfSome, OnOk, Option, option_map};
 ghost use Rattle.serde_json.specs.View.{view};
 ghost use Rattle.serde_json.specs.Written.{has_float};
+ghost use Rattle.ob_base.specs.Limits.{max_id};
 ghost use Rattle.ob_base.specs.Tally.{ticked_times};
 ghost use Rattle.ob_base.specs.Times.{IsMoment};
 ghost use Rattle.ob_io.specs.Cause.{Rose};
@@ -134,7 +135,7 @@ fn row_changes(
     kept: &[Value],
 ) -> Result<Sequence<Change>, NoMemory>
     requires model { HasModel schema.now model }
-    requires id { id ≤ 4294967295 }
+    requires id { id ≤ max_id }
     requires kept { HoldAll (kept_at schema.now model) kept.now }
     ensures { IfOk result (λ changes. changes ≡ changes_of schema.now model id kept.now) }
 {

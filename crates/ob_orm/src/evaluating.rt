@@ -1,6 +1,7 @@
 //! The computed values of a row, each evaluated once over the row's plain values.
 
 ghost use Rattle.std.specs.Prelude.{◌≡◌, ◌≤◌, IfOk, IfSome, OnOk, Ok};
+ghost use Rattle.ob_base.specs.Limits.{max_id};
 ghost use Rattle.ob_base.specs.Tally.{ticked, ticked_times};
 ghost use Rattle.ob_expr.specs.Checking.{IsWellKinded, typed_tree_of};
 ghost use Rattle.ob_expr.specs.Meaning.{meaning};
@@ -57,7 +58,7 @@ pub(crate) fn kept_values<L: Ledger>(
 ) -> Result<Sequence<Value>, Refusal>
     requires model { HasModel schema.now model }
     requires served { IfSome (model_at schema.now model) IsServed }
-    requires id { id ≤ 4294967295 }
+    requires id { id ≤ max_id }
     requires plain { IfSome (model_at schema.now model) (λ info. ArePlain info plain.now) }
     ensures kept { IfSome (model_at schema.now model)
         (λ info. GivesKept model info id (gathered info plain.now) result) }
@@ -98,7 +99,7 @@ fn field_value<L: Ledger>(
     requires field { HasField schema.now cell.model cell.field }
     requires valid { IfSome (model_at schema.now cell.model) IsModel }
     requires served { IfSome (model_at schema.now cell.model) IsServed }
-    requires id { cell.id.0 ≤ 4294967295 }
+    requires id { cell.id.0 ≤ max_id }
     requires plain { IfSome (model_at schema.now cell.model) (λ info. ArePlain info plain.now) }
     ensures kept { IfSome (model_at schema.now cell.model)
         (λ info. IfSome (field_at schema.now cell.model cell.field)

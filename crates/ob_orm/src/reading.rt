@@ -4,6 +4,7 @@ ghost use Rattle.std.specs.Prelude.{◌≡◌, ◌≤◌, false, min, All, IfOk,
 ghost use Rattle.std.specs.Option.{option_map_or};
 ghost use Rattle.serde_json.specs.View.{view};
 ghost use Rattle.serde_json.specs.Written.{has_float};
+ghost use Rattle.ob_base.specs.Limits.{max_id};
 ghost use Rattle.ob_io.specs.Cause.{Rose};
 ghost use Rattle.ob_codec.specs.RowForm.{row_form};
 ghost use Rattle.ob_schema.specs.Fields.{kept_fields};
@@ -90,7 +91,7 @@ fn objects_of<K: Keeper>(
 ) -> Result<Json, Refusal>
     requires model { HasModel schema.now model }
     requires served { IfSome (model_at schema.now model) IsServed }
-    requires ids { All (λ id. id ≤ 4294967295) ids.now }
+    requires ids { All (λ id. id ≤ max_id) ids.now }
     requires fields { All (HasField schema.now model) fields.now }
     ensures told { IfSome (K.kept keeper.old) (λ store. (tables : Tables) → Kept schema.now store tables → IsSound schema.now tables
         → IfSome (model_at schema.now model) (λ info. AnswersRows model tables (columns_at info fields.now) ids.now (Rose (K.faults keeper.old) (K.faults keeper.new)) (result_view result))) }
@@ -143,7 +144,7 @@ fn fetch_row<K: Keeper>(
 ) -> Result<Option<Vec<Value>>, Refusal>
     requires model { HasModel schema.now model }
     requires served { IfSome (model_at schema.now model) IsServed }
-    requires id { id ≤ 4294967295 }
+    requires id { id ≤ max_id }
     ensures told { IfSome (K.kept keeper.old) (λ store. (tables : Tables) → Kept schema.now store tables → IsSound schema.now tables
         → IfOk result (λ values. IfSome (model_at schema.now model) (λ info. AreValuesOf info id values (row_of tables model id)))) }
     ensures holds { IfOk result (λ values. IfSome values (λ all.
@@ -170,7 +171,7 @@ fn values_in(
 ) -> Result<Option<Vec<Value>>, Refusal>
     requires model { HasModel schema.now model }
     requires served { IfSome (model_at schema.now model) IsServed }
-    requires id { id ≤ 4294967295 }
+    requires id { id ≤ max_id }
     ensures told { IfOk result (λ values. IfSome (model_at schema.now model) (λ info. (row : Row) →
         IsSoundRow info id row → body.now ≡ row_form (kept_fields info) (kept_values info id row) →
         AreValuesOf info id values (Some row))) }

@@ -4,6 +4,7 @@
 ghost use Rattle.std.specs.Prelude.{◌≡◌, ◌≤◌, ◌||◌, false, filter, map, true, All, IfOk, IfSome};
 ghost use Rattle.serde_json.specs.View.{view};
 ghost use Rattle.serde_json.specs.Written.{has_float};
+ghost use Rattle.ob_base.specs.Limits.{max_id};
 ghost use Rattle.ob_codec.specs.JsonForm.{IsJsonOf};
 ghost use Rattle.ob_codec.specs.RowForm.{HoldAll};
 ghost use Rattle.ob_schema.specs.Fields.{columns, is_kept};
@@ -28,7 +29,7 @@ pub(crate) fn row_values(
     id: u64,
     kept: Vec<Value>,
 ) -> Result<Vec<Value>, NoMemory>
-    requires id { id ≤ 4294967295 }
+    requires id { id ≤ max_id }
     requires served { All (λ field. (is_id field.origin || is_kept field) ≡ true) fields.now }
     requires kept { HoldAll (filter is_kept fields.now) kept.items }
     ensures { IfOk result (λ values. values.items ≡ spread fields.now id kept.items) }

@@ -1,9 +1,10 @@
 -- Which keys of a field fit one another.
-use Rattle.std.specs.Prelude.{ℕ, ◌||◌, ◌&&◌, nat_le, List, length, if◌then◌else◌, Bool, true, false, not, is_some, is_none, Option, int_le, pos, negsuc}
+use Rattle.std.specs.Prelude.{ℕ, ◌||◌, ◌&&◌, nat_le, List, length, if◌then◌else◌, Bool, true, false, not, is_some, is_none, Option}
 use Rattle.std.specs.List.{list_any}
 use Rattle.std.specs.Option.{option_map_or}
 use Rattle.std.specs.Str.{bytes_eq}
 use Rattle.ob_base.specs.Limits.{max_char_bytes, max_text_bytes}
+use Rattle.ob_base.specs.Times.{is_day, is_moment}
 use Rattle.ob_base.specs.declared.value.Value.{Value}
 use Rattle.ob_base.specs.declared.value.Value.TheVariants as value
 use Rattle.ob_schema.specs.declared.definition.FieldDef.{FieldDef}
@@ -42,8 +43,8 @@ is_constant type.Boolean choices (value.Bool b) = true
 is_constant type.Integer choices (value.Int n) = true
 is_constant type.Char choices (value.Word text) = nat_le (length text) max_char_bytes
 is_constant type.Text choices (value.Word text) = nat_le (length text) max_text_bytes
-is_constant type.Date choices (value.Day n) = int_le (negsuc 719161) n && int_le n (pos 2932896)
-is_constant type.Datetime choices (value.Moment n) = int_le (negsuc 62135596799) n && int_le n (pos 253402300799)
+is_constant type.Date choices (value.Day n) = is_day n
+is_constant type.Datetime choices (value.Moment n) = is_moment n
 is_constant type.Selection choices (value.Word text) = nat_le (length text) max_char_bytes && has_choice_key choices text
 is_constant _ _ _ = false
 
