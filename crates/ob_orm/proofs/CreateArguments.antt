@@ -1,20 +1,17 @@
 -- The one argument of a create, as the code has it.
-use Rattle.std.proofs.Common.{◌≡◌, ℤ, List, [], ◌∷◌, get_or, map, Option, Some, None, Result, Ok, option_map, refl, sym, ap, subst, ◌∙◌}
-use Rattle.std.specs.Prelude.{IfSome, IsSome}
+use Rattle.std.proofs.Common.{◌≡◌, ℤ, List, [], ◌∷◌, get_or, map, Option, Some, None, Result, option_map, refl, sym, ap, subst, ◌∙◌}
+use Rattle.std.specs.Prelude.{IfSome}
 use Rattle.std.proofs.lemmas.Option.{same_Some}
 use Rattle.serde_json.specs.Data.{Data, Members, object}
 use Rattle.serde_json.specs.Find.{as_object}
 use Rattle.serde_json.specs.View.{view}
-use Rattle.ob_base.specs.declared.id.ModelNo.{ModelNo}
 use Rattle.ob_base.specs.declared.place.PathStep.{PathStep}
 use Rattle.ob_base.specs.declared.refusal.Refusal.{Refusal}
 use Rattle.ob_schema.specs.Fields.{plain_columns}
-use Rattle.ob_schema.specs.Models.{HasModel, model_at}
 use Rattle.ob_schema.specs.declared.info.FieldInfo.{FieldInfo}
 use Rattle.ob_schema.specs.declared.info.ModelInfo.{ModelInfo}
 use Rattle.ob_call.specs.Arguments as arguments
 use Rattle.ob_call.specs.Arguments.{AreFit}
-use Rattle.ob_call.specs.Forms.{fields_at}
 use Rattle.ob_orm.specs.Create.{create_expects, members_of, new_row, row_from}
 use Rattle.ob_call.specs.ArgumentsSteps.{all_given_of, given_of}
 use Rattle.ob_call.specs.Places.{spot_place}

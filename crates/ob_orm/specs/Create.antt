@@ -20,7 +20,7 @@ use Rattle.ob_expr.specs.Meaning.{ValueFault, overflow, too_long, zero_divisor}
 use Rattle.ob_schema.specs.Fields.{Column, columns, plain_columns}
 use Rattle.ob_schema.specs.declared.info.FieldInfo.{FieldInfo}
 use Rattle.ob_schema.specs.declared.info.ModelInfo.{ModelInfo}
-use Rattle.serde_json.specs.Data.{unsigned, Data, null, boolean, number, string, array, object, Members, no_members}
+use Rattle.serde_json.specs.Data.{unsigned, Data, number, object, Members, no_members}
 use Rattle.serde_json.specs.Find.{get_member}
 use Rattle.ob_call.specs.Arguments.{Expected, Given, arguments_of}
 use Rattle.ob_orm.specs.Values.{values_fault}

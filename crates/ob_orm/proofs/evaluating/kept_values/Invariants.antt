@@ -1,4 +1,3 @@
-use Rattle.std.proofs.Common.{◌≡◌}
 use Rattle.std.specs.Prelude.{IfSome}
 use Rattle.ob_schema.specs.Models.{model_at}
 use Rattle.ob_orm.specs.CreateSteps.{gathered}
