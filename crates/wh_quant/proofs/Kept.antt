@@ -1,6 +1,6 @@
 -- What a line keeps: each product's sum.
-use Rattle.std.proofs.Common.{◌≡◌, ℕ, ℤ, pos, ◌+ℤ◌, ◌-ℤ◌, ◌≤ℤ◌, List, [], ◌∷◌, Option, Some, None, Bool, true, false, cond, not, eqb, refl, sym, ◌∙◌, ap, arith}
-use Rattle.std.specs.List.{find, filter, All, fold}
+use Rattle.std.proofs.Common.{◌≡◌, ℤ, pos, ◌+ℤ◌, ◌-ℤ◌, List, [], ◌∷◌, Some, Bool, true, false, cond, not, eqb, refl, ◌∙◌, ap, arith}
+use Rattle.std.specs.List.{find, filter}
 use Rattle.std.specs.Option.{unwrap_or}
 use Rattle.std.specs.Ordering.{int_eq, int_cmp}
 use Rattle.std.specs.FinMap.{int_cmp-IsAntisymmetric}
@@ -10,7 +10,8 @@ use Rattle.wh_quant.specs.declared.quant.Quant.{Quant}
 use Rattle.wh_quant.specs.declared.quant.Line.{Line}
 use Rattle.wh_quant.specs.Spots.{spot_of, source_spot, destination_spot, is_at}
 use Rattle.wh_quant.specs.Sums.{total, quantity_for, sum_of}
-use Rattle.wh_quant.specs.Moves.{Holdings, quants_with, with_quant, empty_quant, source_quant, lowered, incoming_date, destination_quant, raised, after_taking, destination_after, after_line, holdings_after}
+use Rattle.wh_quant.specs.Moves.{Holdings, quants_with, empty_quant, source_quant, lowered}
+use Rattle.wh_quant.specs.Moves.{incoming_date, destination_quant, raised, after_taking, after_line, holdings_after}
 use Rattle.wh_quant.proofs.Exact.{is_eq_yes, spot-source_quant, spot-destination_quant}
 
 quants_with_cons : (f : Quant → ℤ) (new e q : Quant) (qs : List Quant) (b : Bool) →

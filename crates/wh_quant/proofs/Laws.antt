@@ -1,9 +1,6 @@
 -- What follows of quants after lines: their sums, their ids, and what covers reservations.
-use Rattle.std.proofs.Common.{◌≡◌, ℕ, suc, ℤ, pos, ◌+◌, ◌*◌, ◌<◌, ◌≤◌, ◌+ℤ◌, ◌-ℤ◌, ◌≤ℤ◌, List, [], ◌∷◌, length, get_or, map, take, Some, Bool, true, false, cond, refl, sym, ◌∙◌, ap, subst, arith}
-use Rattle.std.specs.Prelude.{slice_get}
-use Rattle.std.specs.Int.{int_min}
+use Rattle.std.proofs.Common.{◌≡◌, ℕ, suc, ℤ, pos, ◌+◌, ◌*◌, ◌<◌, ◌≤◌, ◌≤ℤ◌, List, [], ◌∷◌, length, map, Bool, true, false, cond, refl, sym, ◌∙◌, ap, arith}
 use Rattle.std.specs.List.{All, AllPairs, filter}
-use Rattle.std.specs.List.Sorted.{IsStrictlyIncreasing}
 use Rattle.std.proofs.lemmas.Int.{ints}
 use Rattle.std.proofs.lemmas.List.{get_or-map, length-map}
 use Rattle.std.proofs.lemmas.List.Elements.{All-nil, All-cons, All-head, All-tail, All-weaker, All-filter, All-map}
@@ -19,7 +16,7 @@ use Rattle.wh_quant.specs.Moves.{Holdings, RiseById, quants_with, empty_quant, s
 use Rattle.wh_quant.specs.Moves.{raised, after_taking, destination_after, after_line, holdings_after, Suffices, AllSuffice, IsMoved, AreGuardedBy}
 use Rattle.wh_quant.proofs.Totals.{total-IsPermutation}
 use Rattle.wh_quant.proofs.Starts.{id_of}
-use Rattle.wh_quant.proofs.Exact.{found_in, spot-source_quant, spot-destination_quant}
+use Rattle.wh_quant.proofs.Exact.{found_in, spot-source_quant}
 use Rattle.wh_quant.proofs.Kept.{is_left, sum-holdings_after, sum-left}
 use Rattle.wh_quant.proofs.Order.{InOrder, order-holdings_after}
 use Rattle.wh_quant.proofs.Runs.{next-after_line}
@@ -92,7 +89,8 @@ fit_cons : (P : Quant → Type 0) (new q : Quant) (qs : List Quant) (b : Bool) �
 fit_cons P new q qs true fit all rest = All-cons P new qs fit (All-tail P q qs all)
 fit_cons P new q qs false fit all rest = All-cons P q (quants_with new qs) (All-head P q qs all) rest
 
-All-quants_with : (P : Quant → Type 0) (new : Quant) (qs : List Quant) → P new → All P qs → All P (quants_with new qs)
+-- what holds of the quants and of the one that is put in
+pub All-quants_with : (P : Quant → Type 0) (new : Quant) (qs : List Quant) → P new → All P qs → All P (quants_with new qs)
 All-quants_with P new [] fit all = All-cons P new [] fit (All-nil P)
 All-quants_with P new (q ∷ qs) fit all = fit_cons P new q qs (is_at (spot_of new) q) fit all (All-quants_with P new qs fit (All-tail P q qs all))
 

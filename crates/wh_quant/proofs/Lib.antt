@@ -10,3 +10,5 @@ pub mod Kept
 pub mod Order
 pub mod Laws
 pub mod Only
+pub mod Small
+pub mod Examples

@@ -1,17 +1,17 @@
 -- What a line keeps: the order of ids, and that those of new quants are the next ones.
-use Rattle.std.proofs.Common.{◌≡◌, ℕ, ℤ, ◌+◌, ◌*◌, ◌<◌, ◌≤◌, List, [], ◌∷◌, ◌++◌, length, get_or, map, Option, Some, None, Bool, true, false, cond, not, refl, sym, ◌∙◌, ap, arith, length-append}
-use Rattle.std.specs.Prelude.{is_some}
-use Rattle.std.specs.List.{find, filter, All, AllPairs}
+use Rattle.std.proofs.Common.{◌≡◌, ℕ, ℤ, ◌+◌, ◌<◌, List, [], ◌∷◌, ◌++◌, length, get_or, map, Option, Some, None, Bool, true, false, cond, refl, sym, ◌∙◌, ap, arith, length-append}
+use Rattle.std.specs.List.{find, All}
 use Rattle.std.specs.List.Sorted.{IsStrictlyIncreasing}
 use Rattle.std.specs.Option.{unwrap_or}
 use Rattle.std.proofs.lemmas.Option.{same_Some}
 use Rattle.std.proofs.lemmas.List.{get_or_append_left}
-use Rattle.std.proofs.lemmas.List.Elements.{All-push, All-weaker, All-filter, All-map}
+use Rattle.std.proofs.lemmas.List.Elements.{All-push, All-weaker}
 use Rattle.std.proofs.Math.Seq.{get_or-append_seam}
 use Rattle.wh_quant.specs.declared.quant.Quant.{Quant}
 use Rattle.wh_quant.specs.declared.quant.Line.{Line}
 use Rattle.wh_quant.specs.Spots.{spot_of, source_spot, destination_spot, is_at}
-use Rattle.wh_quant.specs.Moves.{Holdings, RiseById, quants_with, with_quant, empty_quant, source_quant, lowered, incoming_date, destination_quant, raised, after_taking, destination_after, after_line, holdings_after}
+use Rattle.wh_quant.specs.Moves.{Holdings, quants_with, with_quant, empty_quant, source_quant, lowered}
+use Rattle.wh_quant.specs.Moves.{incoming_date, after_taking, destination_after, after_line, holdings_after}
 use Rattle.wh_quant.proofs.Starts.{id_of}
 use Rattle.wh_quant.proofs.Exact.{spot-source_quant, spot-destination_quant}
 

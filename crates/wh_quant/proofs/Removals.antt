@@ -1,9 +1,8 @@
 -- Each order of removal is total, so that a sort by it is one.
-use Rattle.std.proofs.Common.{◌≡◌, ℤ, Option, Some, None, refl, subst, List, map, ap}
-use Rattle.std.specs.declared.cmp.Ordering.{Ordering}
+use Rattle.std.proofs.Common.{◌≡◌, ℤ, Option, Some, None, refl, subst}
 use Rattle.std.specs.Cmp.{IsTotalOrder}
 use Rattle.std.specs.Cmp.Lexicographic.{options_total}
-use Rattle.std.specs.Ordering.{int_cmp, nat_cmp, flip_args}
+use Rattle.std.specs.Ordering.{int_cmp, flip_args}
 use Rattle.std.specs.Option.{option_cmp}
 use Rattle.std.proofs.lemmas.Cmp.{then_total, on_total, back_total, nat_cmp_total, int_cmp_total, nat_list_cmp_total}
 use Rattle.wh_quant.specs.declared.stock.Stock.{Stock}

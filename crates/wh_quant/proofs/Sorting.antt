@@ -1,5 +1,5 @@
 -- References to candidates that a sort has put in order are candidates in order.
-use Rattle.std.proofs.Common.{◌≡◌, ℕ, pos, ◌+◌, ◌<◌, List, [], ◌∷◌, map, length, get_or, Bor, false, sym, arith}
+use Rattle.std.proofs.Common.{◌≡◌, pos, ◌+◌, ◌<◌, List, [], ◌∷◌, map, length, Bor, sym, arith}
 use Rattle.std.specs.Prelude.{int_lt}
 use Rattle.std.specs.List.{filter}
 use Rattle.std.specs.List.Sorted.{IsPermutation, IsSorted, IsSortedBy}

@@ -1,5 +1,5 @@
 -- Quants sorted by id rise by id, since their ids differ.
-use Rattle.std.proofs.Common.{◌≡◌, ℕ, ◌<◌, ◌≤◌, List, [], ◌∷◌, map, length, get_or, eqb, nat_eq, arith}
+use Rattle.std.proofs.Common.{ℕ, ◌<◌, List, [], ◌∷◌, map, length, nat_eq, arith}
 use Rattle.std.specs.List.{IsDistinct}
 use Rattle.std.specs.List.Sorted.{IsPermutation, IsNonDecreasing, IsNonDecreasingBy}
 use Rattle.std.proofs.lemmas.Cmp.{nat_eq_equiv}

@@ -1,9 +1,8 @@
 -- What candidates give: one more of them, and the sums.
-use Rattle.std.proofs.Common.{◌≡◌, ℕ, ℤ, pos, ◌+ℤ◌, ◌-ℤ◌, ◌<ℤ◌, ◌≤ℤ◌, List, [], ◌∷◌, ◌++◌, length, get_or, drop, ◌+◌, ◌<◌, ◌≤◌, true, false, refl, sym, ◌∙◌, arith, add-one}
+use Rattle.std.proofs.Common.{◌≡◌, ℕ, ℤ, pos, ◌-ℤ◌, ◌<ℤ◌, ◌≤ℤ◌, List, [], ◌∷◌, ◌++◌, length, get_or, drop, ◌+◌, ◌<◌, ◌≤◌, true, false, refl, sym, ◌∙◌, arith, add-one}
 use Rattle.std.proofs.lemmas.List.{append-nil, append_assoc, drop_all}
 use Rattle.std.proofs.Math.Seq.{drop-cons}
 use Rattle.std.specs.List.{All, Contains, filter}
-use Rattle.std.specs.List.Sorted.{IsPermutation}
 use Rattle.std.specs.Prelude.{int_lt, FitsSigned}
 use Rattle.std.specs.Int.{int_min, int_max, w64}
 use Rattle.std.proofs.lemmas.Int.{ints, clamps, by_lt_z}
@@ -13,7 +12,7 @@ use Rattle.wh_quant.specs.declared.stock.Stock.{Stock}
 use Rattle.wh_quant.specs.declared.stock.Take.{Take}
 use Rattle.wh_quant.specs.declared.stock.Removal.{Removal}
 use Rattle.wh_quant.specs.Sums.{total}
-use Rattle.wh_quant.specs.Takes.{HasFree, IsRanked, gifts, takes_from, AreTakes, IsTakeOf}
+use Rattle.wh_quant.specs.Takes.{HasFree, IsRanked, takes_from, IsTakeOf}
 use Rattle.wh_quant.proofs.Totals.{total-IsPermutation, total-least}
 
 lt_yes : (a b : ℤ) → a <ℤ b → int_lt a b ≡ true

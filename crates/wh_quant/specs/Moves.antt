@@ -1,5 +1,5 @@
 -- What lines of goods that move make of quants, one line after the other.
-use Rattle.std.specs.Prelude.{◌≡◌, ◌≢◌, ℕ, ℤ, pos, ◌+◌, ◌<◌, ◌+ℤ◌, ◌-ℤ◌, ◌<ℤ◌, ◌≤ℤ◌, ◌⊎◌, not, Bool, true, false}
+use Rattle.std.specs.Prelude.{◌≡◌, ℕ, ℤ, pos, ◌+◌, ◌^◌, ◌<◌, ◌+ℤ◌, ◌-ℤ◌, ◌<ℤ◌, ◌≤ℤ◌, ◌⊎◌, not, Bool, true}
 use Rattle.std.specs.Prelude.{if◌then◌else◌, List, [], ◌∷◌, filter, find, fold, take, map, length, slice_get, All, IsPermutation, Some, unwrap_or, is_some, FitsSigned}
 use Rattle.std.specs.Int.{int_min, w64}
 use Rattle.std.specs.Ordering.{int_eq}
@@ -8,6 +8,7 @@ use Rattle.ob_base.specs.declared.id.RecId.{RecId}
 use Rattle.wh_quant.specs.declared.quant.Quant.{Quant}
 use Rattle.wh_quant.specs.declared.quant.Line.{Line}
 use Rattle.wh_quant.specs.declared.spot.Spot.{Spot}
+use Rattle.wh_quant.specs.Sums.{total, IsBounded}
 use Rattle.wh_quant.specs.Spots.{spot_of, source_spot, destination_spot, is_at}
 
 -- quants that rise by id, and the id of the next new one
@@ -132,6 +133,12 @@ LineFits now line stock = Fits64 (lowered line (source_quant now line stock)) ×
 abbrev pub SumsFit : ℤ → ℕ → List Quant → List Line → Type 0
 SumsFit now next quants lines = (start : Holdings) (k : ℕ) (line : Line) → IsStart quants next start → AllSuffice now start lines (k + 1)
     → slice_get lines k ≡ Some line → LineFits now line (holdings_after now start (take k lines))
+
+-- no amount is below zero, and no number of a quant is further from zero than so much, which twice all amounts keep below 2^63
+pub record AreSmall (most : ℕ) (quants : List Quant) (lines : List Line) : Type 0 where
+  pub bounded : All (IsBounded (pos most)) quants
+  pub amounts : All (λ line. pos 0 ≤ℤ line.amount) lines
+  pub within : ((pos most +ℤ total (λ line. line.amount) lines) +ℤ total (λ line. line.amount) lines) <ℤ pos (2 ^ 63)
 
 -- there is one value of guarded for each place
 abbrev pub AreGuardedBy : (RecId → Bool) → List Quant → List Line → Type 0

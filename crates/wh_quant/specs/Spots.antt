@@ -1,9 +1,8 @@
 -- Where a quant stands: the product, the place and the lot.
-use Rattle.std.specs.Prelude.{◌≡◌, ℕ, Bool, List, find, Option}
+use Rattle.std.specs.Prelude.{Bool}
 use Rattle.std.specs.declared.cmp.Ordering.{Ordering}
 use Rattle.std.specs.Ordering.{nat_cmp, ordering_then, eq_by_cmp}
 use Rattle.std.specs.Option.{option_cmp}
-use Rattle.ob_base.specs.declared.id.RecId.{RecId}
 use Rattle.wh_quant.specs.declared.quant.Quant.{Quant}
 use Rattle.wh_quant.specs.declared.quant.Line.{Line}
 use Rattle.wh_quant.specs.declared.spot.Spot.{Spot}

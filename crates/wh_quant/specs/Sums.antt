@@ -1,5 +1,5 @@
 -- Sums of signed numbers, and of the quantities of a product.
-use Rattle.std.specs.Prelude.{◌≡◌, ℤ, pos, ◌+ℤ◌, ◌≤ℤ◌, ◌==◌, List, [], ◌∷◌, true, All, if◌then◌else◌}
+use Rattle.std.specs.Prelude.{◌≡◌, ℤ, pos, ◌+ℤ◌, ◌-ℤ◌, ◌≤ℤ◌, ◌==◌, List, [], ◌∷◌, true, if◌then◌else◌}
 use Rattle.ob_base.specs.declared.id.RecId.{RecId}
 use Rattle.wh_quant.specs.declared.quant.Quant.{Quant}
 
@@ -19,3 +19,7 @@ sum_of product quants = total (quantity_for product) quants
 -- in a guarded place a quant's reserved quantity lies from 0 to its quantity
 abbrev pub IsCovered : Quant → Type 0
 IsCovered q = q.guarded ≡ true → (pos 0 ≤ℤ q.reserved) × (q.reserved ≤ℤ q.quantity)
+
+-- a quant's numbers are no further from zero than so much
+abbrev pub IsBounded : ℤ → Quant → Type 0
+IsBounded most q = ((pos 0 -ℤ most) ≤ℤ q.quantity) × (q.quantity ≤ℤ most) × ((pos 0 -ℤ most) ≤ℤ q.reserved) × (q.reserved ≤ℤ most)

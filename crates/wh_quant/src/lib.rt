@@ -16,7 +16,7 @@ mod taking;
 #[cfg(test)]
 mod tests;
 
-pub use moving::move_lines;
+pub use moving::{move_lines, small_sums_fit};
 pub use quant::{Line, LineFault, Quant};
 pub use stock::{Removal, Stock, Take};
 pub use taking::takes;

@@ -4,7 +4,8 @@ ghost use Rattle.std.specs.Prelude.{◌≡◌, ℕ, ℤ, pos, ◌+◌, ◌*◌, 
 ghost use Rattle.std.specs.List.{IsDistinct};
 ghost use Rattle.ob_base.specs.declared.id.RecId.{RecId};
 ghost use Rattle.wh_quant.specs.declared.quant.Quant.{Quant};
-ghost use Rattle.wh_quant.specs.Moves.{IsMoved, IsShortAt, SumsFit, AreGuardedBy, RiseById, LineFits, source_quant, after_line, Suffices, FallsShort};
+ghost use Rattle.wh_quant.specs.declared.quant.Line.{Line};
+ghost use Rattle.wh_quant.specs.Moves.{IsMoved, IsShortAt, SumsFit, AreSmall, AreGuardedBy, RiseById, LineFits, source_quant, after_line, Suffices, FallsShort};
 ghost use Rattle.wh_quant.specs.Sums.{sum_of, IsCovered};
 ghost use Rattle.wh_quant.specs.Indexed.{holdings_of, IsIndexed};
 
@@ -52,6 +53,13 @@ pub fn move_lines(
     left.retain(|quant| quant.quantity != 0);
     Ok(Sequence::from_vec(left))
 }
+
+/// A law, which does nothing: where no amount is below zero, no number of a quant is
+/// further from zero than `most`, and `most` with twice all amounts is below 2^63, each
+/// sum of `move_lines` fits.
+pub fn small_sums_fit()
+    ensures { (now : ℤ) (next most : ℕ) (quants : List Quant) (lines : List Line) → AreSmall most quants lines → SumsFit now next quants lines }
+{}
 
 /// Moves the goods of one line.
 fn move_line(stock: &mut IndexedQuants, line: &Line, now: i64, number: u32) -> Result<(), LineFault>

@@ -1,10 +1,6 @@
-use Rattle.std.proofs.Common.{◌≡◌, ℕ, sym, ◌∙◌, Some, None, Option, false, true, take, get_or, pos, arith, length-take-le}
-use Rattle.std.specs.Prelude.{is_some}
-use Rattle.std.specs.BTreeMap as tree
+use Rattle.std.proofs.Common.{sym, None, false, take, get_or, pos, arith, length-take-le}
 use Rattle.std.proofs.lemmas.List.{take_more}
 use Rattle.wh_quant.specs.declared.quant.Quant.{Quant}
-use Rattle.wh_quant.specs.Spots.{spot_cmp, spot_of}
-use Rattle.wh_quant.specs.Indexed.{AreFirstPlaces}
 use Rattle.wh_quant.proofs.Places.{indexed_skip_tested, indexed_push_tested}
 use Rattle.wh_quant.proofs.indexed.first_places.Goals as goal
 use Rattle.wh_quant.proofs.indexed.first_places.Goals.{then-not-contains_key+in_ok-insert, else-not-contains_key}

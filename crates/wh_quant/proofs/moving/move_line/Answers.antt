@@ -1,5 +1,5 @@
 use Rattle.std.proofs.Common.{◌≡◌, rules, sym, ap, arith}
-use Rattle.wh_quant.specs.Moves.{Holdings, with_quant, source_quant, after_taking, destination_quant, lowered, Suffices, destination_after}
+use Rattle.wh_quant.specs.Moves.{Holdings, with_quant, source_quant, after_taking, destination_quant, Suffices}
 use Rattle.wh_quant.specs.Indexed.{holdings_of}
 use Rattle.wh_quant.proofs.Runs.{next-with_quant}
 use Rattle.wh_quant.proofs.moving.move_line.Goals as goal

@@ -1,13 +1,11 @@
-use Rattle.std.proofs.Common.{◌≡◌, ℕ, ◌+◌, ◌*◌, ◌≤◌, get_or, Some, None, Err, false, pos, sym, ◌∙◌, ap, rules, arith, to_z, of_z, w64}
-use Rattle.std.specs.Prelude.{slice_get}
+use Rattle.std.proofs.Common.{◌≡◌, get_or, None, false, pos, sym, ◌∙◌, ap, rules, arith, to_z, of_z, w64}
 use Rattle.std.proofs.lemmas.Int.{to_z-of_z}
 use Rattle.std.proofs.lemmas.List.Elements.{filter_from_retain}
-use Rattle.std.proofs.lemmas.List.Sums.{fold_more}
 use Rattle.std.proofs.lemmas.Option.{slice_get-get_or}
 use Rattle.std.proofs.lemmas.Result.{err_from_is_err_and}
 use Rattle.wh_quant.specs.declared.quant.Line.{Line}
 use Rattle.wh_quant.specs.Indexed.{holdings_of}
-use Rattle.wh_quant.specs.Moves.{Holdings, FallsShort, source_quant, after_line}
+use Rattle.wh_quant.specs.Moves.{Holdings, after_line}
 use Rattle.wh_quant.proofs.Kept.{is_left}
 use Rattle.wh_quant.proofs.Runs.{next-after_line, holdings_after-more, AllSuffice-more, fits_at, short_at, moved_all}
 use Rattle.wh_quant.proofs.Laws.{moved_sums, moved_rising, moved_ids, moved_covered}

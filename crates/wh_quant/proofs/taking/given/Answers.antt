@@ -1,4 +1,4 @@
-use Rattle.std.proofs.Common.{◌≡◌, ℤ, pos, ◌<ℤ◌, ◌≤ℤ◌, ◌-ℤ◌, ◌<◌, length, map, arith, get_or, sym, refl, ◌∙◌, ap, to_z, of_z, w64, FitsSigned, rules}
+use Rattle.std.proofs.Common.{◌≡◌, pos, ◌<ℤ◌, ◌-ℤ◌, ◌<◌, length, map, arith, get_or, sym, ◌∙◌, ap, to_z, of_z, w64, FitsSigned, rules}
 use Rattle.std.specs.Int.{int_min}
 use Rattle.std.proofs.lemmas.Int.{ints, clamps, to_z-of_z}
 use Rattle.std.proofs.lemmas.List.{length-map, get_or-map}

@@ -1,4 +1,4 @@
-use Rattle.std.proofs.Common.{◌≡◌, List, map, sym, ◌∙◌, ap, to_z, of_z, w64, pos}
+use Rattle.std.proofs.Common.{◌≡◌, List, map, to_z, of_z, w64, pos}
 use Rattle.std.specs.List.{All}
 use Rattle.std.specs.Int.{int_min, int_max}
 use Rattle.std.proofs.lemmas.Int.{to_z-of_z}

@@ -1,7 +1,7 @@
 use Rattle.std.proofs.Common.{◌≡◌, ap, sym, ◌∙◌, Some, None, refl, length, arith}
 use Rattle.std.specs.BTreeMap as tree
 use Rattle.wh_quant.specs.Spots.{spot_cmp, spot_of, is_at}
-use Rattle.wh_quant.specs.Indexed.{holdings_of, first_place}
+use Rattle.wh_quant.specs.Indexed.{holdings_of}
 use Rattle.wh_quant.proofs.Places.{at_first, indexed_set, indexed_push, put_first, put_last}
 use Rattle.wh_quant.proofs.indexed.IndexedQuants.put.Goals as goal
 
