@@ -6,6 +6,7 @@ use Rattle.std.proofs.lemmas.Bool.{false≢true}
 use Rattle.std.proofs.lemmas.Int.{ints, to_z-of_z}
 use Rattle.serde_json.specs.Data.{number, unsigned}
 use Rattle.serde_json.specs.View.{view}
+use Rattle.ob_base.specs.Limits.{max_id}
 use Rattle.ob_base.specs.Tally.{Tally}
 use Rattle.ob_base.specs.Times.{IsMoment}
 use Rattle.ob_base.specs.declared.id.ModelNo.{ModelNo}

@@ -11,6 +11,7 @@ use Rattle.std.proofs.lemmas.List.Elements.{All-contains, All-filter}
 use Rattle.std.proofs.lemmas.List.FromFn.{get_or-enumerate_from, length-enumerate_from}
 use Rattle.std.proofs.lemmas.Map.Lookups.{CmpEqualImpliesEq, exact_pairs, exact_unsigned}
 use Rattle.std.proofs.lemmas.Option.{same_Some}
+use Rattle.ob_base.specs.Limits.{max_id}
 use Rattle.ob_base.specs.declared.id.ModelNo.{ModelNo}
 use Rattle.ob_base.specs.declared.id.RecId.{RecId}
 use Rattle.ob_base.specs.declared.refusal.Broken.{Broken}

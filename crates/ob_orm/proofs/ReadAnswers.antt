@@ -6,6 +6,7 @@ use Rattle.std.proofs.lemmas.Bool.Decides.{nat_tests}
 use Rattle.std.proofs.lemmas.List.Elements.{All-cons, All-nil, All-head, All-tail, All-filter}
 use Rattle.std.proofs.lemmas.List.FromFn.{get_or-enumerate_from, length-enumerate_from}
 use Rattle.std.proofs.lemmas.Option.{slice_get-get_or}
+use Rattle.ob_base.specs.Limits.{max_id}
 use Rattle.ob_base.specs.declared.id.FieldNo.{FieldNo}
 use Rattle.ob_base.specs.declared.place.PathStep.{PathStep}
 use Rattle.ob_base.specs.declared.refusal.Refusal.{Refusal}
