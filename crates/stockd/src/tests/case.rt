@@ -232,16 +232,16 @@ impl<'a> Case<'a> {
         let source_fails = numbers_of(alloc, self.source_fails, 0)?;
         let mut source = MemSource::new(input, self.cut, source_fails).ok()?;
         let mut sink = MemSink::new(alloc, self.room, numbers_of(alloc, self.sink_fails, 0)?).ok()?;
-        let mut clock = MemClock::new(i64::from(self.start), self.step).ok()?;
-        let keeper = &mut self.keeper;
-        let ended = run_over(
+        let ended = run(
             alloc,
             words.as_slice(),
-            keeper,
+            &mut SureFiles::new(alloc).ok()?,
+            &mut self.keeper,
             &mut source,
             &mut sink,
-            &mut clock,
-        )?;
+            &mut SureDoor::new(alloc).ok()?,
+            &mut MemClock::new(i64::from(self.start), self.step).ok()?,
+        );
         let output = str::from_utf8(sink.written()).ok()?;
         self.compare("output", wanted.as_str(), output)?;
         self.compare("status", status, ended.to_string(alloc).ok()?.as_str())
@@ -270,22 +270,6 @@ impl<'a> Case<'a> {
             &["\n", what, "\nwanted: ", wanted, "\nfound:  ", found],
         )
     }
-}
-
-/// Runs over these objects, without files and connections.
-fn run_over(
-    alloc: Global,
-    words: &[String],
-    keeper: &mut MemKeeper,
-    source: &mut MemSource,
-    sink: &mut MemSink,
-    clock: &mut MemClock,
-) -> Option<u8> {
-    let mut files = SureFiles::new(alloc).ok()?;
-    let mut door = SureDoor::new(alloc).ok()?;
-    Some(run(
-        alloc, words, &mut files, keeper, source, sink, &mut door, clock,
-    ))
 }
 
 /// Adds pieces to a text.
