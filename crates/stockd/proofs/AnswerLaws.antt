@@ -1,5 +1,5 @@
 -- From what each step of serving a request does to a step of the machine.
-use Rattle.std.proofs.Common.{◌≡◌, ◌≤◌, inl, inr, ℕ, ℤ, List, Option, Some, None, option_map, Result, Ok, Err, refl, ap, ◌∙◌, arith, Bor, BTreeMap, Global, String}
+use Rattle.std.proofs.Common.{◌≡◌, inl, inr, ℕ, ℤ, List, Option, Some, None, option_map, Result, Ok, Err, refl, ap, ◌∙◌, Bor, BTreeMap, Global, String}
 use Rattle.std.specs.Prelude.{IsSomeAnd, unwrap_or}
 use Rattle.std.specs.BTreeMap.{IsEmpty}
 use Rattle.serde_json.specs.Data.{Data, object, no_members}
@@ -10,7 +10,6 @@ use Rattle.serde_json.specs.declared.value.Value.TheVariants.{Object}
 use Rattle.ob_base.specs.declared.id.ModelNo.{ModelNo}
 use Rattle.ob_base.specs.declared.refusal.Refusal.{Refusal}
 use Rattle.ob_base.specs.declared.refusal.Refusal.TheVariants as refusal
-use Rattle.ob_io.specs.Cause.{Rose}
 use Rattle.ob_io.specs.Store.{Store, all_changed}
 use Rattle.ob_rpc.specs.Envelope.{Envelope, Fault, element_place, envelope_of}
 use Rattle.ob_schema.specs.Models.{model_at}

@@ -10,7 +10,7 @@ use Rattle.std.proofs.lemmas.List.Folds.{prefix_len-append}
 use Rattle.std.proofs.lemmas.Bool.{cases_lt}
 use Rattle.std.proofs.lemmas.Bool.Decides.{nat_tests}
 use Rattle.memchr.specs.Find.{IsFirstByte, is_byte}
-use Rattle.stockd.specs.Lines.{is_line_feed, lines_of, is_blank_line, bodies_of, line_front, line_back, line_size}
+use Rattle.stockd.specs.Lines.{is_line_feed, lines_of, line_front, line_back, line_size}
 
 -- where the first line feed stands, or how many bytes there are where none does
 abbrev pub feed_at : List ℕ → ℕ

@@ -1,5 +1,5 @@
 -- A run of the machine goes on by one body.
-use Rattle.std.proofs.Common.{◌≡◌, ℕ, ℤ, ◌≤◌, List, [], ◌∷◌, ◌++◌, ◌⊎◌, refl, ap, ◌∙◌, arith, inl, inr, Option, Some, option_map, subst}
+use Rattle.std.proofs.Common.{◌≡◌, ℕ, ℤ, List, [], ◌∷◌, ◌++◌, ◌⊎◌, refl, ap, ◌∙◌, arith, inl, inr, Option, Some, option_map, subst}
 use Rattle.ob_io.specs.Cause.{Rose}
 use Rattle.ob_orm.specs.Tables.{Tables}
 use Rattle.ob_rpc.specs.Envelope.{envelope_of}

@@ -1,10 +1,9 @@
 -- A session goes on by one line, or ends.
-use Rattle.std.proofs.Common.{◌≡◌, ℕ, ℤ, Bool, true, false, List, [], ◌∷◌, ◌++◌, length, refl, ap, sym, ◌∙◌, arith, Option, Some, None, Result, Ok, Err, subst, length-append}
+use Rattle.std.proofs.Common.{◌≡◌, ℕ, Bool, true, false, List, [], ◌∷◌, ◌++◌, length, refl, ap, sym, ◌∙◌, arith, Option, Some, None, Result, Ok, Err, subst, length-append}
 use Rattle.std.specs.Prelude.{not, take, option_map, is_err, OnOk, OnErr}
 use Rattle.std.proofs.lemmas.Bool.{false≢true}
 use Rattle.std.proofs.lemmas.List.{take_all}
 use Rattle.std.proofs.lemmas.List.Elements.{filter-append}
-use Rattle.ob_io.specs.Store.{Store}
 use Rattle.ob_orm.specs.Tables.{empty_tables}
 use Rattle.ob_orm.specs.Kept.{Kept}
 use Rattle.ob_schema.specs.declared.info.ModelInfo.{ModelInfo}

@@ -1,5 +1,5 @@
 -- What is kept: as it is found while it is opened, and as a create's commit leaves it.
-use Rattle.std.specs.Prelude.{◌≡◌, ℕ, ◌<◌, ◌⊎◌, List, Option, Some, None, IsSome, MatchOption, ⊤}
+use Rattle.std.specs.Prelude.{◌≡◌, ℕ, ◌<◌, ◌⊎◌, List, Option, None, IsSome, MatchOption, ⊤}
 use Rattle.serde_json.specs.Data.{Data}
 use Rattle.ob_io.specs.declared.keeper.KeepFault.{KeepFault}
 use Rattle.ob_io.specs.declared.keeper.KeepFault.TheVariants as fault
