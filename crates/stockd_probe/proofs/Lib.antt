@@ -1,3 +1,1 @@
 pub mod Held
-pub mod Small
-pub mod Distinct
