@@ -37,9 +37,17 @@ max_expression_bytes = 4096
 abbrev pub max_expression_depth : ℕ
 max_expression_depth = 24
 
--- the length in bytes of a line of requests, without its line feed
+-- the length in bytes of a line of requests, without its line feed, and of an HTTP body
 abbrev pub max_line_bytes : ℕ
 max_line_bytes = 2 ^ 23
+
+-- the length in bytes of an HTTP head, with the empty lines before it and the one that ends it
+abbrev pub max_head_bytes : ℕ
+max_head_bytes = 16384
+
+-- how many fields an HTTP head may have
+abbrev pub max_head_fields : ℕ
+max_head_fields = 64
 
 -- the length in bytes of the whole input of a run
 abbrev pub max_input_bytes : ℕ

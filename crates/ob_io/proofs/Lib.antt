@@ -8,3 +8,4 @@ pub mod Room
 pub mod Shown
 pub mod SortedEntries
 pub mod StoreFit
+pub mod DoorParts

@@ -10,6 +10,11 @@ pub record HostInput : Type 0 where
   pub left : Option (List ℕ)
   pub faults : ℕ
 
+-- how often the host gave no connection, and how often it failed to read or to write one
+pub record HostConnections : Type 0 where
+  pub next_faults : ℕ
+  pub faults : ℕ
+
 -- the moment that was given last, and how often the host gave none
 pub record HostTime : Type 0 where
   pub last : ℤ

@@ -36,7 +36,8 @@ coded_row =
 
 -- a store is stored as its two maps
 abbrev pub coded_store : Coded Store
-coded_store = code_by (finite.FinMap row_key_cmp KeptRow × finite.FinMap nat_cmp ℕ) (coded× (finite.code coded_key coded_row) (finite.code coded_ℕ coded_ℕ)) (λ s. (s.rows, s.next_ids)) (λ p. record { rows = p.0; next_ids = p.1 }) (λ _. refl)
+coded_store = code_by (finite.FinMap row_key_cmp KeptRow × finite.FinMap nat_cmp ℕ) (coded× (finite.code coded_key coded_row) (finite.code coded_ℕ coded_ℕ)) (λ s. (s.rows, s.next_ids))
+    (λ p. record { rows = p.0; next_ids = p.1 }) (λ _. refl)
 
 -- a store, and which calls of its keeper fail
 pub record Kept : Type 0 where

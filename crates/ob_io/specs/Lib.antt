@@ -6,6 +6,7 @@ pub mod Moments
 pub mod Plan
 pub mod Faults
 pub mod Memory
+pub mod MemoryDoor
 pub mod Host
 pub mod Slots
 pub mod Kept

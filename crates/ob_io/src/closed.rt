@@ -1,9 +1,7 @@
-//! Files that hold nothing, and a door that is shut: for what runs without either.
+//! Files that hold nothing: for what runs without any.
 
-ghost use Rattle.std.specs.Prelude.{◌≡◌, ℕ, List, [], length, false, Some, None, Ok, Err};
+ghost use Rattle.std.specs.Prelude.{◌≡◌, Some, None, Ok, Err};
 
-use crate::door::Door;
-use crate::fault::Failed;
 use crate::files::{FileFault, Files};
 use ob_base::{NoMemory, Sequence};
 use std::alloc::Global;
@@ -31,51 +29,4 @@ impl Files for SureFiles {
     {
         Err(FileFault::Absent)
     }
-}
-
-/// A door through which no connection comes. What is written without one is taken and
-/// goes nowhere.
-#[derive(Clone, Copy, Debug)]
-pub struct SureDoor;
-
-impl SureDoor {
-    /// Takes no memory, and so doesn't fail.
-    pub fn new(_alloc: Global) -> Result<SureDoor, NoMemory>
-        ensures { result ≡ Ok (record {}) }
-    {
-        Ok(SureDoor)
-    }
-}
-
-impl Door for SureDoor {
-    ghost coming = { λ _. Some [] };
-
-    ghost left = { λ _. Some [] };
-
-    ghost written = { λ _. Some [] };
-
-    ghost next_faults = { λ _. 0 };
-
-    ghost faults = { λ _. 0 };
-
-    fn next(&mut self) -> Result<bool, Failed>
-        ensures { result ≡ Ok false }
-    {
-        Ok(false)
-    }
-
-    fn read(&mut self, room: &mut [u8]) -> Result<usize, Failed>
-        ensures answer { result ≡ Ok 0 }
-        ensures same { room.new ≡ room.old }
-    {
-        Ok(0)
-    }
-
-    fn write(&mut self, piece: &[u8]) -> Result<usize, Failed>
-        ensures { result ≡ Ok (length piece.now) }
-    {
-        Ok(piece.len())
-    }
-
-    fn shut(&mut self) {}
 }

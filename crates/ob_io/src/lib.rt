@@ -4,25 +4,29 @@
 //! says exactly what it does to the first, and that it fails only where the second rose.
 //!
 //! Rooms: `source`, `sink`, `files`, `door`, `clock` and `keeper` hold a trait each,
-//! and `store` the rows that a keeper keeps. The forms: `memory_source`, `memory_sink`
-//! and `memory_clock` hold in memory what they give or take, Mem.. with failures at
-//! the calls that a `plan` names, Sure.. without; `closed` has files and a door with
-//! nothing behind; `host_source`, `host_sink` and `host_clock` are the real ones. A
-//! form may be added; a trait changes for all.
+//! and `store` the rows that a keeper keeps. The forms: `memory_source`, `memory_sink`,
+//! `memory_door` and `memory_clock` hold in memory what they give or take, Mem.. with
+//! failures at the calls that a `plan` names, Sure.. without; `closed` has files with
+//! nothing behind; `host_source`, `host_sink`, `host_door` and `host_clock` are the real
+//! ones. A form may be added; a trait changes for all.
 #![tactic(auto)]
 
 mod clock;
 mod closed;
 mod door;
+#[cfg(test)]
+mod door_tests;
 mod fault;
 mod files;
 mod host_clock;
+mod host_door;
 mod host_sink;
 mod host_source;
 mod keeper;
 #[cfg(test)]
 mod keeper_tests;
 mod memory_clock;
+mod memory_door;
 mod memory_keeper;
 mod memory_sink;
 mod memory_source;
@@ -37,15 +41,17 @@ mod sure_keeper;
 mod tests;
 
 pub use clock::Clock;
-pub use closed::{SureDoor, SureFiles};
+pub use closed::SureFiles;
 pub use door::Door;
 pub use fault::Failed;
 pub use files::{FileFault, Files};
 pub use host_clock::HostClock;
+pub use host_door::TcpDoor;
 pub use host_sink::StdSink;
 pub use host_source::StdSource;
 pub use keeper::{KeepFault, Keeper};
 pub use memory_clock::MemClock;
+pub use memory_door::{MemDoor, SureDoor};
 pub use memory_keeper::MemKeeper;
 pub use memory_sink::{MemSink, SureSink};
 pub use memory_source::{MemSource, SureSource};

@@ -2,7 +2,7 @@
 //! reads fail. The one with failures is the other and a `FailPlan`, so that nothing
 //! but the failures can differ.
 
-ghost use Rattle.std.specs.Prelude.{◌≡◌, ℕ, ◌↔◌, max, length, Some, Ok, IfOk, OnErr, IsErr, is_err};
+ghost use Rattle.std.specs.Prelude.{◌≡◌, ℕ, ◌↔◌, max, [], length, Some, Ok, IfOk, OnErr, IsErr, is_err};
 ghost use Rattle.ob_io.specs.Cause.{HasCause};
 ghost use Rattle.ob_io.specs.Bytes.{Reads};
 ghost use Rattle.ob_io.specs.Plan.{FailsNext, after_call};
@@ -43,6 +43,21 @@ impl SureSource {
             taken: 0,
             cut: cut.max(1),
         })
+    }
+
+    /// Gives these bytes from now on, cut as before.
+    pub(crate) fn restart(&mut self, bytes: Vec<u8>)
+        ensures { self.new ≡ record { left = bytes.items; cut = self.old.cut } }
+    {
+        self.bytes = bytes;
+        self.taken = 0;
+    }
+
+    /// Has nothing to give any more.
+    pub(crate) fn end(&mut self)
+        ensures { self.new ≡ record { left = []; cut = self.old.cut } }
+    {
+        self.taken = self.bytes.len();
     }
 }
 

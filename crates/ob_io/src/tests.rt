@@ -64,7 +64,7 @@ fn forms_in_memory_tell(rt: HostRuntime) -> Result<(), Fail> {
     clock_tells(&MemClock::new(0, 1)?);
     keeper_tells(&SureKeeper::new(alloc, Vec::new(alloc), Vec::new(alloc))?);
     keeper_tells(&MemKeeper::new(alloc, Vec::new(alloc), Vec::new(alloc), Vec::new(alloc))?);
-    door_tells(&SureDoor::new(alloc)?);
+    door_tells(&SureDoor::new(alloc, Vec::new(alloc), 1, 0)?);
     Ok(())
 }
 
@@ -166,7 +166,7 @@ fn closed_ones_hold_nothing(rt: HostRuntime) -> Result<(), Fail> {
         Ok(_) => assert!(rt; false),
         Err(fault) => assert_eq!(rt; fault, FileFault::Absent),
     }
-    let mut door = SureDoor::new(rt.alloc())?;
+    let mut door = SureDoor::new(rt.alloc(), Vec::new(rt.alloc()), 1, 0)?;
     let mut room = [9; 2];
     assert_eq!(rt; door.next(), Ok(false));
     assert_eq!(rt; door.read(&mut room), Ok(0));

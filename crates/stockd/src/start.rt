@@ -54,7 +54,7 @@ fn run_words<R: AllocGlobal + Input + Print + Clock>(
     let mut keeper = SureKeeper::new(alloc, Vec::new(alloc), Vec::new(alloc))?;
     let mut input = StdSource::new(rt)?;
     let mut output = StdSink::new(rt)?;
-    let mut door = SureDoor::new(alloc)?;
+    let mut door = SureDoor::new(alloc, Vec::new(alloc), 1, 0)?;
     let mut clock = HostClock::new(rt)?;
     Ok(run(
         alloc,

@@ -239,7 +239,7 @@ impl<'a> Case<'a> {
             &mut self.keeper,
             &mut source,
             &mut sink,
-            &mut SureDoor::new(alloc).ok()?,
+            &mut SureDoor::new(alloc, Vec::new(alloc), 1, 0).ok()?,
             &mut MemClock::new(i64::from(self.start), self.step).ok()?,
         );
         let output = str::from_utf8(sink.written()).ok()?;
