@@ -1,6 +1,7 @@
 """Asks the probe and the libraries of an independent machine the same, over random values.
 
-usage: probe.py ORACLE SEED COUNT. Ends with 1 where an answer differs.
+usage: probe.py ORACLE SEED COUNT [WORD]. Without the word all words are asked, by turns at
+random. Ends with 1 where an answer differs.
 """
 import random
 import subprocess
@@ -186,10 +187,32 @@ def expression(rng, model):
     return ("expression " + text, "read") if served(tree) else expression(rng, model)
 
 
+def makers():
+    """What makes lines of each word: of the words about stock only where the machine has their functions."""
+    found = {"row": row, "value": value, "order": order, "day": day, "moment": moment, "expression": expression}
+    try:
+        import probe_stock
+    except ImportError:
+        print("no functions about stock to compare with in %s: takes, lines, state, split, chain and push are skipped" % sys.argv[1])
+        return found
+    return {**found, **probe_stock.MAKERS}
+
+
+def asked_and_wanted():
+    """So many lines with the answers that are wanted, of one word or of all."""
+    rng, model, found = random.Random(int(sys.argv[2])), declared(), makers()
+    # Rows and values have more forms than the others.
+    words = sys.argv[4:] or [*found, "row", "value", "value"]
+    if words[0] not in found:
+        print("nothing to compare with for %s: skipped" % words[0])
+        return []
+    return [found[rng.choice(words)](rng, model) for _ in range(int(sys.argv[3]))]
+
+
 def main():
-    rng, model = random.Random(int(sys.argv[2])), declared()
-    makers = (row, row, value, value, value, order, day, moment, expression)
-    pairs = [rng.choice(makers)(rng, model) for _ in range(int(sys.argv[3]))]
+    pairs = asked_and_wanted()
+    if not pairs:
+        return 0
     asked = "".join(line + "\n" for line, _ in pairs)
     ran = subprocess.run(["tools/run.sh", "stockd_probe"], input=asked.encode(), stdout=subprocess.PIPE)
     answers = ran.stdout.decode().split("\n")[:-1]

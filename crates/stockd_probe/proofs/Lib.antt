@@ -1,1 +1,3 @@
 pub mod Held
+pub mod Small
+pub mod Distinct

@@ -8,10 +8,27 @@
 //! | `order FIELD [JSON,JSON]` | `Less`, `Equal` or `Greater`: how the order of values has the two |
 //! | `day TEXT`, `moment TEXT` | the number that the text names and its text again, or `none` |
 //! | `expression TEXT` | `read`, or the fault |
+//! | `takes ORDER WANT STOCK ..` | `quant:amount` of each take |
+//! | `lines NOW NEXT QUANT .. \| LINE ..` | the quants after the lines, or `short at` a line's number |
+//! | `state RESERVED DEMAND WAITS` | the state of such a move |
+//! | `split DEMAND DONE` | the done part and the rest |
+//! | `chain PLACE RULE ..` | the ids of the chain of pull rules, or `too deep` |
+//! | `push PLACE RULE ..` | the id of the push rule |
 //!
-//! `times N` before `row`, `body`, `value` or `expression` makes that call N times and
-//! tells the last answer.
+//! A stock is `quant:free:in_date:removal:place`, a quant
+//! `id:product:place:lot:quantity:reserved:in_date:guarded`, a line
+//! `product:from:to:lot:amount:guarded_from:guarded_to`, a rule `id:pull:src:dest` or
+//! `id:push:src:dest`. `-` is unset; `yes` or `no` tells what is guarded and what waits;
+//! ORDER is `fifo`, `lifo`, `fefo` or `closest`. An empty answer is `none`, and
+//! `not asked` stands where the call requires what isn't so.
+//!
+//! `times N` before `row`, `body`, `value`, `expression`, `takes`, `lines` or `chain`
+//! makes that call N times and tells the last answer.
 
+use crate::moves::{parts_of_demand, state};
+use crate::quants::after_lines;
+use crate::removals::taken;
+use crate::routes::{chain, push};
 use crate::rows::{body_again, row_values};
 use crate::texts::{day, expression, moment};
 use crate::values::{order, value};
@@ -37,6 +54,19 @@ pub(crate) fn answer(alloc: Global, schema: &Schema, line: &str) -> Result<Strin
         "day" => day(alloc, rest),
         "moment" => moment(alloc, rest),
         "expression" => expression(alloc, times, rest),
+        _ => stock_answer(alloc, times, word, rest),
+    }
+}
+
+/// The answer to a line about stock.
+fn stock_answer(alloc: Global, times: u32, word: &str, rest: &str) -> Result<String, NoMemory> {
+    match word {
+        "takes" => taken(alloc, times, rest),
+        "lines" => after_lines(alloc, times, rest),
+        "state" => state(alloc, rest),
+        "split" => parts_of_demand(alloc, rest),
+        "chain" => chain(alloc, times, rest),
+        "push" => push(alloc, rest),
         _ => told(alloc, "no word"),
     }
 }

@@ -26,7 +26,7 @@ pub(crate) fn registry(alloc: Global) -> Result<Schema, NoMemory> {
 fn model(alloc: Global) -> Result<ModelDef, NoMemory> {
     let mut fields = Sequence::new(alloc);
     for (name, field_type) in PLAIN {
-        fields.push(field(alloc, name, field_type)?)?;
+        fields.push(FieldDef::plain(alloc, name, field_type)?)?;
     }
     fields.push(state(alloc)?)?;
     fields.push(square(alloc)?)?;
@@ -37,16 +37,8 @@ fn model(alloc: Global) -> Result<ModelDef, NoMemory> {
         ..relation(alloc, "lines", FieldType::One2many)?
     })?;
     Ok(ModelDef {
-        name: Some(Word::from_text(alloc, "probe.row")?),
-        inherit: None,
-        inherits: Sequence::new(alloc),
-        order: None,
-        parent: None,
-        unique: Sequence::new(alloc),
-        checks: Sequence::new(alloc),
-        locked: None,
-        managed: None,
         fields,
+        ..ModelDef::plain(alloc, "probe.row")?
     })
 }
 
@@ -61,7 +53,7 @@ fn state(alloc: Global) -> Result<FieldDef, NoMemory> {
     }
     Ok(FieldDef {
         selection: Some(choices),
-        ..field(alloc, "state", FieldType::Selection)?
+        ..FieldDef::plain(alloc, "state", FieldType::Selection)?
     })
 }
 
@@ -73,7 +65,7 @@ fn square(alloc: Global) -> Result<FieldDef, NoMemory> {
         compute: Some(Word::from_text(alloc, "qty * qty")?),
         depends: Some(depends),
         store: Some(true),
-        ..field(alloc, "square", FieldType::Integer)?
+        ..FieldDef::plain(alloc, "square", FieldType::Integer)?
     })
 }
 
@@ -81,31 +73,6 @@ fn square(alloc: Global) -> Result<FieldDef, NoMemory> {
 fn relation(alloc: Global, name: &str, field_type: FieldType) -> Result<FieldDef, NoMemory> {
     Ok(FieldDef {
         relation: Some(Word::from_text(alloc, "probe.row")?),
-        ..field(alloc, name, field_type)?
-    })
-}
-
-/// A field with no key but its type.
-fn field(alloc: Global, name: &str, field_type: FieldType) -> Result<FieldDef, NoMemory> {
-    Ok(FieldDef {
-        name: Word::from_text(alloc, name)?,
-        field_type,
-        string: None,
-        required: None,
-        default: None,
-        compute: None,
-        depends: None,
-        store: None,
-        recursive: None,
-        related: None,
-        relation: None,
-        inverse: None,
-        mirror: None,
-        ondelete: None,
-        selection: None,
-        groups: None,
-        managed: None,
-        fixed: None,
-        secret: None,
+        ..FieldDef::plain(alloc, name, field_type)?
     })
 }

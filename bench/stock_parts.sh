@@ -1,0 +1,67 @@
+#!/usr/bin/env bash
+# How fast the arithmetic of stock is: bench/stock_parts.sh [ITEMS [TIMES]]. Stocks, lines and
+# rules that takes, move_lines and pull_chain work off in a second of a processor, and how
+# much longer each takes at twice the items: at most 2.3 times, as nothing walks over all
+# items for each of them. All by the proved program stockd_probe (`tools/build.sh
+# stockd_probe` builds it), which makes each call as often as its input says; reading the
+# items is taken off. The least of five runs counts. Figures, no test.
+set -euo pipefail
+top=$(cd "$(dirname "$0")/.." && pwd)
+items=${1:-20000}
+times=${2:-200}
+probe=$("$top/tools/proved.sh" stockd_probe)
+work=$(mktemp -d)
+trap 'rm -rf "$work"' EXIT
+
+# The first to be removed first, with ties and unset dates, where all is wanted.
+takes() {
+    awk -v n="$1" 'BEGIN {
+        printf "takes fefo %d", 8 * n
+        for (i = 1; i <= n; i++) printf " %d:%d:%d:%s:WH/%d", i, i % 7 + 1, i * 7919 % 1000, i % 3 ? i * 31 % 500 : "-", i % 9
+        print ""
+    }'
+}
+
+# A line for each quant, from its place to one where there is nothing yet.
+move_lines() {
+    awk -v n="$1" 'BEGIN {
+        printf "lines 900 %d", n + 1
+        for (i = 1; i <= n; i++) printf " %d:%d:8:-:5:5:50:yes", i, i * 7919 % 1000003
+        printf " |"
+        for (i = n; i >= 1; i--) printf " %d:8:9:-:3:yes:yes", i * 7919 % 1000003
+        print ""
+    }'
+}
+
+# A chain of eight behind rules of other places.
+pull_chain() {
+    awk -v n="$1" 'BEGIN {
+        printf "chain 8"
+        for (i = 1; i <= n - 8; i++) printf " %d:pull:%d:%d", i + 8, i % 99 + 100, i % 99 + 200
+        for (i = 1; i <= 8; i++) printf " %d:pull:%d:%d", i, 8 + i, 7 + i
+        print ""
+    }'
+}
+
+# What the probe takes of a processor for an input, so that other work beside it counts little.
+seconds() {
+    local TIMEFORMAT=%U
+    { time "$probe" <"$1" >/dev/null; } 2>&1
+}
+
+least() {
+    for _ in 1 2 3 4 5; do seconds "$1"; done | sort -n | head -n 1
+}
+
+# What all calls but one take for so many items.
+calls() {
+    "$1" "$2" >"$work/once"
+    sed "s/^/times $times /" "$work/once" >"$work/often"
+    awk -v often="$(least "$work/often")" -v once="$(least "$work/once")" 'BEGIN { print often - once }'
+}
+
+for call in takes move_lines pull_chain; do
+    awk -v call=$call -v n="$items" -v m="$times" -v a="$(calls $call "$items")" -v b="$(calls $call $((2 * items)))" 'BEGIN {
+        printf "%s: %.1f million items a second at %d, %.1f million at %d; ratio %.2f\n", call, n * (m - 1) / a / 1e6, n, 2 * n * (m - 1) / b / 1e6, 2 * n, b / a
+    }'
+done
