@@ -15,7 +15,8 @@ path_text-dotted first [] = sym (append-nil (step_text first))
 path_text-dotted first (next ∷ rest) = ap (λ text. step_text first ++ 46 ∷ text) (path_text-dotted next rest)
 
 -- the first step, and what is left taken whole
-pub path_text-parts : (steps : List PathStep) (first : PathStep) (n : ℕ) → 1 ≤ length steps → first ≡ get_or steps 0 first → length (take (length steps - 1) (drop 1 steps)) ≤ n → step_text first ++ flat_map dotted (take n (take (length steps - 1) (drop 1 steps))) ≡ path_text steps
+pub path_text-parts : (steps : List PathStep) (first : PathStep) (n : ℕ) → 1 ≤ length steps → first ≡ get_or steps 0 first → length (take (length steps - 1) (drop 1 steps)) ≤ n
+    → step_text first ++ flat_map dotted (take n (take (length steps - 1) (drop 1 steps))) ≡ path_text steps
 path_text-parts [] first n some is whole = absurd (omega (arith, some))
 path_text-parts (step ∷ rest) first n some is whole =
     let all : take (length (step ∷ rest) - 1) rest ≡ rest = take_all _ rest (omega arith) in

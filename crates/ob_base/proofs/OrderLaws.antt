@@ -11,13 +11,13 @@ use Rattle.std.proofs.lemmas.Cmp.{then_total, on_total, nat_cmp_total, int_cmp_t
 use Rattle.ob_base.specs.declared.id.RecId.{RecId}
 use Rattle.ob_base.specs.declared.value.Value.{Value}
 use Rattle.ob_base.specs.declared.value.Value.TheVariants.{Nil, Bool as Flag, Int, Word, Day, Moment, Ref, Refs}
-use Rattle.ob_base.specs.ValueOrder.{variant_of, number_of, list_of, value_order}
+use Rattle.ob_base.specs.ValueOrder.{variant_of, integer_of, list_of, value_order}
 
 -- each of the three parts is ordered totally
 pub value_order_total : IsTotalOrder value_order
 value_order_total =
     then_total (on_total variant_of nat_cmp_total)
-    (then_total (on_total number_of int_cmp_total) (on_total list_of nat_list_cmp_total))
+    (then_total (on_total integer_of int_cmp_total) (on_total list_of nat_list_cmp_total))
 
 -- the absolute size of a number that is not negative
 abbrev size_of : ℤ → ℕ
@@ -47,7 +47,7 @@ ids_again [] = refl
 ids_again (id ∷ ids) = ap (λ rest. id ∷ rest) (ids_again ids)
 
 -- a value is made again of its parts
-from_parts : (v : Value) → value_from (variant_of v) (number_of v) (list_of v) ≡ v
+from_parts : (v : Value) → value_from (variant_of v) (integer_of v) (list_of v) ≡ v
 from_parts Nil = refl
 from_parts (Flag true) = refl
 from_parts (Flag false) = refl
@@ -68,9 +68,9 @@ both_equal Greater p e = cc
 pub value_order_exact : IsAntisymmetric value_order
 value_order_exact a b e =
     let first = both_equal (nat_cmp (variant_of a) (variant_of b)) _ e in
-    let then = both_equal (int_cmp (number_of a) (number_of b)) _ first.1 in
+    let then = both_equal (int_cmp (integer_of a) (integer_of b)) _ first.1 in
     let variants : variant_of a ≡ variant_of b = nat_cmp-IsAntisymmetric _ _ first.0 in
-    let numbers : number_of a ≡ number_of b = int_cmp-IsAntisymmetric _ _ then.0 in
+    let numbers : integer_of a ≡ integer_of b = int_cmp-IsAntisymmetric _ _ then.0 in
     let lists : list_of a ≡ list_of b = slice_cmp-IsAntisymmetric nat_cmp-IsAntisymmetric _ _ then.1 in
     cc (from_parts a, from_parts b)
 

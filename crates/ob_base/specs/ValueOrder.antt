@@ -18,15 +18,15 @@ variant_of (Ref id) = 6
 variant_of (Refs ids) = 7
 
 -- the number that a value holds, where it holds one; false is below true
-abbrev pub number_of : Value → ℤ
-number_of Nil = pos 0
-number_of (Flag b) = if b then pos 1 else pos 0
-number_of (Int n) = n
-number_of (Word bytes) = pos 0
-number_of (Day n) = n
-number_of (Moment n) = n
-number_of (Ref id) = pos id.0
-number_of (Refs ids) = pos 0
+abbrev pub integer_of : Value → ℤ
+integer_of Nil = pos 0
+integer_of (Flag b) = if b then pos 1 else pos 0
+integer_of (Int n) = n
+integer_of (Word bytes) = pos 0
+integer_of (Day n) = n
+integer_of (Moment n) = n
+integer_of (Ref id) = pos id.0
+integer_of (Refs ids) = pos 0
 
 -- the list that a value holds, where it holds one: a text's bytes, a list's ids
 abbrev pub list_of : Value → List ℕ
@@ -41,4 +41,4 @@ list_of (Refs ids) = map (λ id. id.0) ids
 
 -- by variant, then by number, then by list, an item at a time
 abbrev pub value_order : Value → Value → Ordering
-value_order = then_cmp (on variant_of nat_cmp) (then_cmp (on number_of int_cmp) (on list_of (slice_cmp nat_cmp)))
+value_order = then_cmp (on variant_of nat_cmp) (then_cmp (on integer_of int_cmp) (on list_of (slice_cmp nat_cmp)))

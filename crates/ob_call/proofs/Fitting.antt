@@ -13,7 +13,8 @@ use Rattle.ob_base.specs.declared.place.PathStep.{PathStep}
 use Rattle.ob_base.specs.declared.refusal.Refusal.{Refusal}
 use Rattle.serde_json.specs.Data.{Data, object, Members, no_members, member}
 use Rattle.serde_json.specs.Find.{get_member}
-use Rattle.ob_call.specs.Arguments.{AreFit, Expected, Given, are_apart, arguments_of, by_name, by_position, entries, has_key, is_absent, is_among, is_context, is_nothing, items_in, judged, name_place, named, named_in, position_place, positioned, with_name}
+use Rattle.ob_call.specs.Arguments.{AreFit, Expected, Given, are_apart, arguments_of, by_name, by_position, entries, has_key, is_absent, is_among, is_context, is_nothing, items_in, judged, name_place}
+use Rattle.ob_call.specs.Arguments.{named, named_in, position_place, positioned, with_name}
 use Rattle.ob_call.specs.ArgumentsSteps.{expected_of, names_of}
 use Rattle.ob_call.specs.Results.{IsResultOf}
 use Rattle.ob_call.specs.declared.arguments.Parameter.{Parameter}

@@ -11,7 +11,8 @@ use Rattle.serde_json.proofs.Views.{view-Array, view-Object}
 use Rattle.ob_base.specs.declared.place.PathStep.{PathStep}
 use Rattle.ob_base.specs.declared.place.PathStep.TheVariants.{Item}
 use Rattle.ob_schema.specs.declared.info.FieldInfo.{FieldInfo}
-use Rattle.ob_call.specs.Forms.{first_item, listed, number_from}
+use Rattle.ob_call.specs.Forms.{first_item, number_from}
+use Rattle.ob_codec.specs.Commands.{listed}
 
 -- whether a value is the name of one of these fields
 abbrev pub names_one : List FieldInfo → Data → Bool

@@ -1,5 +1,6 @@
 -- The steps by which the arguments of a call are gone through.
-use Rattle.std.proofs.Common.{◌≡◌, ℕ, zero, suc, ◌+◌, ◌<◌, ◌&&◌, Bool, true, false, cond, List, [], ◌∷◌, ◌++◌, length, map, get_or, set, drop, Bor, Option, Some, None, option_map, Result, Ok, Err, BTreeMap, codes, Global, String, Vec, string_bytes, nat_cmp, refl, sym, ap, subst, ◌∙◌, add-one, arith, append_assoc, rules}
+use Rattle.std.proofs.Common.{◌≡◌, ℕ, zero, suc, ◌+◌, ◌<◌, ◌&&◌, Bool, true, false, cond, List, [], ◌∷◌, ◌++◌, length, map, get_or, set, drop, Bor, Option, Some, None, option_map, Result, Ok, Err}
+use Rattle.std.proofs.Common.{BTreeMap, codes, Global, String, Vec, string_bytes, nat_cmp, refl, sym, ap, subst, ◌∙◌, add-one, arith, append_assoc, rules}
 use Rattle.std.proofs.lemmas.Bool.Decides.{nat_tests}
 use Rattle.std.proofs.lemmas.List.{get_or-map, length-map, map-append, map-set}
 use Rattle.std.proofs.Math.Seq.{drop-cons}
@@ -169,7 +170,8 @@ module _ {F : Type 0} (fault : F → Data → Option (List PathStep)) where
       (λ later. ap (λ (r : Result (List (Option arguments.Given)) (List PathStep)). r >>= λ rest. Ok (g ∷ rest)) (with_name-none name d ps gs later))
 
   -- one more stands before the place
-  put_later : (g : Option arguments.Given) (gs : List (Option arguments.Given)) (n : ℕ) (r : Result (Option arguments.Given) (List PathStep)) → ((r >>= λ own. Ok (set gs n own)) >>= λ rest. Ok (g ∷ rest)) ≡ (r >>= λ own. Ok (set (g ∷ gs) (suc n) own))
+  put_later : (g : Option arguments.Given) (gs : List (Option arguments.Given)) (n : ℕ) (r : Result (Option arguments.Given) (List PathStep))
+      → ((r >>= λ own. Ok (set gs n own)) >>= λ rest. Ok (g ∷ rest)) ≡ (r >>= λ own. Ok (set (g ∷ gs) (suc n) own))
   put_later g gs n (Ok own) = refl
   put_later g gs n (Err w) = refl
 
@@ -247,7 +249,8 @@ module _ {F : Type 0} (fault : F → Data → Option (List PathStep)) where
       ∙ ap (λ (p : Parameter F). named name (view v) (exp p) (option_map given_of h) >>= λ own. Ok (set (all_given_of gs) n own)) (sym at))
 
   -- one that is refused
-  pub named_refused : {A : Type 0} (of : A → List (Option arguments.Given)) (ps : List (Parameter F)) (all s t : List Entry) (k : String Global) (v : Value) (name : List ℕ) (first gs : List (Option Given)) (n : ℕ) (d : Parameter F) (h : Option Given) (why : Refusal)
+  pub named_refused : {A : Type 0} (of : A → List (Option arguments.Given)) (ps : List (Parameter F)) (all s t : List Entry) (k : String Global) (v : Value) (name : List ℕ) (first gs : List
+      (Option Given)) (n : ℕ) (d : Parameter F) (h : Option Given) (why : Refusal)
       → s ≡ (k, v) ∷ t → name ≡ string_bytes k → bytes_eq name (codes "context") ≡ false → length gs ≡ length ps → n < length ps → d ≡ get_or ps n d → h ≡ get_or gs n h
       → number_named name ps ≡ Some n
       → IsNamedTo ps all first s gs

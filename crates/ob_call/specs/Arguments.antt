@@ -8,7 +8,7 @@ use Rattle.ob_base.specs.declared.place.PathStep.{PathStep}
 use Rattle.ob_base.specs.declared.place.PathStep.TheVariants.{Key, Item}
 use Rattle.serde_json.specs.Data.{Data, null, boolean, array, object, Members, no_members, member}
 use Rattle.serde_json.specs.Find.{get_member}
-use Rattle.ob_call.specs.Forms.{listed}
+use Rattle.ob_codec.specs.Commands.{listed}
 
 -- What a call expects of an argument: its name, whether it must be given, and its form, by the
 -- steps from a value down to where it breaks the form first.

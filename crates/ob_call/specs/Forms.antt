@@ -7,16 +7,12 @@ use Rattle.ob_base.specs.declared.id.FieldNo.{FieldNo}
 use Rattle.ob_base.specs.declared.id.ModelNo.{ModelNo}
 use Rattle.ob_base.specs.declared.place.PathStep.{PathStep}
 use Rattle.ob_base.specs.declared.place.PathStep.TheVariants.{Item}
-use Rattle.serde_json.specs.Data.{Data, number, array, Items, no_items, item}
+use Rattle.serde_json.specs.Data.{Data, number, array}
 use Rattle.serde_json.specs.Find.{as_u64, as_number, as_str}
+use Rattle.ob_codec.specs.Commands.{listed}
 use Rattle.ob_schema.specs.Models.{field_named, model_at}
 use Rattle.ob_schema.specs.declared.info.FieldInfo.{FieldInfo}
 use Rattle.ob_schema.specs.declared.info.ModelInfo.{ModelInfo}
-
--- the items of a JSON list
-abbrev pub listed : Items → List Data
-listed no_items = []
-listed (item d items) = d ∷ listed items
 
 -- the place of the first item that a test refuses
 abbrev pub first_item : (Data → Bool) → ℕ → List Data → Option (List PathStep)

@@ -130,38 +130,10 @@ fn each_told<R: Abort, F: Form>(
 /// A registry of one model with the field `name`.
 fn registry(alloc: Global) -> Result<Option<Schema>, Fail> {
     let mut fields = Sequence::new(alloc);
-    fields.push(FieldDef {
-        name: Word::from_text(alloc, "name")?,
-        field_type: FieldType::Char,
-        string: None,
-        required: None,
-        default: None,
-        compute: None,
-        depends: None,
-        store: None,
-        recursive: None,
-        related: None,
-        relation: None,
-        inverse: None,
-        mirror: None,
-        ondelete: None,
-        selection: None,
-        groups: None,
-        managed: None,
-        fixed: None,
-        secret: None,
-    })?;
+    fields.push(FieldDef::plain(alloc, "name", FieldType::Char)?)?;
     let definitions = [ModelDef {
-        name: Some(Word::from_text(alloc, "demo.item")?),
-        inherit: None,
-        inherits: Sequence::new(alloc),
-        order: None,
-        parent: None,
-        unique: Sequence::new(alloc),
-        checks: Sequence::new(alloc),
-        locked: None,
-        managed: None,
         fields,
+        ..ModelDef::plain(alloc, "demo.item")?
     }];
     Ok(Schema::build(alloc, &definitions).ok())
 }

@@ -52,16 +52,8 @@ fn model_def(
         defs.push(field_def(alloc, field, *field_type)?)?;
     }
     Ok(ModelDef {
-        name: Some(Word::from_text(alloc, name)?),
-        inherit: None,
-        inherits: Sequence::new(alloc),
-        order: None,
-        parent: None,
-        unique: Sequence::new(alloc),
-        checks: Sequence::new(alloc),
-        locked: None,
-        managed: None,
         fields: defs,
+        ..ModelDef::plain(alloc, name)?
     })
 }
 
@@ -81,25 +73,10 @@ fn field_def(alloc: Global, name: &str, field_type: FieldType) -> Result<FieldDe
         _ => None,
     };
     Ok(FieldDef {
-        name: Word::from_text(alloc, name)?,
-        field_type,
-        string: None,
-        required: None,
-        default: None,
-        compute: None,
-        depends: None,
-        store: None,
-        recursive: None,
-        related: None,
         relation,
         inverse,
-        mirror: None,
-        ondelete: None,
         selection,
-        groups: None,
-        managed: None,
-        fixed: None,
-        secret: None,
+        ..FieldDef::plain(alloc, name, field_type)?
     })
 }
 

@@ -4,7 +4,7 @@ use Rattle.ob_base.specs.declared.id.Cell.{Cell}
 use Rattle.ob_base.specs.declared.id.FieldNo.{FieldNo}
 use Rattle.ob_base.specs.declared.value.Value.{Value}
 use Rattle.ob_base.specs.declared.value.Value.TheVariants as value
-use Rattle.ob_base.specs.ValueOrder.{number_of}
+use Rattle.ob_base.specs.ValueOrder.{integer_of}
 use Rattle.ob_expr.specs.declared.checker.Kind.{Kind}
 use Rattle.ob_expr.specs.declared.checker.Kind.TheVariants as kind
 use Rattle.ob_expr.specs.Checking.{TypedTree, field, times, EachField}
@@ -50,7 +50,7 @@ fitted n = if int_le (negsuc (2 ^ 63 - 1)) n && int_le n (pos (2 ^ 63 - 1)) then
 abbrev pub product_value : Result Value ValueFault → Result Value ValueFault → Result Value ValueFault
 product_value (Err first) right = Err first
 product_value (Ok left) (Err second) = Err second
-product_value (Ok left) (Ok right) = fitted (number_of left *ℤ number_of right)
+product_value (Ok left) (Ok right) = fitted (integer_of left *ℤ integer_of right)
 
 -- the value of an expression, by what the fields hold
 abbrev pub meaning : TypedTree → (FieldNo → Value) → Result Value ValueFault

@@ -6,7 +6,7 @@
 
 ghost use Rattle.std.specs.Prelude.{◌≡◌, Bool, IfOk, IfErr, IsTrue, Ok, OnOk};
 ghost use Rattle.ob_base.specs.Tally.{ticked};
-ghost use Rattle.ob_base.specs.ValueOrder.{number_of};
+ghost use Rattle.ob_base.specs.ValueOrder.{integer_of};
 ghost use Rattle.ob_base.specs.declared.id.Cell.{Cell};
 ghost use Rattle.ob_base.specs.declared.value.Value.{Value};
 ghost use Rattle.ob_expr.specs.declared.checker.Kind.TheVariants.{Int as an_integer};
@@ -193,7 +193,7 @@ fn value_in_row<R: Reads>(
 /// The number that an integer holds.
 fn integer(value: Value) -> i64
     requires { HasKind an_integer value }
-    ensures { number_of value ≡ result }
+    ensures { integer_of value ≡ result }
 {
     match value {
         Value::Int(number) => number,

@@ -53,10 +53,12 @@ abbrev pub RowIs : List ModelInfo → Call → List Value → Type 0
 RowIs models call values = IfSome (model_at models call.model) (λ info. created_row info call.now (view call.args.now) (view call.kw.now) ≡ Ok (gathered info values))
 
 -- as they are read
-pub row_is : (models : List ModelInfo) (call : Call) (gs : List (Option arguments.Given)) (values : List Value) → IfSome (model_at models call.model) (λ info. arguments_of (create_expects info.fields) (view call.args.now) (view call.kw.now) ≡ Ok gs)
+pub row_is : (models : List ModelInfo) (call : Call) (gs : List (Option arguments.Given)) (values : List Value)
+    → IfSome (model_at models call.model) (λ info. arguments_of (create_expects info.fields) (view call.args.now) (view call.kw.now) ≡ Ok gs)
     → IfSome (model_at models call.model) (λ info. row_from info call.now gs ≡ Ok (gathered info values)) → RowIs models call values
 row_is models call gs values given row = by (model_at models call.model) given row where
-  by : (o : Option ModelInfo) → IfSome o (λ info. arguments_of (create_expects info.fields) (view call.args.now) (view call.kw.now) ≡ Ok gs) → IfSome o (λ info. row_from info call.now gs ≡ Ok (gathered info values)) → IfSome o (λ info. created_row info call.now (view call.args.now) (view call.kw.now) ≡ Ok (gathered info values))
+  by : (o : Option ModelInfo) → IfSome o (λ info. arguments_of (create_expects info.fields) (view call.args.now) (view call.kw.now) ≡ Ok gs)
+      → IfSome o (λ info. row_from info call.now gs ≡ Ok (gathered info values)) → IfSome o (λ info. created_row info call.now (view call.args.now) (view call.kw.now) ≡ Ok (gathered info values))
   by None given row = tt
   by (Some info) given row = ap (λ (r : Result (List (Option arguments.Given)) (List PathStep)). r >>= row_from info call.now) given ∙ row
 
@@ -70,13 +72,15 @@ RefusedAt models call rose why next = IfSome (model_at models call.model) (λ in
 pub past_refused : (models : List ModelInfo) (call : Call) (rose : Type 0) (why : Refusal) (next : ℕ) (values : List Value) → RowIs models call values → 4294967295 < next
     → IfSome (model_at models call.model) (λ info. (column : Column) × IsIdColumn info column × (why ≡ refusal.Constraint (record { kind = broken.Limit; cell = cell_of call.model next column.0 }))) → RefusedAt models call rose why next
 past_refused models call rose why next values row past named = by (model_at models call.model) row named where
-  by : (o : Option ModelInfo) → IfSome o (λ info. created_row info call.now (view call.args.now) (view call.kw.now) ≡ Ok (gathered info values)) → IfSome o (λ info. (column : Column) × IsIdColumn info column × (why ≡ refusal.Constraint (record { kind = broken.Limit; cell = cell_of call.model next column.0 })))
+  by : (o : Option ModelInfo) → IfSome o (λ info. created_row info call.now (view call.args.now) (view call.kw.now) ≡ Ok (gathered info values))
+      → IfSome o (λ info. (column : Column) × IsIdColumn info column × (why ≡ refusal.Constraint (record { kind = broken.Limit; cell = cell_of call.model next column.0 })))
       → IfSome o (λ info. Refuses rose (CreateCause (called_by call info) next) why)
   by None row named = tt
   by (Some info) row (column, id, is) = subst (λ (w : Refusal). Refuses rose (CreateCause (called_by call info) next) w) (sym is) (gathered info values, row, inl (past, column, id, refl))
 
 -- a field without a value
-row_refused : (info : ModelInfo) (call : Call) (rose : Type 0) (why : Refusal) (next : ℕ) (values : List Value) → created_row info call.now (view call.args.now) (view call.kw.now) ≡ Ok (gathered info values) → BreaksRow call.model info next (gathered info values) why
+row_refused : (info : ModelInfo) (call : Call) (rose : Type 0) (why : Refusal) (next : ℕ) (values : List Value)
+    → created_row info call.now (view call.args.now) (view call.kw.now) ≡ Ok (gathered info values) → BreaksRow call.model info next (gathered info values) why
     → Refuses rose (CreateCause (called_by call info) next) why
 row_refused info call rose (refusal.Request place) next values row broken = absurd broken
 row_refused info call rose (refusal.Right m op) next values row broken = absurd broken
@@ -88,9 +92,11 @@ row_refused info call rose refusal.Keeper next values row broken = absurd broken
 row_refused info call rose refusal.NoMemory next values row broken = tt
 
 -- so the create is refused
-pub values_refused : (models : List ModelInfo) (call : Call) (rose : Type 0) (why : Refusal) (next : ℕ) (values : List Value) → RowIs models call values → IfSome (model_at models call.model) (λ info. BreaksRow call.model info next (gathered info values) why) → RefusedAt models call rose why next
+pub values_refused : (models : List ModelInfo) (call : Call) (rose : Type 0) (why : Refusal) (next : ℕ) (values : List Value) → RowIs models call values
+    → IfSome (model_at models call.model) (λ info. BreaksRow call.model info next (gathered info values) why) → RefusedAt models call rose why next
 values_refused models call rose why next values row broken = by (model_at models call.model) row broken where
-  by : (o : Option ModelInfo) → IfSome o (λ info. created_row info call.now (view call.args.now) (view call.kw.now) ≡ Ok (gathered info values)) → IfSome o (λ info. BreaksRow call.model info next (gathered info values) why) → IfSome o (λ info. Refuses rose (CreateCause (called_by call info) next) why)
+  by : (o : Option ModelInfo) → IfSome o (λ info. created_row info call.now (view call.args.now) (view call.kw.now) ≡ Ok (gathered info values))
+      → IfSome o (λ info. BreaksRow call.model info next (gathered info values) why) → IfSome o (λ info. Refuses rose (CreateCause (called_by call info) next) why)
   by None row broken = tt
   by (Some info) row broken = row_refused info call rose why next values row broken
 
@@ -118,14 +124,17 @@ abbrev pub AnsweredSo : Option Store → List ModelInfo → Call → Type 0 → 
 AnsweredSo kept models call rose r = IfSome kept (λ store. (tables : Tables) → Kept models store tables → IsSound models tables → IfSome (model_at models call.model) (λ info. CreateAnswers models store tables (called_by call info) rose r))
 
 -- the next id of the tables
-next_told : (models : List ModelInfo) (model : ModelNo) (info : ModelInfo) (store : Store) (tables : Tables) (next : ℕ) → model_at models model ≡ Some info → next ≡ next_of store model → Kept models store tables → next ≡ next_id tables model
+next_told : (models : List ModelInfo) (model : ModelNo) (info : ModelInfo) (store : Store) (tables : Tables) (next : ℕ) → model_at models model ≡ Some info → next ≡ next_of store model
+    → Kept models store tables → next ≡ next_id tables model
 next_told models model info store tables next at told' kept = told' ∙ (told (model_at models model) info (λ m. KeepsModel model m store tables) at (kept model)).next
 
 -- a refusal is the machine's
-pub refused_answer : (kept : Option Store) (models : List ModelInfo) (call : Call) (rose : Type 0) (why : Refusal) (next : ℕ) → IfSome kept (λ store. next ≡ next_of store call.model) → RefusedAt models call rose why next → AnsweredSo kept models call rose (Err why)
+pub refused_answer : (kept : Option Store) (models : List ModelInfo) (call : Call) (rose : Type 0) (why : Refusal) (next : ℕ) → IfSome kept (λ store. next ≡ next_of store call.model)
+    → RefusedAt models call rose why next → AnsweredSo kept models call rose (Err why)
 refused_answer None models call rose why next is refused = tt
 refused_answer (Some store) models call rose why next is refused = λ tables kept sound. by tables kept (model_at models call.model) refl refused where
-  by : (tables : Tables) → Kept models store tables → (o : Option ModelInfo) → model_at models call.model ≡ o → IfSome o (λ info. Refuses rose (CreateCause (called_by call info) next) why) → IfSome o (λ info. CreateAnswers models store tables (called_by call info) rose (Err why))
+  by : (tables : Tables) → Kept models store tables → (o : Option ModelInfo) → model_at models call.model ≡ o → IfSome o (λ info. Refuses rose (CreateCause (called_by call info) next) why)
+      → IfSome o (λ info. CreateAnswers models store tables (called_by call info) rose (Err why))
   by tables kept None at refused = tt
   by tables kept (Some info) at refused =
       let P : Refusal → Type 0 = CreateCause (called_by call info) (next_id tables call.model) in
@@ -135,7 +144,8 @@ refused_answer (Some store) models call rose why next is refused = λ tables kep
 -- ---- a row that is made
 
 -- a create that is carried out is the machine's
-made_here : (models : List ModelInfo) (call : Call) (info : ModelInfo) (store : Store) (tables : Tables) (rose : Type 0) (next : ℕ) (values kept : List Value) (created : Created) → model_at models call.model ≡ Some info → IsServed info → ArePlain info values
+made_here : (models : List ModelInfo) (call : Call) (info : ModelInfo) (store : Store) (tables : Tables) (rose : Type 0) (next : ℕ) (values kept : List Value) (created : Created)
+    → model_at models call.model ≡ Some info → IsServed info → ArePlain info values
     → created_row info call.now (view call.args.now) (view call.kw.now) ≡ Ok (gathered info values) → next ≡ next_id tables call.model → next ≤ max_id → AreKept info next (gathered info values) kept
     → view created.json ≡ number (unsigned next) → created.changes ≡ changes_of models call.model next kept → Kept models store tables → IsSound models tables → CreateAnswers models store tables (called_by call info) rose (Ok created)
 made_here models call info store tables rose next values kept created at served known given same low are json changes stands sound =
@@ -158,13 +168,15 @@ made_here models call info store tables rose next values kept created at served 
     )
 
 -- over any keeper that tells its rows
-pub made_answer : (stored : Option Store) (models : List ModelInfo) (call : Call) (rose : Type 0) (next : ℕ) (values kept : List Value) (created : Created) → IfSome stored (λ store. next ≡ next_of store call.model) → IfSome (model_at models call.model) IsServed → IfSome (model_at models call.model) (λ info. ArePlain info values)
+pub made_answer : (stored : Option Store) (models : List ModelInfo) (call : Call) (rose : Type 0) (next : ℕ) (values kept : List Value) (created : Created)
+    → IfSome stored (λ store. next ≡ next_of store call.model) → IfSome (model_at models call.model) IsServed → IfSome (model_at models call.model) (λ info. ArePlain info values)
     → RowIs models call values → next ≤ max_id → IfSome (model_at models call.model) (λ info. AreKept info next (gathered info values) kept)
     → view created.json ≡ number (unsigned next) → created.changes ≡ changes_of models call.model next kept → AnsweredSo stored models call rose (Ok created)
 made_answer None models call rose next values kept created is served known row low are json changes = tt
 made_answer (Some store) models call rose next values kept created is served known row low are json changes = λ tables stands sound. by tables stands sound (model_at models call.model) refl served known row are where
   by : (tables : Tables) → Kept models store tables → IsSound models tables → (o : Option ModelInfo) → model_at models call.model ≡ o → IfSome o IsServed → IfSome o (λ info. ArePlain info values)
-      → IfSome o (λ info. created_row info call.now (view call.args.now) (view call.kw.now) ≡ Ok (gathered info values)) → IfSome o (λ info. AreKept info next (gathered info values) kept) → IfSome o (λ info. CreateAnswers models store tables (called_by call info) rose (Ok created))
+      → IfSome o (λ info. created_row info call.now (view call.args.now) (view call.kw.now) ≡ Ok (gathered info values)) → IfSome o (λ info. AreKept info next (gathered info values) kept)
+      → IfSome o (λ info. CreateAnswers models store tables (called_by call info) rose (Ok created))
   by tables stands sound None at served known row are = tt
   by tables stands sound (Some info) at served known row are =
       made_here models call info store tables rose next values kept created at served known row (next_told models call.model info store tables next at is stands) low are json changes stands sound
@@ -189,7 +201,8 @@ known_of (Some info) P Q step h = step info h
 abbrev IsWrongAt : Call → List PathStep → ModelInfo → Type 0
 IsWrongAt call place info = created_row info call.now (view call.args.now) (view call.kw.now) ≡ Err place
 
-wrong_at : (models : List ModelInfo) (call : Call) (place : List PathStep) → arguments_of (create_expects (fields_at models call.model)) (view call.args.now) (view call.kw.now) ≡ Err place → IfSome (model_at models call.model) (IsWrongAt call place)
+wrong_at : (models : List ModelInfo) (call : Call) (place : List PathStep) → arguments_of (create_expects (fields_at models call.model)) (view call.args.now) (view call.kw.now) ≡ Err place
+    → IfSome (model_at models call.model) (IsWrongAt call place)
 wrong_at models call place e =
     known_of (model_at models call.model) (λ info. arguments_of (create_expects info.fields) (view call.args.now) (view call.kw.now) ≡ Err place) (IsWrongAt call place)
     (λ info is. ap (λ (r : Result (List (Option arguments.Given)) (List PathStep)). r >>= row_from info call.now) is)
@@ -220,7 +233,8 @@ plain_wrong : {A : Type 0} (of : ModelInfo → A → Row) (models : List ModelIn
     → IfSome (model_at models call.model) (λ info. IsResultOf (of info) (Err why) (created_row info call.now (view call.args.now) (view call.kw.now)))
 plain_wrong {A = A} of models call items slice passed why is same given wrong =
     by (model_at models call.model) (at_info models call.model (λ fields. arguments_of (create_expects fields) (view call.args.now) (view call.kw.now) ≡ Ok (all_given_of items)) given) wrong where
-      by : (o : Option ModelInfo) → IfSome o (λ info. arguments_of (create_expects info.fields) (view call.args.now) (view call.kw.now) ≡ Ok (all_given_of items)) → IfSome o (λ info. IsResultOf (of info) (Err why) (row_from info passed (all_given_of slice)))
+      by : (o : Option ModelInfo) → IfSome o (λ info. arguments_of (create_expects info.fields) (view call.args.now) (view call.kw.now) ≡ Ok (all_given_of items))
+          → IfSome o (λ info. IsResultOf (of info) (Err why) (row_from info passed (all_given_of slice)))
           → IfSome o (λ info. IsResultOf (of info) (Err why) (created_row info call.now (view call.args.now) (view call.kw.now)))
       by None given wrong = tt
       by (Some info) given wrong =
@@ -248,19 +262,22 @@ pub row_answer : {A : Type 0} (of : ModelInfo → A → Row) (kept : Option Stor
 row_answer of None models call rose why there wrong = tt
 row_answer of (Some store) models call rose (refusal.Request place) there wrong = λ tables stands sound.
     known_of (model_at models call.model) (IsWrongAt call place) (λ info. CreateAnswers models store tables (called_by call info) rose (Err (refusal.Request place))) (λ info is. (is, refl)) wrong
-row_answer of (Some store) models call rose refusal.NoMemory there wrong = λ tables stands sound. everywhere (model_at models call.model) (λ info. CreateAnswers models store tables (called_by call info) rose (Err refusal.NoMemory)) (λ info. tt)
+row_answer of (Some store) models call rose refusal.NoMemory there wrong = λ tables stands sound. everywhere (model_at models call.model) (λ info. CreateAnswers models store tables
+    (called_by call info) rose (Err refusal.NoMemory)) (λ info. tt)
 row_answer {A = A} of (Some store) models call rose _ there wrong = absurd (nowhere (model_at models call.model) there wrong) where
   nowhere : (o : Option ModelInfo) → IsSome o → IfSome o (λ _. ⊥) → ⊥
   nowhere None there wrong = false≢true there
   nowhere (Some info) there wrong = wrong
 
 -- of the values that the arguments give
-pub plain_cause : {A : Type 0} (of : ModelInfo → A → Row) (models : List ModelInfo) (call : Call) (rose : Type 0) (items slice : List (Option Given)) (passed : ℤ) (why : Refusal) → HasModel models call.model → passed ≡ call.now → slice ≡ items → CreateGives models call items
+pub plain_cause : {A : Type 0} (of : ModelInfo → A → Row) (models : List ModelInfo) (call : Call) (rose : Type 0) (items slice : List (Option Given)) (passed : ℤ) (why : Refusal)
+    → HasModel models call.model → passed ≡ call.now → slice ≡ items → CreateGives models call items
     → IfSome (model_at models call.model) (λ info. IsResultOf (of info) (Err why) (row_from info passed (all_given_of slice)))
     → Refuses rose (λ w. IfSome (model_at models call.model) (λ info. (n : ℕ) × CreateCause (called_by call info) n w)) why
 plain_cause of models call rose items slice passed why there is same given wrong = row_cause of models call rose why there (plain_wrong of models call items slice passed why is same given wrong)
 
-pub plain_answer : {A : Type 0} (of : ModelInfo → A → Row) (kept : Option Store) (models : List ModelInfo) (call : Call) (rose : Type 0) (items slice : List (Option Given)) (passed : ℤ) (why : Refusal) → HasModel models call.model → passed ≡ call.now → slice ≡ items → CreateGives models call items
+pub plain_answer : {A : Type 0} (of : ModelInfo → A → Row) (kept : Option Store) (models : List ModelInfo) (call : Call) (rose : Type 0) (items slice : List (Option Given)) (passed : ℤ)
+    (why : Refusal) → HasModel models call.model → passed ≡ call.now → slice ≡ items → CreateGives models call items
     → IfSome (model_at models call.model) (λ info. IsResultOf (of info) (Err why) (row_from info passed (all_given_of slice)))
     → AnsweredSo kept models call rose (Err why)
 plain_answer of kept models call rose items slice passed why there is same given wrong = row_answer of kept models call rose why there (plain_wrong of models call items slice passed why is same given wrong)

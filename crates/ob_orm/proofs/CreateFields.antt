@@ -42,7 +42,8 @@ pub tell : {X : Type 0} (o : Option X) (x : X) (P : X → Type 0) → o ≡ Some
 tell {X = X} o x P is known = subst (λ (p : Option X). IfSome p P) (sym is) known
 
 -- the fields that a tree has, each of which may be read, whatever the cells hold
-pub readable_operands : (has_value : Cell → Bool) (value_of : Cell → Value) (cell : Cell) (values : List Value) (tree : TypedTree) → HoldsOperands values tree → MayRead has_value value_of cell (λ c. (1 ≤ c.field.0) × (c.field.0 ≤ length values)) tree
+pub readable_operands : (has_value : Cell → Bool) (value_of : Cell → Value) (cell : Cell) (values : List Value) (tree : TypedTree) → HoldsOperands values tree
+    → MayRead has_value value_of cell (λ c. (1 ≤ c.field.0) × (c.field.0 ≤ length values)) tree
 readable_operands has_value value_of cell values (checking.field number k) held = (held.0, held.1)
 readable_operands has_value value_of cell values (checking.times left right) held =
     (readable_operands has_value value_of cell values left held.0, λ _. readable_operands has_value value_of cell values right held.1)
@@ -130,7 +131,8 @@ computed_val info values i f formula id known valid at is =
     ∙ ap (limited f.field_type) (meaning-gathered info values tree (held_operands info values tree known (formula_in info i f formula valid at is).operands))
 
 -- and one that its field may hold
-pub computed_kept : (info : ModelInfo) (values : List Value) (i : ℕ) (f : FieldInfo) (formula : Formula) (cell : Cell) (v : Value) → ArePlain info values → IsModel info → IsServed info → slice_get info.fields i ≡ Some f → f.origin ≡ origin.Computed formula
+pub computed_kept : (info : ModelInfo) (values : List Value) (i : ℕ) (f : FieldInfo) (formula : Formula) (cell : Cell) (v : Value) → ArePlain info values → IsModel info → IsServed info
+    → slice_get info.fields i ≡ Some f → f.origin ≡ origin.Computed formula
     → GivesValue cell (limited f.field_type (meaning (typed_tree_of formula.typed) (λ number. held_at values number.0))) (Ok v) → IsTextual v → KeepsField (suc i, f) cell.id.0 (gathered info values) (Some v)
 computed_kept info values i f formula cell v known valid served at is given textual = (
   computed_is_kept f formula is (All-at (λ g. (is_id g.origin || is_kept g) ≡ true) info.fields i f at served.kept),
@@ -139,7 +141,8 @@ computed_kept info values i f formula cell v known valid served at is given text
 )
 
 -- a formula without a value breaks its cell
-pub computed_broken : (info : ModelInfo) (values : List Value) (i : ℕ) (f : FieldInfo) (formula : Formula) (cell : Cell) (why : Refusal) → ArePlain info values → IsModel info → slice_get info.fields i ≡ Some f → f.origin ≡ origin.Computed formula
+pub computed_broken : (info : ModelInfo) (values : List Value) (i : ℕ) (f : FieldInfo) (formula : Formula) (cell : Cell) (why : Refusal) → ArePlain info values → IsModel info
+    → slice_get info.fields i ≡ Some f → f.origin ≡ origin.Computed formula
     → BreaksCell cell (limited f.field_type (meaning (typed_tree_of formula.typed) (λ number. held_at values number.0))) why → BreaksCell cell (val (suc i, f) cell.id.0 (gathered info values)) why
 computed_broken info values i f formula cell why known valid at is broken =
     subst (λ (r : Result Value ValueFault). BreaksCell cell r why) (sym (computed_val info values i f formula cell.id.0 known valid at is)) broken
@@ -163,7 +166,8 @@ gives_at models cell f values r there at known =
     (subst (λ (n : ℕ). GivesField (n, f) cell (gathered there.info values) r) (sym there.number_is) known)
 
 -- of a plain field
-pub plain_at : (models : List ModelInfo) (cell : Cell) (f : FieldInfo) (values : List Value) (v w : Value) → field_at models cell.model cell.field ≡ Some f → IfSome (model_at models cell.model) IsServed → IfSome (model_at models cell.model) (λ info. ArePlain info values) → f.origin ≡ origin.Plain
+pub plain_at : (models : List ModelInfo) (cell : Cell) (f : FieldInfo) (values : List Value) (v w : Value) → field_at models cell.model cell.field ≡ Some f
+    → IfSome (model_at models cell.model) IsServed → IfSome (model_at models cell.model) (λ info. ArePlain info values) → f.origin ≡ origin.Plain
     → w ≡ get_or values (cell.field.0 - 1) w → v ≡ w → GivesAt models cell values (Ok (Some v))
 plain_at models cell f values v w at served known is read same =
     let there = FieldIn-from_at models cell.model cell.field f at in
@@ -172,18 +176,22 @@ plain_at models cell f values v w at served known is read same =
     let served' = told o there.info IsServed there.model_is served in
     let lt : there.place < length values = let a = slice_get_within there.info.fields there.place f there.field_is in let b = known'.count in omega arith in
     let place : cell.field.0 - 1 ≡ there.place = let n = there.number_is in omega arith in
-    let found : v ≡ held_at values (suc there.place) = same ∙ read ∙ get_or_default values (cell.field.0 - 1) w value.Nil (omega arith) ∙ ap (λ (n : ℕ). get_or values n value.Nil) (let e : cell.field.0 - 1 ≡ suc there.place - 1 = omega arith in e) in
+    let found : v ≡ held_at values (suc there.place) = same ∙ read ∙ get_or_default values (cell.field.0 - 1) w value.Nil (omega arith)
+    ∙ ap (λ (n : ℕ). get_or values n value.Nil) (let e : cell.field.0 - 1 ≡ suc there.place - 1 = omega arith in e) in
     gives_at models cell f values (Ok (Some v)) there at (plain_kept there.info values there.place f cell.id.0 v known' served' there.field_is is found)
 
 -- of the id
-pub id_at : (models : List ModelInfo) (cell : Cell) (f : FieldInfo) (values : List Value) → field_at models cell.model cell.field ≡ Some f → IfSome (model_at models cell.model) IsModel → cell.id.0 ≤ max_id → f.origin ≡ origin.Id → GivesAt models cell values (Ok None)
+pub id_at : (models : List ModelInfo) (cell : Cell) (f : FieldInfo) (values : List Value) → field_at models cell.model cell.field ≡ Some f → IfSome (model_at models cell.model) IsModel
+    → cell.id.0 ≤ max_id → f.origin ≡ origin.Id → GivesAt models cell values (Ok None)
 id_at models cell f values at valid low is =
     let there = FieldIn-from_at models cell.model cell.field f at in
     let valid' = told (model_at models cell.model) there.info IsModel there.model_is valid in
     gives_at models cell f values (Ok None) there at (id_kept there.info values there.place f cell.id.0 low valid' there.field_is is)
 
 -- of a computed field
-pub computed_at : (models : List ModelInfo) (cell : Cell) (f : FieldInfo) (values : List Value) (formula : Formula) (v : Value) → field_at models cell.model cell.field ≡ Some f → IfSome (model_at models cell.model) IsModel → IfSome (model_at models cell.model) IsServed → IfSome (model_at models cell.model) (λ info. ArePlain info values) → f.origin ≡ origin.Computed formula
+pub computed_at : (models : List ModelInfo) (cell : Cell) (f : FieldInfo) (values : List Value) (formula : Formula) (v : Value) → field_at models cell.model cell.field ≡ Some f
+    → IfSome (model_at models cell.model) IsModel → IfSome (model_at models cell.model) IsServed → IfSome (model_at models cell.model) (λ info. ArePlain info values)
+    → f.origin ≡ origin.Computed formula
     → GivesValue cell (limited f.field_type (meaning (typed_tree_of formula.typed) (λ number. held_at values number.0))) (Ok v) → IsTextual v → GivesAt models cell values (Ok (Some v))
 computed_at models cell f values formula v at valid served known is given textual =
     let there = FieldIn-from_at models cell.model cell.field f at in
@@ -194,7 +202,8 @@ computed_at models cell f values formula v at valid served known is given textua
     gives_at models cell f values (Ok (Some v)) there at (computed_kept there.info values there.place f formula cell v known' valid' served' there.field_is is given textual)
 
 -- of one whose formula has no value
-pub broken_at : (models : List ModelInfo) (cell : Cell) (f : FieldInfo) (values : List Value) (formula : Formula) (why : Refusal) → field_at models cell.model cell.field ≡ Some f → IfSome (model_at models cell.model) IsModel → IfSome (model_at models cell.model) (λ info. ArePlain info values) → f.origin ≡ origin.Computed formula
+pub broken_at : (models : List ModelInfo) (cell : Cell) (f : FieldInfo) (values : List Value) (formula : Formula) (why : Refusal) → field_at models cell.model cell.field ≡ Some f
+    → IfSome (model_at models cell.model) IsModel → IfSome (model_at models cell.model) (λ info. ArePlain info values) → f.origin ≡ origin.Computed formula
     → BreaksCell cell (limited f.field_type (meaning (typed_tree_of formula.typed) (λ number. held_at values number.0))) why → GivesAt models cell values (Err why)
 broken_at models cell f values formula why at valid known is broken =
     let there = FieldIn-from_at models cell.model cell.field f at in

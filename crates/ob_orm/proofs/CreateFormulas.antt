@@ -6,7 +6,7 @@ use Rattle.std.proofs.lemmas.Int.{ints}
 use Rattle.std.proofs.lemmas.Option.{slice_get_within}
 use Rattle.ob_base.specs.Ids.{IsId}
 use Rattle.ob_base.specs.Times.{IsDay, IsMoment}
-use Rattle.ob_base.specs.ValueOrder.{number_of}
+use Rattle.ob_base.specs.ValueOrder.{integer_of}
 use Rattle.ob_base.specs.declared.id.FieldNo.{FieldNo}
 use Rattle.ob_base.specs.declared.id.ModelNo.{ModelNo}
 use Rattle.ob_base.specs.declared.value.Value.{Value}
@@ -231,7 +231,7 @@ product-is : (left right : Result Value ValueFault) (v : Value) → product_valu
 product-is (Err f) right v e = absurd cc
 product-is (Ok a) (Err f) v e = absurd cc
 product-is (Ok a) (Ok b) v e =
-    let z : ℤ = number_of a *ℤ number_of b in
+    let z : ℤ = integer_of a *ℤ integer_of b in
     let made = fitted-is z v e in
     subst (λ (w : Value). HasKind kind.Int w × IsWithin w) (sym made.0) (tt, made.1)
 

@@ -86,7 +86,8 @@ fault_gives place (codec.Unknown below) why r at is = IsResultOf-malformed (λ w
 fault_gives place codec.NoMemory why r at is = IsResultOf-no_memory (λ w. w) why (placed place r) at
 
 -- a value that wasn't read
-pub value_refused : (o : Option FieldInfo) (f : FieldInfo) (d : Data) (place : FieldInfo → List PathStep) (fault : CodecFault) (why : Refusal) → o ≡ Some f → NoList o → (fault ≢ codec.NoMemory → GivesFault o d fault) → IsFaultAt (place f) fault why
+pub value_refused : (o : Option FieldInfo) (f : FieldInfo) (d : Data) (place : FieldInfo → List PathStep) (fault : CodecFault) (why : Refusal) → o ≡ Some f → NoList o → (fault ≢ codec.NoMemory
+    → GivesFault o d fault) → IsFaultAt (place f) fault why
     → IfSome o (λ field. IsResultOf (λ w. w) (Err why) (placed (place field) (value_from field.field_type field.selection d)))
 value_refused o f d place fault why is no_list given at =
     let flat : is_list f.field_type ≡ false = told o f (λ field. is_list field.field_type ≡ false) is no_list in
@@ -113,7 +114,8 @@ member_of : (f : FieldInfo) (name : List ℕ) (es : List Entry) (r : Option (Bor
 member_of f name es r same at = sym (found name es r at ∙ ap (λ (n : List ℕ). get_member n (members_view es)) same)
 
 -- as what the object gives it is read
-pub new_given : (o : Option FieldInfo) (f : FieldInfo) (now : ℤ) (place : List PathStep) (es : List Entry) (name : List ℕ) (x : Bor Json) (r : Result Value Refusal) → o ≡ Some f → name ≡ f.name → is_stamp name ≡ false → FoundAt name es (Some x)
+pub new_given : (o : Option FieldInfo) (f : FieldInfo) (now : ℤ) (place : List PathStep) (es : List Entry) (name : List ℕ) (x : Bor Json) (r : Result Value Refusal) → o ≡ Some f → name ≡ f.name
+    → is_stamp name ≡ false → FoundAt name es (Some x)
     → IfSome o (λ field. IsResultOf (λ w. w) r (placed (place ++ Key field.name ∷ []) (value_from field.field_type field.selection (view x.now))))
     → IfSome o (λ field. IsResultOf (λ w. w) r (new_value now place (members_view es) field))
 new_given o f now place es name x r is same stamp at given =

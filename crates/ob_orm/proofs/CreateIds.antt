@@ -48,7 +48,8 @@ id_there info valid =
     position-there is_id_field info.fields k id_info lt (ap is_id_field is)
 
 -- the look-up finds it
-pub id_found : (models : List ModelInfo) (model : ModelNo) (r : Option FieldNo) → HasModel models model → IfSome (model_at models model) IsModel → IfSome (model_at models model) (λ info. r ≡ field_named info.fields (codes "id")) → r ≡ None → ⊥
+pub id_found : (models : List ModelInfo) (model : ModelNo) (r : Option FieldNo) → HasModel models model → IfSome (model_at models model) IsModel
+    → IfSome (model_at models model) (λ info. r ≡ field_named info.fields (codes "id")) → r ≡ None → ⊥
 id_found models model r there valid named is = by (model_at models model) there valid named where
   by : (o : Option ModelInfo) → IsSome o → IfSome o IsModel → IfSome o (λ info. r ≡ field_named info.fields (codes "id")) → ⊥
   by None there valid named = absurd (false≢true there)
@@ -68,11 +69,16 @@ id_column info field valid named =
     ((suc i, f), record { column_of = Contains-columns info i f (slice_get-get_or info.fields i id_info place.0); named = (bytes_eq-Decides f.name (codes "id")).0 place.1 }, ap (λ (n : FieldNo). n.0) (sym same))
 
 -- an id past its limit breaks its cell
-pub past_broken : (models : List ModelInfo) (model : ModelNo) (id : ℕ) (r : Option FieldNo) (field : FieldNo) → IfSome (model_at models model) IsModel → IfSome (model_at models model) (λ info. r ≡ field_named info.fields (codes "id")) → r ≡ Some field
-    → IfSome (model_at models model) (λ info. (column : Column) × IsIdColumn info column × (◌≡◌ {A = Refusal} (refusal.Constraint (record { kind = broken.Limit; cell = record { model = model; id = record { 0 = id }; field = field } })) (refusal.Constraint (record { kind = broken.Limit; cell = cell_of model id column.0 }))))
+pub past_broken : (models : List ModelInfo) (model : ModelNo) (id : ℕ) (r : Option FieldNo) (field : FieldNo) → IfSome (model_at models model) IsModel
+    → IfSome (model_at models model) (λ info. r ≡ field_named info.fields (codes "id")) → r ≡ Some field
+    → IfSome (model_at models model) (λ info. (column : Column) × IsIdColumn info column × (◌≡◌ {A = Refusal} (refusal.Constraint
+    (record { kind = broken.Limit; cell = record { model = model; id = record { 0 = id }; field = field } })) (refusal.Constraint
+    (record { kind = broken.Limit; cell = cell_of model id column.0 }))))
 past_broken models model id r field valid named is = by (model_at models model) valid named where
   by : (o : Option ModelInfo) → IfSome o IsModel → IfSome o (λ info. r ≡ field_named info.fields (codes "id"))
-      → IfSome o (λ info. (column : Column) × IsIdColumn info column × (◌≡◌ {A = Refusal} (refusal.Constraint (record { kind = broken.Limit; cell = record { model = model; id = record { 0 = id }; field = field } })) (refusal.Constraint (record { kind = broken.Limit; cell = cell_of model id column.0 }))))
+      → IfSome o (λ info. (column : Column) × IsIdColumn info column × (◌≡◌ {A = Refusal} (refusal.Constraint
+      (record { kind = broken.Limit; cell = record { model = model; id = record { 0 = id }; field = field } })) (refusal.Constraint
+      (record { kind = broken.Limit; cell = cell_of model id column.0 }))))
   by None valid named = tt
   by (Some info) valid named =
       let h = id_column info field valid (sym is ∙ named) in

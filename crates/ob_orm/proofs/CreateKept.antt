@@ -1,5 +1,6 @@
 -- The kept values of a new row, field by field.
-use Rattle.std.proofs.Common.{◌≡◌, ℕ, zero, suc, ◌+◌, ◌<◌, ◌≤◌, Bool, true, false, cond, List, [], ◌∷◌, ◌++◌, length, get_or, drop, filter, map, Option, Some, None, Result, Ok, Err, refl, sym, ap, subst, ◌∙◌, append_assoc, append-nil, arith}
+use Rattle.std.proofs.Common.{◌≡◌, ℕ, zero, suc, ◌+◌, ◌<◌, ◌≤◌, Bool, true, false, cond, List, [], ◌∷◌, ◌++◌, length, get_or, drop, filter, map, Option, Some, None, Result, Ok, Err, refl, sym, ap}
+use Rattle.std.proofs.Common.{subst, ◌∙◌, append_assoc, append-nil, arith}
 use Rattle.std.specs.Prelude.{All, IfSome, MatchResult, OnOk, option_and_then, option_map, slice_get, is_some}
 use Rattle.std.specs.List.{enumerate_from}
 use Rattle.std.specs.Result.{result_unwrap_or}
@@ -23,7 +24,7 @@ use Rattle.ob_schema.specs.declared.info.FieldInfo.{FieldInfo}
 use Rattle.ob_schema.specs.declared.info.ModelInfo.{ModelInfo}
 use Rattle.ob_orm.specs.Create.{cell_of, broken_kind}
 use Rattle.ob_orm.specs.CreateSteps.{AreKept, BreaksCell, BreaksRow, GivesField, KeepsField, evaluations_of, gathered}
-use Rattle.ob_orm.specs.Evaluations.{HasTicked, computed_count, is_computed}
+use Rattle.ob_orm.specs.Evaluations.{HasTicked, computed_count, has_formula}
 use Rattle.ob_orm.specs.Kept.{kept_values}
 use Rattle.ob_orm.specs.Scratch.{val, val_or_unset}
 use Rattle.ob_orm.specs.Sound.{HasValue}
@@ -43,7 +44,7 @@ values_of id row cs = map (λ column. val_or_unset column id row) (filter (λ co
 
 -- how many of these fields are computed
 abbrev pub computed_in : List FieldInfo → ℕ
-computed_in fields = length (filter (λ field. is_computed field.origin) fields)
+computed_in fields = length (filter (λ field. has_formula field.origin) fields)
 
 -- the fields from a place on, and those after it
 pub left_more : (info : ModelInfo) (i : ℕ) (f : FieldInfo) → slice_get info.fields i ≡ Some f → drop i info.fields ≡ f ∷ drop (i + 1) info.fields
@@ -142,8 +143,8 @@ row_broken model info id row i f cell refusal.NoMemory at is broken = tt
 
 -- the field at a place, and those after it
 pub computed_more : (info : ModelInfo) (i : ℕ) (f : FieldInfo) → slice_get info.fields i ≡ Some f → computed_in (drop i info.fields) ≡ evaluations_of f + computed_in (drop (i + 1) info.fields)
-computed_more info i f at = ap computed_in (left_more info i f at) ∙ by (is_computed f.origin) where
-  by : (b : Bool) → length (cond b (f ∷ filter (λ field. is_computed field.origin) (drop (i + 1) info.fields)) (filter (λ field. is_computed field.origin) (drop (i + 1) info.fields))) ≡ cond b 1 0 + computed_in (drop (i + 1) info.fields)
+computed_more info i f at = ap computed_in (left_more info i f at) ∙ by (has_formula f.origin) where
+  by : (b : Bool) → length (cond b (f ∷ filter (λ field. has_formula field.origin) (drop (i + 1) info.fields)) (filter (λ field. has_formula field.origin) (drop (i + 1) info.fields))) ≡ cond b 1 0 + computed_in (drop (i + 1) info.fields)
   by true = omega arith
   by false = omega arith
 
@@ -199,7 +200,8 @@ abbrev pub cell_at : ModelNo → ℕ → ℕ → Cell
 cell_at model id i = record { model = model; id = record { 0 = id }; field = record { 0 = i + 1 } }
 
 -- what a step gave of it
-pub step_gives : (models : List ModelInfo) (model : ModelNo) (fields : List FieldInfo) (i id : ℕ) (values : List Value) (r : Result (Option Value) Refusal) (there : StepIn models model fields i) → GivesAt models (cell_at model id i) values r
+pub step_gives : (models : List ModelInfo) (model : ModelNo) (fields : List FieldInfo) (i id : ℕ) (values : List Value) (r : Result (Option Value) Refusal) (there : StepIn models model fields i)
+    → GivesAt models (cell_at model id i) values r
     → GivesField (suc i, there.f) (cell_at model id i) (gathered there.info values) r
 step_gives models model fields i id values r there given =
     let cell = cell_at model id i in
@@ -227,7 +229,8 @@ step_kept models model fields i id values kept now v same lt given pushed far =
     let o = model_at models model in
     tell o there.info (λ info. KeptSoFar info id (gathered info values) (i + 1) now) there.model_is
     (subst (KeptSoFar there.info id (gathered there.info values) (i + 1)) (sym pushed)
-    (kept_more there.info id (gathered there.info values) i there.f kept v there.field_is (step_gives models model fields i id values (Ok (Some v)) there given) (told o there.info (λ info. KeptSoFar info id (gathered info values) i kept) there.model_is far)))
+    (kept_more there.info id (gathered there.info values) i there.f kept v there.field_is (step_gives models model fields i id values (Ok (Some v)) there given) (told o there.info
+    (λ info. KeptSoFar info id (gathered info values) i kept) there.model_is far)))
 
 -- a step that it keeps nothing of
 pub step_passed : (models : List ModelInfo) (model : ModelNo) (fields : List FieldInfo) (i id : ℕ) (values kept now : List Value) → option_map (λ info. info.fields) (model_at models model) ≡ Some fields → i < length fields
@@ -238,7 +241,8 @@ step_passed models model fields i id values kept now same lt given stays far =
     let o = model_at models model in
     tell o there.info (λ info. KeptSoFar info id (gathered info values) (i + 1) now) there.model_is
     (subst (KeptSoFar there.info id (gathered there.info values) (i + 1)) (sym stays)
-    (kept_passed there.info id (gathered there.info values) i there.f kept there.field_is (step_gives models model fields i id values (Ok None) there given) (told o there.info (λ info. KeptSoFar info id (gathered info values) i kept) there.model_is far)))
+    (kept_passed there.info id (gathered there.info values) i there.f kept there.field_is (step_gives models model fields i id values (Ok None) there given) (told o there.info
+    (λ info. KeptSoFar info id (gathered info values) i kept) there.model_is far)))
 
 -- so many evaluations so far, which with those that are left are all
 pub record TickedIn {L : Type 0} (info : ModelInfo) (noted : L → L) (i : ℕ) (now start : Tally L) : Type 0 where
@@ -251,7 +255,8 @@ abbrev pub Ticked : {L : Type 0} → List ModelInfo → ModelNo → (L → L) �
 Ticked models model noted i now start = IfSome (model_at models model) (λ info. TickedIn info noted i now start)
 
 -- one more step
-pub step_ticked : {L : Type 0} (models : List ModelInfo) (model : ModelNo) (fields : List FieldInfo) (i : ℕ) (noted : L → L) (start now next : Tally L) → option_map (λ info. info.fields) (model_at models model) ≡ Some fields → i < length fields
+pub step_ticked : {L : Type 0} (models : List ModelInfo) (model : ModelNo) (fields : List FieldInfo) (i : ℕ) (noted : L → L) (start now next : Tally L)
+    → option_map (λ info. info.fields) (model_at models model) ≡ Some fields → i < length fields
     → IfSome (field_at models model (record { 0 = i + 1 })) (λ field. next ≡ ticked_times (evaluations_of field) noted now) → Ticked models model noted i now start → Ticked models model noted (i + 1) next start
 step_ticked {L = L} models model fields i noted start now next same lt ticks far =
     let there = step_in models model fields i same lt in

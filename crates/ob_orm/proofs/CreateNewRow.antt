@@ -1,5 +1,6 @@
 -- The plain values of a new row, field by field.
-use Rattle.std.proofs.Common.{◌≡◌, ℕ, ℤ, zero, suc, ◌+◌, ◌-◌, ◌<◌, ◌||◌, Bool, true, false, cond, List, [], ◌∷◌, ◌++◌, length, get_or, map, filter, codes, Option, Some, None, Result, Ok, Err, option_map, refl, sym, ap, subst, ◌∙◌, arith, inl, inr}
+use Rattle.std.proofs.Common.{◌≡◌, ℕ, ℤ, zero, suc, ◌+◌, ◌-◌, ◌<◌, ◌||◌, Bool, true, false, cond, List, [], ◌∷◌, ◌++◌, length, get_or, map, filter, codes, Option, Some, None, Result, Ok, Err}
+use Rattle.std.proofs.Common.{option_map, refl, sym, ap, subst, ◌∙◌, arith, inl, inr}
 use Rattle.std.specs.Prelude.{Contains, IfSome, slice_get}
 use Rattle.std.specs.Cmp.Lexicographic.{slice_cmp}
 use Rattle.std.specs.List.{enumerate_from}
@@ -119,10 +120,13 @@ pub row_taken : (now : ℤ) (place : List PathStep) (ms : Members) (n : ℕ) (fi
 row_taken now place ms n [] values all = (refl, tt)
 row_taken now place ms n (f ∷ fields) values all = by (is_plain_kept f) refl (row_taken now place ms (n + 1) fields values (rest_taken now place ms n f fields values all)) where
   by : (b : Bool) → is_plain_kept f ≡ b → (new_row now place ms (plain_from (n + 1) fields) ≡ Ok (taken (plain_from (n + 1) fields) values)) × HasForms (plain_from (n + 1) fields) (taken (plain_from (n + 1) fields) values)
-      → (new_row now place ms (cond b ((n, f) ∷ plain_from (n + 1) fields) (plain_from (n + 1) fields)) ≡ Ok (taken (cond b ((n, f) ∷ plain_from (n + 1) fields) (plain_from (n + 1) fields)) values)) × HasForms (cond b ((n, f) ∷ plain_from (n + 1) fields) (plain_from (n + 1) fields)) (taken (cond b ((n, f) ∷ plain_from (n + 1) fields) (plain_from (n + 1) fields)) values)
+      → (new_row now place ms (cond b ((n, f) ∷ plain_from (n + 1) fields) (plain_from (n + 1) fields)) ≡ Ok (taken (cond b ((n, f) ∷ plain_from (n + 1) fields) (plain_from
+      (n + 1) fields)) values)) × HasForms (cond b ((n, f) ∷ plain_from (n + 1) fields) (plain_from (n + 1) fields)) (taken (cond b ((n, f) ∷ plain_from (n + 1) fields) (plain_from
+      (n + 1) fields)) values)
   by false is more = more
   by true is more =
-      let own : (new_value now place ms f ≡ Ok (held_at values n)) × Holds f (held_at values n) = subst (λ (m : ℕ). (new_value now place ms f ≡ Ok (held_at values m)) × Holds f (held_at values m)) (let e : n + 0 ≡ n = omega arith in e) (all 0 f refl is) in (
+      let own : (new_value now place ms f ≡ Ok (held_at values n)) × Holds f (held_at values n) = subst (λ (m : ℕ). (new_value now place ms f ≡ Ok (held_at values m)) × Holds f (held_at values m))
+      (let e : n + 0 ≡ n = omega arith in e) (all 0 f refl is) in (
         ap (λ (r : Result Value (List PathStep)). r >>= λ v. new_row now place ms (plain_from (n + 1) fields) >>= λ row. Ok ((n, v) ∷ row)) own.0
             ∙ ap (λ (r : Result Row (List PathStep)). r >>= λ row. Ok ((n, held_at values n) ∷ row)) more.0,
         (refl, own.1, more.1),
@@ -133,7 +137,8 @@ abbrev pub TakenBefore : ℤ → List PathStep → Members → ℕ → List Fiel
 TakenBefore now place ms i fields = (k : ℕ) (f : FieldInfo) → k < i → slice_get fields k ≡ Some f → is_plain_kept f ≡ true → (v : Value) × (new_value now place ms f ≡ Ok v)
 
 -- the first that is wrong is told
-pub row_refused : (now : ℤ) (place : List PathStep) (ms : Members) (n i : ℕ) (fields : List FieldInfo) (f : FieldInfo) (e : List PathStep) → TakenBefore now place ms i fields → slice_get fields i ≡ Some f → is_plain_kept f ≡ true → new_value now place ms f ≡ Err e
+pub row_refused : (now : ℤ) (place : List PathStep) (ms : Members) (n i : ℕ) (fields : List FieldInfo) (f : FieldInfo) (e : List PathStep) → TakenBefore now place ms i fields
+    → slice_get fields i ≡ Some f → is_plain_kept f ≡ true → new_value now place ms f ≡ Err e
     → new_row now place ms (plain_from n fields) ≡ Err e
 row_refused now place ms n i [] f e before at is wrong = absurd cc
 row_refused now place ms n zero (g ∷ fields) f e before at is wrong =
@@ -160,7 +165,8 @@ abbrev pub TakesAt : List ModelInfo → ModelNo → ℕ → ℤ → List PathSte
 TakesAt models model i now place ms r = IfSome (field_at models model (record { 0 = i + 1 })) (λ field. TakesValue field (new_value now place ms field) r)
 
 -- one more
-pub taken_more : (models : List ModelInfo) (model : ModelNo) (fields : List FieldInfo) (i : ℕ) (now : ℤ) (place : List PathStep) (ms : Members) (values more : List Value) (v : Value) → option_map (λ info. info.fields) (model_at models model) ≡ Some fields → i < length fields
+pub taken_more : (models : List ModelInfo) (model : ModelNo) (fields : List FieldInfo) (i : ℕ) (now : ℤ) (place : List PathStep) (ms : Members) (values more : List Value) (v : Value)
+    → option_map (λ info. info.fields) (model_at models model) ≡ Some fields → i < length fields
     → length values ≡ i → more ≡ values ++ v ∷ [] → TakesAt models model i now place ms (Ok v) → IfSome (model_at models model) (λ info. TakenSoFar now place ms info i values)
     → IfSome (model_at models model) (λ info. TakenSoFar now place ms info (i + 1) more)
 taken_more models model fields i now place ms values more v same lt count pushed takes far =
@@ -194,11 +200,13 @@ all_from now place ms info values far k f at is =
     (far k f (slice_get_within info.fields k f at) at is)
 
 -- the row of all values
-pub taken_all : (models : List ModelInfo) (model : ModelNo) (fields : List FieldInfo) (i : ℕ) (now : ℤ) (place : List PathStep) (ms : Members) (values : List Value) → option_map (λ info. info.fields) (model_at models model) ≡ Some fields → length fields ≡ i
+pub taken_all : (models : List ModelInfo) (model : ModelNo) (fields : List FieldInfo) (i : ℕ) (now : ℤ) (place : List PathStep) (ms : Members) (values : List Value)
+    → option_map (λ info. info.fields) (model_at models model) ≡ Some fields → length fields ≡ i
     → length values ≡ i → IfSome (model_at models model) (λ info. TakenSoFar now place ms info i values)
     → IfSome (model_at models model) (λ info. (new_row now place ms (plain_columns info) ≡ Ok (gathered info values)) × ArePlain info values)
 taken_all models model fields i now place ms values same end count far = by (model_at models model) same far where
-  by : (o : Option ModelInfo) → option_map (λ info. info.fields) o ≡ Some fields → IfSome o (λ info. TakenSoFar now place ms info i values) → IfSome o (λ info. (new_row now place ms (plain_columns info) ≡ Ok (gathered info values)) × ArePlain info values)
+  by : (o : Option ModelInfo) → option_map (λ info. info.fields) o ≡ Some fields → IfSome o (λ info. TakenSoFar now place ms info i values)
+      → IfSome o (λ info. (new_row now place ms (plain_columns info) ≡ Ok (gathered info values)) × ArePlain info values)
   by None same far = tt
   by (Some info) same far =
       let own : length info.fields ≡ i = (let e : info.fields ≡ fields = cc in ap length e ∙ end) in
@@ -216,7 +224,8 @@ if_right None P Q h = tt
 if_right (Some info) P Q h = h.1
 
 -- a value that is wrong refuses the row
-pub taken_refused : (models : List ModelInfo) (model : ModelNo) (fields : List FieldInfo) (i : ℕ) (now : ℤ) (place : List PathStep) (ms : Members) (values : List Value) (why : Refusal) → option_map (λ info. info.fields) (model_at models model) ≡ Some fields → i < length fields
+pub taken_refused : (models : List ModelInfo) (model : ModelNo) (fields : List FieldInfo) (i : ℕ) (now : ℤ) (place : List PathStep) (ms : Members) (values : List Value) (why : Refusal)
+    → option_map (λ info. info.fields) (model_at models model) ≡ Some fields → i < length fields
     → TakesAt models model i now place ms (Err why) → IfSome (model_at models model) (λ info. TakenSoFar now place ms info i values)
     → (Of : Type 0) (of : ModelInfo → Of → Row) → IfSome (model_at models model) (λ info. IsResultOf (of info) (Err why) (new_row now place ms (plain_columns info)))
 taken_refused models model fields i now place ms values why same lt takes far Of of =
@@ -227,7 +236,8 @@ taken_refused models model fields i now place ms values why same lt takes far Of
     let before = told o there.info (λ info. TakenSoFar now place ms info i values) there.model_is far in
     tell o there.info (λ info. IsResultOf (of info) (Err why) (new_row now place ms (plain_columns info))) there.model_is
     (by there why own (λ k f below at is. (get_or values k value.Nil, (before k f below at is).0))) where
-      by : (there : StepIn models model fields i) (why : Refusal) → (is_plain_kept there.f ≡ true) × IsResultOf (λ (v : Value). v) (Err why) (new_value now place ms there.f) → TakenBefore now place ms i there.info.fields → IsResultOf (of there.info) (Err why) (new_row now place ms (plain_columns there.info))
+      by : (there : StepIn models model fields i) (why : Refusal) → (is_plain_kept there.f ≡ true) × IsResultOf (λ (v : Value). v) (Err why) (new_value now place ms there.f)
+          → TakenBefore now place ms i there.info.fields → IsResultOf (of there.info) (Err why) (new_row now place ms (plain_columns there.info))
       by there (refusal.Request e) (plain, wrong) before = row_refused now place ms 1 i there.info.fields there.f e before there.field_is plain wrong
       by there (refusal.Right m op) (plain, wrong) before = wrong
       by there (refusal.FieldRight m field) (plain, wrong) before = wrong
@@ -238,7 +248,8 @@ taken_refused models model fields i now place ms values why same lt takes far Of
       by there refusal.NoMemory (plain, wrong) before = tt
 
 -- a create may give a value to each field of a served model
-pub givable_at : (models : List ModelInfo) (model : ModelNo) (fields : List FieldInfo) (i : ℕ) → option_map (λ info. info.fields) (model_at models model) ≡ Some fields → i < length fields → IfSome (model_at models model) IsModel → IfSome (model_at models model) IsServed
+pub givable_at : (models : List ModelInfo) (model : ModelNo) (fields : List FieldInfo) (i : ℕ) → option_map (λ info. info.fields) (model_at models model) ≡ Some fields → i < length fields
+    → IfSome (model_at models model) IsModel → IfSome (model_at models model) IsServed
     → IfSome (field_at models model (record { 0 = i + 1 })) IsGivable
 givable_at models model fields i same lt valid served =
     let there = step_in models model fields i same lt in

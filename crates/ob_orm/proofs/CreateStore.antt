@@ -120,7 +120,9 @@ pub no_links : (info : ModelInfo) (values : List Value) → IsServed info → Ar
 no_links info values served known =
     flat_map_none (λ column. map (λ id. record { field = record { 0 = column.0 }; target = id }) (targets_of (plain (gathered info values) column.0))) (plain_columns info)
     (λ c at.
-    let flat : is_relation c.1.field_type ≡ false = All-contains (λ (column : Column). is_relation column.1.field_type ≡ false) (plain_columns info) c (All-filter (λ (column : Column). is_plain_kept column.1) (λ (column : Column). is_relation column.1.field_type ≡ false) (columns info) (all_columns (λ f. is_relation f.field_type ≡ false) info served.no_relation)) at in
+    let flat : is_relation c.1.field_type ≡ false = All-contains (λ (column : Column). is_relation column.1.field_type ≡ false) (plain_columns info) c (All-filter (λ
+    (column : Column). is_plain_kept column.1) (λ (column : Column). is_relation column.1.field_type ≡ false) (columns info) (all_columns
+    (λ f. is_relation f.field_type ≡ false) info served.no_relation)) at in
     ap (map (λ (id : RecId). let link : Link = record { field = record { 0 = c.0 }; target = id } in link))
     (ap targets_of (plain-gathered info values c at) ∙ targets_none c.1.field_type c.1.selection (held_at values c.0) flat (Holds-gathered info values c known at)))
 
@@ -191,7 +193,8 @@ kept_at_is models model info at = ap (λ (o : Option ModelInfo). option_map_or k
 pub made_kept : (models : List ModelInfo) (model : ModelNo) (info : ModelInfo) (store : Store) (tables : Tables) (row : Row) (values : List Value) → model_at models model ≡ Some info → Kept models store tables
     → links_of info row ≡ [] → values ≡ kept_values info (next_id tables model) row → Kept models (all_changed (changes_of models model (next_id tables model) values) store) (made model row tables)
 made_kept models model info store tables row values at kept none are = λ other. by other (model_at models other) refl where
-  there : (other : ModelNo) (found : ModelInfo) → model_at models other ≡ Some found → KeepsModel other found store tables → KeepsModel other found (all_changed (changes_of models model (next_id tables model) values) store) (made model row tables)
+  there : (other : ModelNo) (found : ModelInfo) → model_at models other ≡ Some found → KeepsModel other found store tables
+      → KeepsModel other found (all_changed (changes_of models model (next_id tables model) values) store) (made model row tables)
   there other found is before =
       let next = next_id tables model in
       record {
@@ -216,7 +219,8 @@ made_kept models model info store tables row values at kept none are = λ other.
   by other (Some found) is = there other found is (told (model_at models other) found (λ m. KeepsModel other m store tables) is (kept other))
 
 -- the tables go on to be sound
-pub made_sound : (models : List ModelInfo) (model : ModelNo) (info : ModelInfo) (tables : Tables) (row : Row) → model_at models model ≡ Some info → IsSound models tables → IsSoundRow info (next_id tables model) row → next_id tables model ≤ max_id
+pub made_sound : (models : List ModelInfo) (model : ModelNo) (info : ModelInfo) (tables : Tables) (row : Row) → model_at models model ≡ Some info → IsSound models tables
+    → IsSoundRow info (next_id tables model) row → next_id tables model ≤ max_id
     → IsSound models (made model row tables)
 made_sound models model info tables row at sound here low = λ other. by other (model_at models other) refl where
   own : IsSoundModel model info tables
@@ -254,7 +258,8 @@ made_sound models model info tables row at sound here low = λ other. by other (
             let keys = same_key (key other id) (key model next) h in
             let id_is : id ≡ next = ap (λ (k : RowKey). k.id.0) keys in
             let model_is : other ≡ model = ap (λ (k : RowKey). k.model) keys in
-            let now_is : now ≡ next + 1 = ap (next_id (made model row tables)) model_is ∙ next_put tables.next_ids model model (next + 1) ∙ ap (λ (b : Bool). next_set b (next + 1) (finite.get tables.next_ids model.0)) ((Equal-is (nat_cmp model.0 model.0)).1 (tied_itself nat_cmp_total model.0)) in
+            let now_is : now ≡ next + 1 = ap (next_id (made model row tables)) model_is ∙ next_put tables.next_ids model model (next + 1)
+            ∙ ap (λ (b : Bool). next_set b (next + 1) (finite.get tables.next_ids model.0)) ((Equal-is (nat_cmp model.0 model.0)).1 (tied_itself nat_cmp_total model.0)) in
             let l = own.next_low in (omega arith, omega arith))
             (λ _. some_weaker (row_of tables other id) _ _ (λ h. (h.0, omega (arith, h.1))) (before.ids id)));
         next_low = omega (arith, up.0);
@@ -310,6 +315,7 @@ changes_apart models model id values (Some store) = record {
 }
 
 -- every other model stays as it was
-pub others_stay : (models : List ModelInfo) (model : ModelNo) (id : ℕ) (values : List Value) (changes : List Change) → changes ≡ changes_of models model id values → (before : Option Store) → OthersStay model before (option_map (all_changed changes) before)
+pub others_stay : (models : List ModelInfo) (model : ModelNo) (id : ℕ) (values : List Value) (changes : List Change) → changes ≡ changes_of models model id values → (before : Option Store)
+    → OthersStay model before (option_map (all_changed changes) before)
 others_stay models model id values changes is before =
     subst (λ (cs : List Change). OthersStay model before (option_map (all_changed cs) before)) (sym is) (changes_apart models model id values before)

@@ -28,7 +28,8 @@ hold_all f (x ∷ fields) n each =
     one (is_kept x) (All-head (Has f) (n, x) (enumerate_from (n + 1) fields) each) (hold_all f fields (n + 1) (All-tail (Has f) (n, x) (enumerate_from (n + 1) fields) each))
   where
     one : (b : Bool) → Holds x (f (n, x)) → HoldAll (filter is_kept fields) (map f (filter (λ column. is_kept column.1) (enumerate_from (n + 1) fields)))
-        → HoldAll (cond b (x ∷ filter is_kept fields) (filter is_kept fields)) (map f (cond b ((n, x) ∷ filter (λ column. is_kept column.1) (enumerate_from (n + 1) fields)) (filter (λ column. is_kept column.1) (enumerate_from (n + 1) fields))))
+        → HoldAll (cond b (x ∷ filter is_kept fields) (filter is_kept fields)) (map f (cond b ((n, x) ∷ filter (λ column. is_kept column.1) (enumerate_from (n + 1) fields)) (filter
+        (λ column. is_kept column.1) (enumerate_from (n + 1) fields))))
     one true here more = (here, more)
     one false here more = more
 

@@ -23,7 +23,8 @@ use Rattle.ob_orm.specs.Answer.{Called, ReadAnswers, ReadCause, Refuses, called_
 use Rattle.ob_call.specs.Arguments as arguments
 use Rattle.ob_base.specs.Chain.{◌>>=◌}
 use Rattle.ob_call.specs.Arguments.{AreFit, arguments_of}
-use Rattle.ob_call.specs.Forms.{fields_at, id_from, listed}
+use Rattle.ob_call.specs.Forms.{fields_at, id_from}
+use Rattle.ob_codec.specs.Commands.{listed}
 use Rattle.ob_call.specs.ArgumentsSteps.{all_given_of, given_of}
 use Rattle.ob_call.specs.Results.{IsResultOf}
 use Rattle.ob_orm.specs.Read.{Asked, IsLeastMissing, ReadRefuses, TellsRows, asked_by, asked_columns, asked_of, columns_in, columns_named, ids_in, once, read_expects}
@@ -207,7 +208,8 @@ misses c tables ids numbers a refusal.Keeper h = absurd h
 misses c tables ids numbers a refusal.NoMemory h = absurd h
 
 -- the rows' answer is the read's
-answered : (c : Called) (tables : Tables) (rose : Type 0) (ids : List ℕ) (numbers : List FieldNo) (r : Result Data Refusal) → Asks c.info c.args c.kw ids numbers → AnswersRows c.model tables (columns_at c.info numbers) ids rose r → ReadAnswers tables c rose r
+answered : (c : Called) (tables : Tables) (rose : Type 0) (ids : List ℕ) (numbers : List FieldNo) (r : Result Data Refusal) → Asks c.info c.args c.kw ids numbers
+    → AnswersRows c.model tables (columns_at c.info numbers) ids rose r → ReadAnswers tables c rose r
 answered c tables rose ids numbers (Ok json) a h = (
   a.asked,
   h.0,
@@ -262,7 +264,8 @@ told_causes found call rose ids numbers (Err why) a missing =
 abbrev IsWrongAt : Call → List PathStep → ModelInfo → Type 0
 IsWrongAt call place info = asked_of info (view call.args.now) (view call.kw.now) ≡ Err place
 
-wrong_at : (models : List ModelInfo) (call : Call) (place : List PathStep) → arguments_of (read_expects (fields_at models call.model)) (view call.args.now) (view call.kw.now) ≡ Err place → IfSome (model_at models call.model) (IsWrongAt call place)
+wrong_at : (models : List ModelInfo) (call : Call) (place : List PathStep) → arguments_of (read_expects (fields_at models call.model)) (view call.args.now) (view call.kw.now) ≡ Err place
+    → IfSome (model_at models call.model) (IsWrongAt call place)
 wrong_at models call place e =
     known_map (model_at models call.model) (λ info. arguments_of (read_expects info.fields) (view call.args.now) (view call.kw.now) ≡ Err place) (IsWrongAt call place)
     (λ info is. ap (λ (r : Result (List (Option arguments.Given)) (List PathStep)). r >>= λ gs. Ok (asked_by info gs)) is)

@@ -10,7 +10,8 @@ use Rattle.ob_base.specs.declared.id.FieldNo.{FieldNo}
 use Rattle.ob_base.specs.declared.memory.NoMemory.{NoMemory}
 use Rattle.ob_schema.specs.Fields.{Column}
 use Rattle.ob_schema.specs.declared.info.ModelInfo.{ModelInfo}
-use Rattle.ob_call.specs.Forms.{id_from, listed}
+use Rattle.ob_call.specs.Forms.{id_from}
+use Rattle.ob_codec.specs.Commands.{listed}
 use Rattle.ob_call.specs.ArgumentsSteps.{given_of}
 use Rattle.ob_call.specs.declared.arguments.Given.{Given}
 use Rattle.ob_orm.proofs.ReadNumbers.{numbers_in}

@@ -53,7 +53,8 @@ spread_have (field ∷ fields) id kept served held =
     let more = All-tail (λ (f : FieldInfo). (is_id f.origin || is_kept f) ≡ true) field fields served in
     one (is_id field.origin) (is_kept field) refl here (id_apart field.origin field refl) (λ kept held. spread_have fields id kept more held) kept held
   where
-    one : (a b : Bool) → is_id field.origin ≡ a → (a || b) ≡ true → (a ≡ true → b ≡ false) → ((kept : List Value) → HoldAll (filter is_kept fields) kept → HaveAll fields (spread fields id kept)) → (kept : List Value) → HoldAll (cond b (field ∷ filter is_kept fields) (filter is_kept fields)) kept
+    one : (a b : Bool) → is_id field.origin ≡ a → (a || b) ≡ true → (a ≡ true → b ≡ false) → ((kept : List Value) → HoldAll (filter is_kept fields) kept → HaveAll fields (spread fields id kept))
+        → (kept : List Value) → HoldAll (cond b (field ∷ filter is_kept fields) (filter is_kept fields)) kept
         → HaveAll (field ∷ fields) (cond a (value.Int (pos id) ∷ spread fields id kept) (get_or kept 0 value.Nil ∷ spread fields id (drop 1 kept)))
     one true true e here apart more kept held = absurd (let h = apart refl in cc)
     one true false e here apart more kept held = (λ other. absurd (let h : true ≡ false = sym e ∙ other in cc), more kept held)
@@ -83,7 +84,8 @@ spread_same (field ∷ fields) n id row served =
   where
     one : (a b : Bool) → (a || b) ≡ true → (a ≡ true → b ≡ false) → (a ≡ true → value.Int (pos id) ≡ val_or_unset (n, field) id row)
         → spread fields id (kept_from id row (enumerate_from (n + 1) fields)) ≡ map (λ column. val_or_unset column id row) (enumerate_from (n + 1) fields)
-        → let kept = map (λ (column : Column). val_or_unset column id row) (cond b ((n, field) ∷ filter (λ (column : Column). is_kept column.1) (enumerate_from (n + 1) fields)) (filter (λ (column : Column). is_kept column.1) (enumerate_from (n + 1) fields))) in
+        → let kept = map (λ (column : Column). val_or_unset column id row) (cond b ((n, field) ∷ filter (λ (column : Column). is_kept column.1) (enumerate_from (n + 1) fields)) (filter (λ
+        (column : Column). is_kept column.1) (enumerate_from (n + 1) fields))) in
         cond a (value.Int (pos id) ∷ spread fields id kept) (get_or kept 0 value.Nil ∷ spread fields id (drop 1 kept)) ≡ val_or_unset (n, field) id row ∷ map (λ column. val_or_unset column id row) (enumerate_from (n + 1) fields)
     one true true here apart own more = absurd (let h = apart refl in cc)
     one true false here apart own more = ap (λ (v : Value). v ∷ spread fields id (kept_from id row (enumerate_from (n + 1) fields))) (own refl) ∙ ap (λ (vs : List Value). val_or_unset (n, field) id row ∷ vs) more
@@ -97,7 +99,8 @@ abbrev pub ReadsBody : List FieldInfo → List ℕ → Result (List Value) RowFa
 ReadsBody fields body read = (values : List Value) → HoldAll fields values → body ≡ row_form fields values → (read ≡ Ok values) ⊎ (read ≡ Err fault.NoMemory)
 
 -- what reads the body, by the fields of the model that is there
-reads_there : (models : List ModelInfo) (model : ModelNo) (info : ModelInfo) (body : List ℕ) (read : Result (List Value) RowFault) → model_at models model ≡ Some info → ReadsBody (kept_at models model) body read → ReadsBody (kept_fields info) body read
+reads_there : (models : List ModelInfo) (model : ModelNo) (info : ModelInfo) (body : List ℕ) (read : Result (List Value) RowFault) → model_at models model ≡ Some info
+    → ReadsBody (kept_at models model) body read → ReadsBody (kept_fields info) body read
 reads_there models model info body read there reads = subst (λ (o : Option ModelInfo). ReadsBody (option_map_or kept_fields o []) body read) there reads
 
 -- what was read of a row's body are its values
@@ -119,7 +122,8 @@ told_values models model info id body kept values there served reads is =
     rw there (λ row sound form. read_values info id row body kept values own sound form (reads_there models model info body (Ok kept) there reads) is)
 
 -- and the body of a row can be read
-pub told_bad : (models : List ModelInfo) (model : ModelNo) (info : ModelInfo) (id : ℕ) (body : List ℕ) (read : Result (List Value) RowFault) → model_at models model ≡ Some info → read ≡ Err fault.Bad → ReadsBody (kept_at models model) body read
+pub told_bad : (models : List ModelInfo) (model : ModelNo) (info : ModelInfo) (id : ℕ) (body : List ℕ) (read : Result (List Value) RowFault) → model_at models model ≡ Some info
+    → read ≡ Err fault.Bad → ReadsBody (kept_at models model) body read
     → IfSome (model_at models model) (λ i. (row : Row) → IsSoundRow i id row → body ≡ row_form (kept_fields i) (kept_values i id row) → AreValuesOf i id None (Some row))
 told_bad models model info id body read there bad reads =
     rw there (λ row sound form. elim (reads_there models model info body read there reads (kept_values info id row) (kept_hold info id row sound) form) [ inl e ↦ absurd cc | inr e ↦ absurd cc ])

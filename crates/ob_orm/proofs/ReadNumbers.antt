@@ -1,5 +1,6 @@
 -- The numbers of fields that a list names.
-use Rattle.std.proofs.Common.{◌≡◌, ◌≢◌, ℕ, zero, suc, add-zero, ◌+◌, ◌-◌, ◌<◌, ◌≤◌, ◌||◌, ◌==◌, Bool, true, false, cond, List, [], ◌∷◌, ◌++◌, map, length, get_or, set, take, drop, Option, Some, None, option_map, option_and_then, Result, Ok, Err, Vec, Global, refl, sym, ap, ◌∙◌, arith}
+use Rattle.std.proofs.Common.{◌≡◌, ◌≢◌, ℕ, zero, suc, add-zero, ◌+◌, ◌-◌, ◌<◌, ◌≤◌, ◌||◌, ◌==◌, Bool, true, false, cond, List, [], ◌∷◌, ◌++◌, map, length, get_or, set, take, drop, Option, Some, None}
+use Rattle.std.proofs.Common.{option_map, option_and_then, Result, Ok, Err, Vec, Global, refl, sym, ap, ◌∙◌, arith}
 use Rattle.std.specs.Prelude.{IsSome, IfOk, IfSome, filter, slice_get}
 use Rattle.std.specs.List.{enumerate_from}
 use Rattle.std.specs.Option.{option_map_or}
@@ -85,7 +86,8 @@ pub record IsFlaggedTo (found : Option ModelInfo) (items : List Value) (i : ℕ)
   pub named : IfSome found (λ info. flags ≡ flags_of info (take i items))
 
 -- no item names a field
-pub IsFlaggedTo-none : (found : Option ModelInfo) (items : List Value) (fields : List FieldInfo) (flags : List Bool) → option_map (λ info. info.fields) found ≡ Some fields → length fields ≤ 256 → flags ≡ replicate (length fields) false → IsFlaggedTo found items 0 flags
+pub IsFlaggedTo-none : (found : Option ModelInfo) (items : List Value) (fields : List FieldInfo) (flags : List Bool) → option_map (λ info. info.fields) found ≡ Some fields → length fields ≤ 256
+    → flags ≡ replicate (length fields) false → IsFlaggedTo found items 0 flags
 IsFlaggedTo-none None items fields flags same few e = absurd cc
 IsFlaggedTo-none (Some info) items fields flags same few e =
     let own : info.fields ≡ fields = cc in
@@ -172,7 +174,8 @@ flagged_filter test (f ∷ fields) n =
 -- all numbers are those of all fields
 flagged_all : (test : ℕ → Bool) (fields : List FieldInfo) (n : ℕ) → flagged true n (map (λ (c : Column). test c.0) (enumerate_from n fields)) ≡ map (λ (c : Column). c.0) (enumerate_from n fields)
 flagged_all test [] n = refl
-flagged_all test (f ∷ fields) n = ap (λ (b : Bool). cond b (n ∷ flagged true (n + 1) (map (λ (c : Column). test c.0) (enumerate_from (n + 1) fields))) (flagged true (n + 1) (map (λ (c : Column). test c.0) (enumerate_from (n + 1) fields)))) (or_true (test n))
+flagged_all test (f ∷ fields) n = ap (λ (b : Bool). cond b (n ∷ flagged true (n + 1) (map (λ (c : Column). test c.0) (enumerate_from (n + 1) fields))) (flagged true (n + 1) (map (λ
+    (c : Column). test c.0) (enumerate_from (n + 1) fields)))) (or_true (test n))
     ∙ ap (λ (ns : List ℕ). n ∷ ns) (flagged_all test fields (n + 1))
 
 -- whether there is no item

@@ -1,5 +1,6 @@
 -- The object that tells of a row, one field after another.
-use Rattle.std.proofs.Common.{◌≡◌, ℕ, zero, suc, ◌+◌, ◌-◌, ◌<◌, ◌≤◌, ◌||◌, Bool, true, false, cond, List, [], ◌∷◌, map, length, get_or, drop, Option, Some, None, Ordering, Less, Equal, Greater, String, Global, string_cmp, string_bytes, refl, sym, ap, subst, ◌∙◌, arith, add-zero}
+use Rattle.std.proofs.Common.{◌≡◌, ℕ, zero, suc, ◌+◌, ◌-◌, ◌<◌, ◌≤◌, ◌||◌, Bool, true, false, cond, List, [], ◌∷◌, map, length, get_or, drop, Option, Some, None, Ordering, Less, Equal, Greater, String}
+use Rattle.std.proofs.Common.{Global, string_cmp, string_bytes, refl, sym, ap, subst, ◌∙◌, arith, add-zero}
 use Rattle.std.specs.Prelude.{IfSome, pos, negsuc, slice_get}
 use Rattle.std.specs.List.{enumerate_from}
 use Rattle.std.specs.BTreeMap.{insert_entry}
@@ -107,7 +108,8 @@ by_origin origin.Plain field number id row at e = e
 by_origin (origin.Computed formula) field number id row at e = e
 
 -- the value that is told of a field is its value from scratch
-same_value : (info : ModelInfo) (number : FieldNo) (field : FieldInfo) (id : ℕ) (row : Row) (values : List Value) → numbered info.fields number.0 ≡ Some field → values ≡ values_of info id row → value_told field number id values ≡ val_or_unset (number.0, field) id row
+same_value : (info : ModelInfo) (number : FieldNo) (field : FieldInfo) (id : ℕ) (row : Row) (values : List Value) → numbered info.fields number.0 ≡ Some field → values ≡ values_of info id row
+    → value_told field number id values ≡ val_or_unset (number.0, field) id row
 same_value info number field id row values there e =
     by_origin field.origin field number id row (get_or values (number.0 - 1) value.Nil)
     (ap (λ (vs : List Value). get_or vs (number.0 - 1) value.Nil) e ∙ at_number (λ column. val_or_unset column id row) info.fields number.0 field value.Nil there)

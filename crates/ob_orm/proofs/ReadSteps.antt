@@ -65,7 +65,8 @@ module _ (model : ModelNo) (tables : Tables) where
   all_there fields id (other ∷ ids) (d ∷ objects) tell = All-cons (Least id) other ids (has_row tell.0 id other tell.1) (all_there fields id ids objects tell.3)
 
   -- one row more is told
-  one_more : (fields : List Column) (ids : List ℕ) (objects : List Data) (id : ℕ) (row : Row) (d : Data) → TellsRows model tables fields ids objects → row_of tables model id ≡ Some row → TellsRow fields id row d → TellsRows model tables fields (ids ++ id ∷ []) (objects ++ d ∷ [])
+  one_more : (fields : List Column) (ids : List ℕ) (objects : List Data) (id : ℕ) (row : Row) (d : Data) → TellsRows model tables fields ids objects → row_of tables model id ≡ Some row
+      → TellsRow fields id row d → TellsRows model tables fields (ids ++ id ∷ []) (objects ++ d ∷ [])
   one_more fields [] [] id row d tell there told = (row, there, told, tt)
   one_more fields [] (o ∷ objects) id row d tell there told = absurd tell
   one_more fields (other ∷ ids) [] id row d tell there told = absurd tell
@@ -149,7 +150,8 @@ abbrev pub ObjectOf : Option ModelInfo → List FieldNo → ℕ → List Value �
 ObjectOf found numbers id values d = IfSome found (λ info. (row : Row) → values ≡ values_of info id row → TellsRow (columns_at info numbers) id row d)
 
 -- one row more was fetched, of a model that may be there
-row_in : (found : Option ModelInfo) (model : ModelNo) (numbers : List FieldNo) (ids : List ℕ) (objects : List Json) (missing : Option ℕ) (id : ℕ) (values : Vec Value Global) (json : Json) (tables : Tables) → ObjectOf found numbers id values.items (view json)
+row_in : (found : Option ModelInfo) (model : ModelNo) (numbers : List FieldNo) (ids : List ℕ) (objects : List Json) (missing : Option ℕ) (id : ℕ) (values : Vec Value Global) (json : Json)
+    (tables : Tables) → ObjectOf found numbers id values.items (view json)
     → FetchedIn found model numbers ids objects missing tables → ValuesIn found model id (Some values) tables → FetchedIn found model numbers (ids ++ id ∷ []) (objects ++ json ∷ []) missing tables
 row_in None model numbers ids objects missing id values json tables object so_far are = tt
 row_in (Some info) model numbers ids objects missing id values json tables object so_far are =
@@ -234,4 +236,5 @@ pub answers_rows : (models : List ModelInfo) (model : ModelNo) (numbers : List F
 answers_rows models model numbers kept rose ids objects json is told =
     told_map models kept (FetchedIn (model_at models model) model numbers ids objects None)
     (λ tables. IfSome (model_at models model) (λ info. AnswersRows model tables (columns_at info numbers) ids rose (Ok json)))
-    (λ tables. known_map (model_at models model) (λ info. TellsRows model tables (columns_at info numbers) ids (map view objects)) (λ info. AnswersRows model tables (columns_at info numbers) ids rose (Ok json)) (λ info rows. (map view objects, rows, is))) told
+    (λ tables. known_map (model_at models model) (λ info. TellsRows model tables (columns_at info numbers) ids (map view objects)) (λ info. AnswersRows model tables
+    (columns_at info numbers) ids rose (Ok json)) (λ info rows. (map view objects, rows, is))) told

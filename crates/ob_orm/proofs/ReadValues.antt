@@ -24,7 +24,8 @@ pub record IsSpreadTo (fields : List FieldInfo) (id : ℕ) (kept : List Value) (
   pub rest : values ++ spread (drop i fields) id left ≡ spread fields id kept
 
 -- the value at a field's number
-at_place : (fields : List FieldInfo) (values : List Value) (k : ℕ) (field : FieldInfo) (d : Value) → slice_get fields k ≡ Some field → HaveAll fields values → (k < length values) × (is_id field.origin ≡ false → Holds field (get_or values k d))
+at_place : (fields : List FieldInfo) (values : List Value) (k : ℕ) (field : FieldInfo) (d : Value) → slice_get fields k ≡ Some field → HaveAll fields values
+    → (k < length values) × (is_id field.origin ≡ false → Holds field (get_or values k d))
 at_place [] values k field d there have = absurd cc
 at_place (f ∷ fields) [] k field d there have = absurd have
 at_place (f ∷ fields) (v ∷ values) zero field d there have =
@@ -35,7 +36,8 @@ at_place (f ∷ fields) (v ∷ values) (suc k) field d there have =
     (let lt = more.0 in omega arith, more.1)
 
 -- the value at a field's number, counted from 1
-at_number : (fields : List FieldInfo) (values : List Value) (n : ℕ) (field : FieldInfo) (d : Value) → numbered fields n ≡ Some field → HaveAll fields values → (n - 1 < length values) × (is_id field.origin ≡ false → Holds field (get_or values (n - 1) d))
+at_number : (fields : List FieldInfo) (values : List Value) (n : ℕ) (field : FieldInfo) (d : Value) → numbered fields n ≡ Some field → HaveAll fields values
+    → (n - 1 < length values) × (is_id field.origin ≡ false → Holds field (get_or values (n - 1) d))
 at_number fields values zero field d there have = absurd cc
 at_number fields values (suc k) field d there have =
     let e : k ≡ suc k - 1 = omega arith in
@@ -51,7 +53,8 @@ value_within None number field values there have = absurd cc
 value_within (Some info) number field values there have = (at_number info.fields values number.0 field value.Nil there have).0
 
 -- the value at a field's number is one that the field may hold
-pub value_holds : (found : Option ModelInfo) (number : FieldNo) (field : FieldInfo) (values : List Value) (v : Value) → field_in found number ≡ Some field → is_id field.origin ≡ false → v ≡ get_or values (number.0 - 1) v → IfSome found (λ info. HaveAll info.fields values)
+pub value_holds : (found : Option ModelInfo) (number : FieldNo) (field : FieldInfo) (values : List Value) (v : Value) → field_in found number ≡ Some field → is_id field.origin ≡ false
+    → v ≡ get_or values (number.0 - 1) v → IfSome found (λ info. HaveAll info.fields values)
     → IfSome (field_in found number) (λ info. Holds info v)
 value_holds None number field values v there own is have = absurd cc
 value_holds (Some info) number field values v there own is have =

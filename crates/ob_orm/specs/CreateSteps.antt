@@ -24,7 +24,7 @@ use Rattle.ob_schema.specs.declared.field_type.FieldType.TheVariants as type
 use Rattle.ob_schema.specs.declared.info.FieldInfo.{FieldInfo}
 use Rattle.ob_schema.specs.declared.info.ModelInfo.{ModelInfo}
 use Rattle.ob_orm.specs.Create.{HasFault, cell_of, is_stamp, broken_kind}
-use Rattle.ob_orm.specs.Evaluations.{is_computed}
+use Rattle.ob_orm.specs.Evaluations.{has_formula}
 use Rattle.ob_orm.specs.Kept.{kept_values}
 use Rattle.ob_orm.specs.Scratch.{val}
 use Rattle.ob_orm.specs.Sound.{HasForms, HasValue}
@@ -93,7 +93,7 @@ GivesField column cell row (Err why) = BreaksCell cell (val column cell.id.0 row
 
 -- how often a field is evaluated
 abbrev pub evaluations_of : FieldInfo → ℕ
-evaluations_of field = if is_computed field.origin then 1 else 0
+evaluations_of field = if has_formula field.origin then 1 else 0
 
 -- the values that a row keeps, each from scratch and of its form
 pub record AreKept (info : ModelInfo) (id : ℕ) (row : Row) (values : List Value) : Type 0 where

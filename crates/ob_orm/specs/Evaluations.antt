@@ -6,13 +6,13 @@ use Rattle.ob_schema.specs.declared.info.Origin.{Origin}
 use Rattle.ob_schema.specs.declared.info.Origin.TheVariants as origin
 
 -- a formula gives the values
-abbrev pub is_computed : Origin → Bool
-is_computed (origin.Computed formula) = true
-is_computed _ = false
+abbrev pub has_formula : Origin → Bool
+has_formula (origin.Computed formula) = true
+has_formula _ = false
 
 -- how many fields of a model are computed
 abbrev pub computed_count : ModelInfo → ℕ
-computed_count info = length (filter (λ field. is_computed field.origin) info.fields)
+computed_count info = length (filter (λ field. has_formula field.origin) info.fields)
 
 -- the tally after some ticks, no more than so many
 abbrev pub HasTicked : {L : Type 0} → ℕ → (L → L) → Tally L → Tally L → Type 0

@@ -14,13 +14,19 @@ use Rattle.ob_schema.specs.declared.info.ModelInfo.{ModelInfo}
 use Rattle.serde_json.specs.Data.{unsigned, Data, number, array, object, Members, no_members, put}
 use Rattle.serde_json.specs.View.{items_of}
 use Rattle.ob_call.specs.Arguments.{Expected, Given, arguments_of}
-use Rattle.ob_call.specs.Forms.{id_from, ids_fault, listed, names_fault, number_from}
+use Rattle.ob_call.specs.Forms.{id_from, ids_fault, names_fault, number_from}
+use Rattle.ob_codec.specs.Commands.{listed}
 use Rattle.ob_orm.specs.Tables.{Row, Tables, row_of}
 use Rattle.ob_orm.specs.Scratch.{val_or_unset}
 
 -- what a read is called with: ids, fields, and a way of loading that is not read
 abbrev pub read_expects : List FieldInfo → List Expected
-read_expects fields = record { name = codes "ids"; required = true; fault = ids_fault } ∷ record { name = codes "fields"; required = false; fault = names_fault fields } ∷ record { name = codes "load"; required = false; fault = λ _. None } ∷ []
+read_expects fields = record { name = codes "ids"; required = true; fault = ids_fault } ∷ record { name = codes "fields"; required = false; fault = names_fault fields } ∷ record {
+  name = codes
+      "load";
+  required = false;
+  fault = λ _. None;
+} ∷ []
 
 -- the ids of an argument of that form
 abbrev pub ids_in : Data → List ℕ

@@ -63,7 +63,8 @@ unlettered x none same = let P : ℕ → Type 0 = λ n. letter n ≡ 0 in let h 
 byte_at : (short low : Bool) (l x h k : ℕ) → (l ≡ 10 → ⊥) → (short ≡ false → x ≡ 10 → ⊥)
     → IsOneLine (cond short (92 ∷ l ∷ []) (cond low (92 ∷ 117 ∷ 48 ∷ 48 ∷ digit_char h ∷ digit_char k ∷ []) (x ∷ [])))
 byte_at true low l x h k of_l of_x = (λ same. omega arith, (of_l, tt))
-byte_at false true l x h k of_l of_x = (λ same. omega arith, (λ same. omega arith, (λ same. omega arith, (λ same. omega arith, (above (nat_lt h 10) 48 87 h (omega arith) (omega arith), (above (nat_lt k 10) 48 87 k (omega arith) (omega arith), tt))))))
+byte_at false true l x h k of_l of_x = (λ same. omega arith, (λ same. omega arith, (λ same. omega arith, (λ same. omega arith, (above (nat_lt h 10) 48 87 h (omega arith) (omega arith), (above
+    (nat_lt k 10) 48 87 k (omega arith) (omega arith), tt))))))
 byte_at false false l x h k of_l of_x = (of_x refl, tt)
 
 zero_where_false : (l : ℕ) → nat_lt 0 l ≡ false → l ≡ 0
@@ -105,4 +106,5 @@ mutual
 
   members_line : (later : Bool) (ms : Members) → IsOneLine (members_text later ms)
   members_line later no_members = (λ same. omega arith, tt)
-  members_line later (member k d ms) = IsOneLine-append _ _ (comma_line later) (IsOneLine-append (compact_text (string k)) (58 ∷ (compact_text d ++ members_text true ms)) (text_line k) (λ same. omega arith, IsOneLine-append _ _ (compact_text-IsOneLine d) (members_line true ms)))
+  members_line later (member k d ms) = IsOneLine-append _ _ (comma_line later) (IsOneLine-append (compact_text (string k)) (58 ∷ (compact_text d ++ members_text true ms)) (text_line k)
+      (λ same. omega arith, IsOneLine-append _ _ (compact_text-IsOneLine d) (members_line true ms)))

@@ -23,4 +23,5 @@ step false other key e es rest apart here same = ap (λ r. match_ordering (slice
 pub get_member-remove_entry : (other key : List ℕ) (es : List Entry) → (other ≡ key → ⊥)
     → get_member other (members_view (remove_entry (is_key key) es)) ≡ get_member other (members_view es)
 get_member-remove_entry other key [] apart = refl
-get_member-remove_entry other key (e ∷ es) apart = step (is_key key e.0) other key e es _ apart (λ h. (bytes_eq-Decides key (string_bytes e.0)).0 (sym (is_eq-slice_cmp key (string_bytes e.0)) ∙ h)) (get_member-remove_entry other key es apart)
+get_member-remove_entry other key (e ∷ es) apart = step (is_key key e.0) other key e es _ apart (λ h. (bytes_eq-Decides key (string_bytes e.0)).0 (sym (is_eq-slice_cmp key (string_bytes e.0))
+    ∙ h)) (get_member-remove_entry other key es apart)

@@ -94,6 +94,7 @@ pub no_params : (body : Members) {id version : Data} {call : List ℕ} → id_at
 unfolding envelope_in
 no_params body at_id at_version at_call none = rw (at_id, at_version, at_call, none) refl
 
-pub all_but_asked : (body : Members) {id version : Data} {call : List ℕ} {params : Members} → id_at body ≡ Some id → version_at body ≡ Some version → call_at body ≡ Some call → params_at body ≡ Some params → envelope_in body ≡ asked_in id params
+pub all_but_asked : (body : Members) {id version : Data} {call : List ℕ} {params : Members} → id_at body ≡ Some id → version_at body ≡ Some version → call_at body ≡ Some call
+    → params_at body ≡ Some params → envelope_in body ≡ asked_in id params
 unfolding envelope_in
 all_but_asked body at_id at_version at_call at_params = rw (at_id, at_version, at_call, at_params) refl

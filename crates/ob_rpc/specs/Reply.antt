@@ -14,7 +14,8 @@ pub data Reply : Type 0 where
 
 -- the object that tells of an error
 abbrev pub error_data : (name message : List ℕ) → Data
-error_data name message = object (member (codes "code") (number (unsigned 200)) (member (codes "data") (object (member (codes "message") (string message) (member (codes "name") (string name) no_members))) (member (codes "message") (string (codes "Odoo Server Error")) no_members)))
+error_data name message = object (member (codes "code") (number (unsigned 200)) (member (codes "data") (object (member (codes "message") (string message) (member (codes "name")
+    (string name) no_members))) (member (codes "message") (string (codes "Odoo Server Error")) no_members)))
 
 -- the reply to the request of an id
 abbrev pub reply_data : Data → Reply → Data

@@ -114,7 +114,8 @@ number_of-low def name few =
 -- what a name stands for has a property that moments have, and each kind of a field
 each_found : (P : FieldNo → Kind → Type 0) (c : Bool) (number : FieldNo) (usable : FieldDef → Bool) (kinds : FieldDef → Option Kind) (own : Option FieldDef) → P number kind.Moment
     → ((f : FieldDef) → IfSome (kinds f) (P number))
-    → IfSome (cond c (Some (record { via = None; field = number; kind = kind.Moment; usable = true })) (option_and_then (λ f. option_map (λ k. let found : Found = record { via = None; field = number; kind = k; usable = usable f } in found) (kinds f)) own)) (λ f. P f.field f.kind)
+    → IfSome (cond c (Some (record { via = None; field = number; kind = kind.Moment; usable = true })) (option_and_then (λ f. option_map
+    (λ k. let found : Found = record { via = None; field = number; kind = k; usable = usable f } in found) (kinds f)) own)) (λ f. P f.field f.kind)
 each_found P true number usable kinds own first each = first
 each_found P false number usable kinds None first each = tt
 each_found P false number usable kinds (Some f) first each = of_kind (kinds f) (each f)

@@ -5,6 +5,7 @@ use Rattle.std.specs.Option.{option_map_or}
 use Rattle.std.specs.Str.{bytes_eq}
 use Rattle.ob_schema.specs.declared.definition.FieldDef.{FieldDef}
 use Rattle.ob_schema.specs.declared.definition.ModelDef.{ModelDef}
+use Rattle.ob_schema.specs.declared.field_type.FieldType.{FieldType}
 
 -- the fields that each model has beside the declared ones
 abbrev pub automatic_names : List (List ℕ)
@@ -42,3 +43,42 @@ is_computed field = is_some field.compute || is_some field.related
 abbrev pub is_set : Option Bool → Bool
 is_set None = false
 is_set (Some flag) = flag
+
+-- a field with no key but its type
+abbrev pub plain_field : List ℕ → FieldType → FieldDef
+plain_field name t = record {
+  name = name;
+  field_type = t;
+  string = None;
+  required = None;
+  default = None;
+  compute = None;
+  depends = None;
+  store = None;
+  recursive = None;
+  related = None;
+  relation = None;
+  inverse = None;
+  mirror = None;
+  ondelete = None;
+  selection = None;
+  groups = None;
+  managed = None;
+  fixed = None;
+  secret = None;
+}
+
+-- a new model with no key but its name
+abbrev pub plain_model : List ℕ → ModelDef
+plain_model name = record {
+  name = Some name;
+  inherit = None;
+  inherits = [];
+  order = None;
+  parent = None;
+  unique = [];
+  checks = [];
+  locked = None;
+  managed = None;
+  fields = [];
+}

@@ -2,8 +2,12 @@
 //! were written. A key that wasn't given is `None`, or an empty list. A new key of the
 //! module format gets its field here, and its meaning in `info`.
 
+ghost use Rattle.std.specs.Prelude.{◌≡◌, IfOk};
+ghost use Rattle.ob_schema.specs.Definitions.{plain_field, plain_model};
+
 use crate::field_type::{Choice, FieldType, OnDelete};
-use ob_base::{Sequence, Value, Word};
+use ob_base::{NoMemory, Sequence, Value, Word};
+use std::alloc::Global;
 
 /// One `[[model]]` table: a new model, or what is added to one.
 #[derive(Debug, Drop)]
@@ -83,4 +87,53 @@ pub struct FieldDef {
     pub fixed: Option<bool>,
     /// Whether nobody may read it.
     pub secret: Option<bool>,
+}
+
+impl ModelDef {
+    /// A new model with no key but its name, and no field.
+    pub fn plain(alloc: Global, name: &str) -> Result<ModelDef, NoMemory>
+        ensures { IfOk result (λ def. def ≡ plain_model name.now) }
+    {
+        Ok(ModelDef {
+            name: Some(Word::from_text(alloc, name)?),
+            inherit: None,
+            inherits: Sequence::new(alloc),
+            order: None,
+            parent: None,
+            unique: Sequence::new(alloc),
+            checks: Sequence::new(alloc),
+            locked: None,
+            managed: None,
+            fields: Sequence::new(alloc),
+        })
+    }
+}
+
+impl FieldDef {
+    /// A field with no key but its type.
+    pub fn plain(alloc: Global, name: &str, field_type: FieldType) -> Result<FieldDef, NoMemory>
+        ensures { IfOk result (λ field. field ≡ plain_field name.now field_type) }
+    {
+        Ok(FieldDef {
+            name: Word::from_text(alloc, name)?,
+            field_type,
+            string: None,
+            required: None,
+            default: None,
+            compute: None,
+            depends: None,
+            store: None,
+            recursive: None,
+            related: None,
+            relation: None,
+            inverse: None,
+            mirror: None,
+            ondelete: None,
+            selection: None,
+            groups: None,
+            managed: None,
+            fixed: None,
+            secret: None,
+        })
+    }
 }

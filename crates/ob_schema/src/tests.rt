@@ -28,30 +28,6 @@ fn key(alloc: Global, text: &str) -> Result<Option<Word>, NoMemory> {
     Ok(Some(Word::from_text(alloc, text)?))
 }
 
-fn plain_field(alloc: Global, name: &str, field_type: FieldType) -> Result<FieldDef, NoMemory> {
-    Ok(FieldDef {
-        name: Word::from_text(alloc, name)?,
-        field_type,
-        string: None,
-        required: None,
-        default: None,
-        compute: None,
-        depends: None,
-        store: None,
-        recursive: None,
-        related: None,
-        relation: None,
-        inverse: None,
-        mirror: None,
-        ondelete: None,
-        selection: None,
-        groups: None,
-        managed: None,
-        fixed: None,
-        secret: None,
-    })
-}
-
 /// A stored integer with an expression, and its declared paths with spaces between them.
 fn computed_field(
     alloc: Global,
@@ -67,7 +43,7 @@ fn computed_field(
         compute: key(alloc, compute)?,
         depends: Some(paths),
         store: Some(true),
-        ..plain_field(alloc, name, FieldType::Integer)?
+        ..FieldDef::plain(alloc, name, FieldType::Integer)?
     })
 }
 
@@ -86,28 +62,21 @@ fn relation_field(
     Ok(FieldDef {
         relation: key(alloc, relation)?,
         inverse: key(alloc, inverse)?,
-        ..plain_field(alloc, name, field_type)?
+        ..FieldDef::plain(alloc, name, field_type)?
     })
 }
 
 /// `demo.line` with `name`, `qty`, `price` and one field more.
 fn line_model(alloc: Global, field: FieldDef) -> Result<ModelDef, NoMemory> {
     let mut fields = Sequence::new(alloc);
-    fields.push(plain_field(alloc, "qty", FieldType::Integer)?)?;
-    fields.push(plain_field(alloc, "name", FieldType::Char)?)?;
-    fields.push(plain_field(alloc, "price", FieldType::Integer)?)?;
+    fields.push(FieldDef::plain(alloc, "qty", FieldType::Integer)?)?;
+    fields.push(FieldDef::plain(alloc, "name", FieldType::Char)?)?;
+    fields.push(FieldDef::plain(alloc, "price", FieldType::Integer)?)?;
     fields.push(field)?;
     Ok(ModelDef {
-        name: key(alloc, "demo.line")?,
-        inherit: None,
-        inherits: Sequence::new(alloc),
         order: key(alloc, "qty DESC, name")?,
-        parent: None,
-        unique: Sequence::new(alloc),
-        checks: Sequence::new(alloc),
-        locked: None,
-        managed: None,
         fields,
+        ..ModelDef::plain(alloc, "demo.line")?
     })
 }
 
@@ -148,7 +117,7 @@ fn faults_of_fields(rt: HostRuntime) -> Result<(), Fail> {
         let field = if !relation.is_empty() {
             relation_field(rt.alloc(), name, relation, inverse)?
         } else if compute.is_empty() {
-            plain_field(rt.alloc(), name, FieldType::Integer)?
+            FieldDef::plain(rt.alloc(), name, FieldType::Integer)?
         } else {
             computed_field(rt.alloc(), name, compute, depends)?
         };
@@ -162,11 +131,11 @@ fn faults_of_fields(rt: HostRuntime) -> Result<(), Fail> {
 fn faults_of_entries(rt: HostRuntime) -> Result<(), Fail> {
     let first = line_model(
         rt.alloc(),
-        plain_field(rt.alloc(), "cost", FieldType::Integer)?,
+        FieldDef::plain(rt.alloc(), "cost", FieldType::Integer)?,
     )?;
     let second = line_model(
         rt.alloc(),
-        plain_field(rt.alloc(), "cost", FieldType::Integer)?,
+        FieldDef::plain(rt.alloc(), "cost", FieldType::Integer)?,
     )?;
     assert_eq!(rt;
         told(rt.alloc(), &[first, second])?.as_str(),

@@ -20,12 +20,12 @@ use Rattle.ob_schema.specs.declared.fault.Spot.{Spot}
 use Rattle.ob_schema.specs.declared.field_type.FieldType.{FieldType}
 use Rattle.ob_schema.specs.declared.field_type.FieldType.TheVariants as type
 use Rattle.ob_schema.specs.Names.{is_field_name, is_model_name}
-use Rattle.ob_schema.specs.Definitions.{has_field, is_automatic}
+use Rattle.ob_schema.specs.Definitions.{has_field, is_automatic, plain_field}
 use Rattle.ob_schema.specs.Keys.{fits}
 use Rattle.ob_schema.specs.Faults.{IsFirst, IsFaulty, IsInverse, is_dotted, is_unserved, AtEntry, AtField, HasExpression, HasTerm, HasTooMuch, HasTree, HasTyped, HasUnknownInverse}
 use Rattle.ob_schema.specs.Faults.{HasUnknownRelation, HasWrongInverse, HasWrongKey, HasWrongKeys, HasWrongKind, HasWrongPath, IsDeclaredTwice, IsFaultless, IsMisread, IsNamedBefore, IsPastLimit, IsTextFault, NamesNoField, NamesNoModel}
 use Rattle.ob_schema.specs.Formulas.{IsExpression, computed_numbers, depends_of, fields_read, found_in, names_computed, number_of}
-use Rattle.stockd.specs.Model.{line_def, line_defs, plain_field, subtotal_field}
+use Rattle.stockd.specs.Model.{line_def, line_defs, subtotal_field}
 use Rattle.stockd.proofs.RegistryText.{OneTree, no_text_fault, subtotal_expression, subtotal_tree}
 
 -- why the text of the field's expression is none
@@ -236,7 +236,8 @@ subtotal_path one (inl (typed, has, wrong)) =
     (λ w. elim w [ inl missing ↦ missing (0, codes "qty", lit< tt, refl, refl) | inr computed ↦ apart (codes "qty") (omega (arith, subtotal_numbers)) computed ])
     (λ w. elim w [ inl missing ↦ missing (1, codes "price", lit< tt, refl, refl) | inr computed ↦ apart (codes "price") (omega (arith, subtotal_numbers)) computed ])
     (subst (λ (t : TypedTree). Any Wrong (fields_read t)) (subtotal_is one typed has) wrong)
-subtotal_path one (inr computed) = any_of_two (λ path. names_computed line_def path ≡ true) (codes "qty") (codes "price") (not_true (names_computed line_def (codes "qty")) refl) (not_true (names_computed line_def (codes "price")) refl) computed
+subtotal_path one (inr computed) = any_of_two (λ path. names_computed line_def path ≡ true) (codes "qty") (codes "price") (not_true (names_computed line_def (codes "qty")) refl) (not_true
+    (names_computed line_def (codes "price")) refl) computed
 
 -- it has no key that isn't served yet
 subtotal_little : HasTooMuch subtotal_field → ⊥

@@ -17,7 +17,8 @@ use Rattle.ob_schema.specs.Built.{IsBuilt, IsFieldOf, IsModelOf, IsOrigin, autom
 use Rattle.ob_schema.specs.Fields.{is_kept, is_kept_from, is_one2many, is_own}
 use Rattle.ob_schema.specs.Models.{IsModel, IsRegistry, model_at, model_named}
 use Rattle.ob_schema.specs.Types.{is_relation}
-use Rattle.stockd.specs.Model.{line_def, line_defs, plain_field, subtotal_field}
+use Rattle.ob_schema.specs.Definitions.{plain_field}
+use Rattle.stockd.specs.Model.{line_def, line_defs, subtotal_field}
 use Rattle.ob_orm.specs.Served.{IsServed, is_id}
 use Rattle.stockd.proofs.RegistryPlaces.{AllPlaced, Stands, each_of_names}
 

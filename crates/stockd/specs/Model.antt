@@ -1,38 +1,13 @@
 -- The one model so far, `demo.line`: a name, a quantity, a price, and their product.
-use Rattle.std.specs.Prelude.{List, ℕ, [], ◌∷◌, codes, Some, None, true}
+use Rattle.std.specs.Prelude.{List, [], ◌∷◌, codes, Some, true}
 use Rattle.ob_base.specs.declared.id.ModelNo.{ModelNo}
 use Rattle.ob_schema.specs.declared.definition.FieldDef.{FieldDef}
 use Rattle.ob_schema.specs.declared.definition.ModelDef.{ModelDef}
 use Rattle.ob_schema.specs.Built.{IsBuilt}
+use Rattle.ob_schema.specs.Definitions.{plain_field, plain_model}
 use Rattle.ob_schema.specs.Models.{IsRegistry}
-use Rattle.ob_schema.specs.declared.field_type.FieldType.{FieldType}
 use Rattle.ob_schema.specs.declared.field_type.FieldType.TheVariants as type
 use Rattle.ob_schema.specs.declared.info.ModelInfo.{ModelInfo}
-
--- a plain field
-abbrev pub plain_field : List ℕ → FieldType → FieldDef
-plain_field name t = record {
-  name = name;
-  field_type = t;
-  string = None;
-  required = None;
-  default = None;
-  compute = None;
-  depends = None;
-  store = None;
-  recursive = None;
-  related = None;
-  relation =
-      None;
-  inverse = None;
-  mirror = None;
-  ondelete = None;
-  selection = None;
-  groups = None;
-  managed = None;
-  fixed = None;
-  secret = None;
-}
 
 -- the product of the quantity and the price, which is kept
 abbrev pub subtotal_field : FieldDef
@@ -40,18 +15,8 @@ subtotal_field = record (plain_field (codes "subtotal") type.Integer) { compute 
 
 -- the definition of the model
 abbrev pub line_def : ModelDef
-line_def = record {
-  name = Some (codes "demo.line");
-  inherit = None;
-  inherits = [];
-  order = None;
-  parent = None;
-  unique = [];
-  checks = [];
-  locked = None;
-  managed = None;
-  fields = plain_field
-      (codes "name") type.Char ∷ plain_field (codes "qty") type.Integer ∷ plain_field (codes "price") type.Integer ∷ subtotal_field ∷ [];
+line_def = record (plain_model (codes "demo.line")) {
+  fields = plain_field (codes "name") type.Char ∷ plain_field (codes "qty") type.Integer ∷ plain_field (codes "price") type.Integer ∷ subtotal_field ∷ [];
 }
 
 -- what the registry is built of

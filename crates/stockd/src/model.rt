@@ -4,7 +4,7 @@
 
 ghost use Rattle.std.specs.Prelude.{◌≡◌, IfOk};
 ghost use Rattle.ob_schema.specs.declared.field_type.FieldType.{FieldType};
-ghost use Rattle.stockd.specs.Model.{IsLineRegistry, line_def, plain_field, subtotal_field};
+ghost use Rattle.stockd.specs.Model.{IsLineRegistry, line_def, subtotal_field};
 
 use ob_base::{ModelNo, NoMemory, Sequence, Word};
 use ob_expr::one_tree;
@@ -37,21 +37,13 @@ fn line_def(alloc: Global) -> Result<ModelDef, NoMemory>
     ensures { IfOk result (λ def. def ≡ line_def) }
 {
     let mut fields = Sequence::new(alloc);
-    fields.push(plain_field(alloc, "name", FieldType::Char)?)?;
-    fields.push(plain_field(alloc, "qty", FieldType::Integer)?)?;
-    fields.push(plain_field(alloc, "price", FieldType::Integer)?)?;
+    fields.push(FieldDef::plain(alloc, "name", FieldType::Char)?)?;
+    fields.push(FieldDef::plain(alloc, "qty", FieldType::Integer)?)?;
+    fields.push(FieldDef::plain(alloc, "price", FieldType::Integer)?)?;
     fields.push(subtotal_field(alloc)?)?;
     Ok(ModelDef {
-        name: Some(Word::from_text(alloc, LINE_NAME)?),
-        inherit: None,
-        inherits: Sequence::new(alloc),
-        order: None,
-        parent: None,
-        unique: Sequence::new(alloc),
-        checks: Sequence::new(alloc),
-        locked: None,
-        managed: None,
         fields,
+        ..ModelDef::plain(alloc, LINE_NAME)?
     })
 }
 
@@ -66,33 +58,6 @@ fn subtotal_field(alloc: Global) -> Result<FieldDef, NoMemory>
         compute: Some(Word::from_text(alloc, "qty * price")?),
         depends: Some(depends),
         store: Some(true),
-        ..plain_field(alloc, "subtotal", FieldType::Integer)?
-    })
-}
-
-/// A field with no key but its type.
-fn plain_field(alloc: Global, name: &str, field_type: FieldType) -> Result<FieldDef, NoMemory>
-    ensures { IfOk result (λ field. field ≡ plain_field name.now field_type) }
-{
-    Ok(FieldDef {
-        name: Word::from_text(alloc, name)?,
-        field_type,
-        string: None,
-        required: None,
-        default: None,
-        compute: None,
-        depends: None,
-        store: None,
-        recursive: None,
-        related: None,
-        relation: None,
-        inverse: None,
-        mirror: None,
-        ondelete: None,
-        selection: None,
-        groups: None,
-        managed: None,
-        fixed: None,
-        secret: None,
+        ..FieldDef::plain(alloc, "subtotal", FieldType::Integer)?
     })
 }

@@ -2,7 +2,6 @@
 
 use super::registry;
 use crate::json::input_of;
-use crate::replies::value_json;
 use crate::{CodecFault, Command, Input, Json, from_json, to_json};
 use ob_base::{RecId, RefList, Value};
 use ob_schema::{FieldType, Schema};
@@ -201,11 +200,29 @@ fn json_of_values(rt: HostRuntime) -> Result<(), Fail> {
 
 #[test]
 fn json_of_targets(rt: HostRuntime) -> Result<(), Fail> {
-    let alloc = rt.alloc();
+    let schema = registry(rt.alloc())?;
+    for name in ["many2many", "one2many"] {
+        let json = targets_json(rt.alloc(), &schema, name)?;
+        assert_eq!(rt; json.to_string(rt.alloc())?.as_str(), "[1,3]", "{name}");
+    }
+    Ok(())
+}
+
+/// The JSON of the rows 1 and 3 in the field of `demo.all` of this name.
+fn targets_json(alloc: Global, schema: &Schema, name: &str) -> Result<Json, Fail> {
+    let Some(model) = schema.model("demo.all") else {
+        return Err(Fail::new(format_args!("no model")));
+    };
+    let Some(field) = schema.field(model, name) else {
+        return Err(Fail::new(format_args!("no field {name}")));
+    };
     let mut ids = RefList::new(alloc);
     ids.push(RecId(1))?;
     ids.push(RecId(3))?;
-    let json = value_json(alloc, &Value::Refs(ids))?;
-    assert_eq!(rt; json.to_string(alloc)?.as_str(), "[1,3]");
-    Ok(())
+    match schema.info(model, field).field_type {
+        FieldType::Many2many | FieldType::One2many => {
+            Ok(to_json(alloc, schema, model, field, &Value::Refs(ids))?)
+        }
+        _ => Err(Fail::new(format_args!("another type: {name}"))),
+    }
 }

@@ -10,7 +10,8 @@ use Rattle.ob_call.proofs.arguments.by_position.Goals as goal
 pub returns-in_err-own-clause-told : goal.returns-in_err-own-clause-told
 returns-in_err-own-clause-told g c =
     let p = err_from_is_err_and c.from_residual.result c.from_residual.ensures.1 in
-    rw (p.1, p.2) (read_refused g.F.Form.fault (λ (given : Vec (Option Given) Global). all_given_of given.items) (view c.args.kw.now) c.args.expected.now c.args.items.now c.loop-number.given.items c.loop-number.number c.index-expected-number.result c.in_err-own.field-0.0
+    rw (p.1, p.2) (read_refused g.F.Form.fault (λ (given : Vec (Option Given) Global). all_given_of given.items)
+    (view c.args.kw.now) c.args.expected.now c.args.items.now c.loop-number.given.items c.loop-number.number c.index-expected-number.result c.in_err-own.field-0.0
     (omega arith) c.index-expected-number.is c.loop-number.invariant.told c.in_err-own.ensures)
 
 pub loop-number-preserved : goal.loop-number-preserved

@@ -33,13 +33,15 @@ pub returns-in_err-plain-clause-causes : goal.returns-in_err-plain-clause-causes
 returns-in_err-plain-clause-causes g c =
     let p = err_from_is_err_and c.from_residual-in_err-plain.result c.from_residual-in_err-plain.ensures.1 in
     let call = c.args.call.now in
-    rw (p.1, p.2) (plain_cause (λ info (values : Vec Value Global). gathered info values.items) c.args.schema.now call _ c.in_ok-given.given.items c.as_slice.result.now _ c.in_err-plain.field-0.0 c.requires.model (moment_passed call.now c.requires.moment) c.as_slice.ensures.value c.in_ok-given.ensures.told c.in_err-plain.ensures.value)
+    rw (p.1, p.2) (plain_cause (λ info (values : Vec Value Global). gathered info values.items) c.args.schema.now call _ c.in_ok-given.given.items c.as_slice.result.now _ c.in_err-plain.field-0.0
+    c.requires.model (moment_passed call.now c.requires.moment) c.as_slice.ensures.value c.in_ok-given.ensures.told c.in_err-plain.ensures.value)
 
 pub returns-in_err-plain-clause-answer : goal.returns-in_err-plain-clause-answer
 returns-in_err-plain-clause-answer g c =
     let p = err_from_is_err_and c.from_residual-in_err-plain.result c.from_residual-in_err-plain.ensures.1 in
     let call = c.args.call.now in
-    rw (p.1, p.2) (plain_answer (λ info (values : Vec Value Global). gathered info values.items) _ c.args.schema.now call _ c.in_ok-given.given.items c.as_slice.result.now _ c.in_err-plain.field-0.0 c.requires.model (moment_passed call.now c.requires.moment) c.as_slice.ensures.value c.in_ok-given.ensures.told c.in_err-plain.ensures.value)
+    rw (p.1, p.2) (plain_answer (λ info (values : Vec Value Global). gathered info values.items) _ c.args.schema.now call _ c.in_ok-given.given.items c.as_slice.result.now _ c.in_err-plain.field-0.0
+    c.requires.model (moment_passed call.now c.requires.moment) c.as_slice.ensures.value c.in_ok-given.ensures.told c.in_err-plain.ensures.value)
 
 pub returns-in_err-id-clause-ticks : goal.returns-in_err-id-clause-ticks
 returns-in_err-id-clause-ticks g c = no_ticks (model_at c.args.schema.now c.args.call.now.model) g.L.Ledger.noted c.args.steps.now

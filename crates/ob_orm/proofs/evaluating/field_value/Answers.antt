@@ -20,12 +20,14 @@ returns-in-Ok-clause-kept g c =
 
 pub returns-in_ok-value-in-Computed-clause-kept : goal.returns-in_ok-value-in-Computed-clause-kept
 returns-in_ok-value-in-Computed-clause-kept g c =
-    computed_at c.args.schema.now c.args.cell c.info-field.result.now c.args.plain.now c.in-Computed.formula c.in_ok-value-in-Computed.value c.info-field.ensures c.requires.valid c.requires.served c.requires.plain c.in-Computed.is c.in_ok-value-in-Computed.ensures.value c.in_ok-value-in-Computed.ensures.textual
+    computed_at c.args.schema.now c.args.cell c.info-field.result.now c.args.plain.now c.in-Computed.formula c.in_ok-value-in-Computed.value c.info-field.ensures c.requires.valid c.requires.served
+    c.requires.plain c.in-Computed.is c.in_ok-value-in-Computed.ensures.value c.in_ok-value-in-Computed.ensures.textual
 
 pub returns-in_err-value-in-Computed-clause-kept : goal.returns-in_err-value-in-Computed-clause-kept
 returns-in_err-value-in-Computed-clause-kept g c =
     let p = err_from_is_err_and c.from_residual.result c.from_residual.ensures.1 in
-    rw (p.1, p.2) (broken_at c.args.schema.now c.args.cell c.info-field.result.now c.args.plain.now c.in-Computed.formula c.in_err-value-in-Computed.field-0.0 c.info-field.ensures c.requires.valid c.requires.plain c.in-Computed.is c.in_err-value-in-Computed.ensures.value)
+    rw (p.1, p.2) (broken_at c.args.schema.now c.args.cell c.info-field.result.now c.args.plain.now c.in-Computed.formula c.in_err-value-in-Computed.field-0.0 c.info-field.ensures c.requires.valid
+    c.requires.plain c.in-Computed.is c.in_err-value-in-Computed.ensures.value)
 
 pub returns-in-Id-clause-kept : goal.returns-in-Id-clause-kept
 returns-in-Id-clause-kept g c = id_at c.args.schema.now c.args.cell c.info-field.result.now c.args.plain.now c.info-field.ensures c.requires.valid c.requires.id c.in-Id.is

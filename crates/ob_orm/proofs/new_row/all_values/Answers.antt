@@ -15,7 +15,8 @@ use Rattle.ob_orm.proofs.new_row.all_values.Goals as goal
 
 pub value_at-requires-clause-givable : goal.value_at-requires-clause-givable
 value_at-requires-clause-givable c =
-    givable_at c.args.schema.now c.args.model c.model_info.result.now.fields c.loop-index.index (fields_at c.args.schema.now c.args.model c.model_info.result.now c.model_info.ensures.at) (omega arith) (tell (model_at c.args.schema.now c.args.model) c.model_info.result.now IsModel c.model_info.ensures.at c.model_info.ensures.fit) c.requires.served
+    givable_at c.args.schema.now c.args.model c.model_info.result.now.fields c.loop-index.index (fields_at c.args.schema.now c.args.model c.model_info.result.now c.model_info.ensures.at)
+    (omega arith) (tell (model_at c.args.schema.now c.args.model) c.model_info.result.now IsModel c.model_info.ensures.at c.model_info.ensures.fit) c.requires.served
 
 pub returns-in_err-value-clause-value : goal.returns-in_err-value-clause-value
 returns-in_err-value-clause-value c =
@@ -44,7 +45,8 @@ returns-clause-value c =
     let ms = members_view row.members.now.entries in
     let values = c.loop-index.values.items in
     if_left (model_at models c.args.model) (λ info. new_row row.now place ms (plain_columns info) ≡ Ok (gathered info values)) (λ info. ArePlain info values)
-    (taken_all models c.args.model c.model_info.result.now.fields c.loop-index.index row.now place ms values (fields_at c.args.schema.now c.args.model c.model_info.result.now c.model_info.ensures.at) (omega arith) c.loop-index.invariant.count c.loop-index.invariant.taken)
+    (taken_all models c.args.model c.model_info.result.now.fields c.loop-index.index row.now place ms values
+    (fields_at c.args.schema.now c.args.model c.model_info.result.now c.model_info.ensures.at) (omega arith) c.loop-index.invariant.count c.loop-index.invariant.taken)
 
 pub returns-clause-plain : goal.returns-clause-plain
 returns-clause-plain c =
@@ -54,7 +56,8 @@ returns-clause-plain c =
     let ms = members_view row.members.now.entries in
     let values = c.loop-index.values.items in
     if_right (model_at models c.args.model) (λ info. new_row row.now place ms (plain_columns info) ≡ Ok (gathered info values)) (λ info. ArePlain info values)
-    (taken_all models c.args.model c.model_info.result.now.fields c.loop-index.index row.now place ms values (fields_at c.args.schema.now c.args.model c.model_info.result.now c.model_info.ensures.at) (omega arith) c.loop-index.invariant.count c.loop-index.invariant.taken)
+    (taken_all models c.args.model c.model_info.result.now.fields c.loop-index.index row.now place ms values
+    (fields_at c.args.schema.now c.args.model c.model_info.result.now c.model_info.ensures.at) (omega arith) c.loop-index.invariant.count c.loop-index.invariant.taken)
 
 pub value_at-requires-clause-field : goal.value_at-requires-clause-field
 value_at-requires-clause-field c =

@@ -7,7 +7,8 @@ use Rattle.ob_orm.proofs.new_row.new_value.Goals as goal
 pub returns-in-Some-clause-value : goal.returns-in-Some-clause-value
 returns-in-Some-clause-value c =
     let row = c.args.row.now in
-    new_given (field_at c.args.schema.now c.args.model c.args.number) c.info-field.result.now row.now (spot_place row.spot) row.members.now.entries c.as_str-name.result.now c.in-Some.json c.given_value.result c.info-field.ensures c.as_str-name.ensures
+    new_given (field_at c.args.schema.now c.args.model c.args.number) c.info-field.result.now row.now
+    (spot_place row.spot) row.members.now.entries c.as_str-name.result.now c.in-Some.json c.given_value.result c.info-field.ensures c.as_str-name.ensures
     (sym c.is_stamp.ensures ∙ c.if-is_stamp.false) c.in-Some.ensures.value c.given_value.ensures.value
 
 pub returns-in-Ok-clause-value : goal.returns-in-Ok-clause-value

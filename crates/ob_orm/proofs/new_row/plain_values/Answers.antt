@@ -29,4 +29,5 @@ returns-clause-value c =
     let given = c.in-Some.values in
     let one = the_one gs c.index-given-0.result given (one_given (fields_at c.args.schema.now c.args.model) gs c.requires.given) c.index-given-0.is c.in-Some.is in
     let ms = members_view c.in-Some-as_object.members.now.entries in
-    row_given {Of = Vec Value Global} (model_at c.args.schema.now c.args.model) _ c.args.now (to_z-of_z w64 c.args.now (search rules)) gs given ms (λ info values. gathered info values.items) c.all_values.result one (members_are gs given ms one c.in-Some-as_object.ensures) c.all_values.ensures.value
+    row_given {Of = Vec Value Global} (model_at c.args.schema.now c.args.model) _ c.args.now (to_z-of_z w64 c.args.now (search rules)) gs given ms
+    (λ info values. gathered info values.items) c.all_values.result one (members_are gs given ms one c.in-Some-as_object.ensures) c.all_values.ensures.value

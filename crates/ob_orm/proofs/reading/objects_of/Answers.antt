@@ -41,4 +41,5 @@ returns-in-None-missing-clause-told g c =
     let ids = c.args.ids.now in
     let whole : take c.loop-id.id-index ids ≡ ids = take_all c.loop-id.id-index ids c.loop-id-test.false in
     let told = rw (whole, c.in-None-missing.is) at c.loop-id.invariant.told in
-    answers_rows c.args.schema.now c.args.model c.args.fields.now (g.K.Keeper.kept c.args.keeper.now) (Rose (g.K.Keeper.faults c.args.keeper.now) (g.K.Keeper.faults c.loop-id.keeper)) ids c.loop-id.objects.items _ (view-Array c.loop-id.objects) told
+    answers_rows c.args.schema.now c.args.model c.args.fields.now (g.K.Keeper.kept c.args.keeper.now) (Rose (g.K.Keeper.faults c.args.keeper.now)
+    (g.K.Keeper.faults c.loop-id.keeper)) ids c.loop-id.objects.items _ (view-Array c.loop-id.objects) told

@@ -61,7 +61,8 @@ returns-clause-answer g c =
     let asks = asks_in found (view call.args.now) (view call.kw.now) c.in_ok-given.given.items c.in-Some.ids c.index-2.result.now c.in_ok-ids.ids.items c.in_ok-fields.fields.items three are
     (rw c.in-Some.is at c.index.ensures) c.index-2.ensures ids_are numbers_are in
     let rows = rw (c.as_slice.ensures.value, c.as_slice-2.ensures.value) at c.objects_of.ensures.told in
-    told_answer c.args.schema.now (g.K.Keeper.kept c.args.keeper.now) call (Rose (g.K.Keeper.faults c.args.keeper.now) (g.K.Keeper.faults c.objects_of.new.keeper)) c.in_ok-ids.ids.items c.in_ok-fields.fields.items (result_view c.objects_of.result) asks rows
+    told_answer c.args.schema.now (g.K.Keeper.kept c.args.keeper.now) call (Rose (g.K.Keeper.faults c.args.keeper.now)
+    (g.K.Keeper.faults c.objects_of.new.keeper)) c.in_ok-ids.ids.items c.in_ok-fields.fields.items (result_view c.objects_of.result) asks rows
 
 pub returns-clause-causes : goal.returns-clause-causes
 returns-clause-causes g c =

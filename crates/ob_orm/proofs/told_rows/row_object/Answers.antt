@@ -14,4 +14,5 @@ loop-number-preserved c =
 pub returns-clause-told : goal.returns-clause-told
 returns-clause-told c =
     let all : length c.args.fields.now ≤ c.loop-number.number-index = omega arith in
-    IsToldTo-all (model_at c.args.schema.now c.args.model) c.args.fields.now c.args.id c.args.values.now c.loop-number.number-index (members_view c.loop-number.members.entries) _ all (view-Object c.loop-number.members) c.loop-number.invariant
+    IsToldTo-all (model_at c.args.schema.now c.args.model) c.args.fields.now c.args.id c.args.values.now c.loop-number.number-index (members_view c.loop-number.members.entries) _ all
+    (view-Object c.loop-number.members) c.loop-number.invariant

@@ -8,7 +8,9 @@ bounds-values-number c = value_within (model_at c.args.schema.now c.args.model) 
 
 pub to_json-requires-clause-value : goal.to_json-requires-clause-value
 to_json-requires-clause-value c =
-    c.type_and_limits.ensures.of_field (field_at c.args.schema.now c.args.model c.args.number) c.index-values-number.result (value_holds (model_at c.args.schema.now c.args.model) c.args.number c.info.result.now c.args.values.now c.index-values-number.result c.info.ensures (sym c.if-is_id.ensures) c.index-values-number.is c.requires.values)
+    c.type_and_limits.ensures.of_field (field_at c.args.schema.now c.args.model c.args.number) c.index-values-number.result (value_holds
+    (model_at c.args.schema.now c.args.model) c.args.number c.info.result.now c.args.values.now c.index-values-number.result c.info.ensures
+    (sym c.if-is_id.ensures) c.index-values-number.is c.requires.values)
 
 pub returns : goal.returns
 returns c =

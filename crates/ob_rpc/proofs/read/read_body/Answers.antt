@@ -25,7 +25,8 @@ returns-in_default-members_of-clause-envelope c =
     let id = rw c.take.ensures.value at (sym c.in-Some.ensures) in
     let version = rw (c.take-2.ensures.value, c.take.ensures.others (codes "jsonrpc") (keys_differ _ _ refl)) at (sym c.in-Some-version_of.ensures) in
     let call = rw (c.take-3.ensures.value, c.take-2.ensures.others (codes "method") (keys_differ _ _ refl), c.take.ensures.others (codes "method") (keys_differ _ _ refl)) at (sym c.in-Some-text_equal.ensures) in
-    let none = rw (c.take-4.ensures.value, c.take-3.ensures.others (codes "params") (keys_differ _ _ refl), c.take-2.ensures.others (codes "params") (keys_differ _ _ refl), c.take.ensures.others (codes "params") (keys_differ _ _ refl)) at (sym c.in_default-members_of.ensures) in
+    let none = rw (c.take-4.ensures.value, c.take-3.ensures.others (codes "params") (keys_differ _ _ refl), c.take-2.ensures.others (codes "params") (keys_differ _ _ refl), c.take.ensures.others
+        (codes "params") (keys_differ _ _ refl)) at (sym c.in_default-members_of.ensures) in
     rw (no_params _ id version call none) c.fault_at-in_default-members_of.ensures
 
 pub returns-clause-envelope : goal.returns-clause-envelope
@@ -33,5 +34,6 @@ returns-clause-envelope c =
     let id = rw c.take.ensures.value at (sym c.in-Some.ensures) in
     let version = rw (c.take-2.ensures.value, c.take.ensures.others (codes "jsonrpc") (keys_differ _ _ refl)) at (sym c.in-Some-version_of.ensures) in
     let call = rw (c.take-3.ensures.value, c.take-2.ensures.others (codes "method") (keys_differ _ _ refl), c.take.ensures.others (codes "method") (keys_differ _ _ refl)) at (sym c.in-Some-text_equal.ensures) in
-    let params = rw (c.take-4.ensures.value, c.take-3.ensures.others (codes "params") (keys_differ _ _ refl), c.take-2.ensures.others (codes "params") (keys_differ _ _ refl), c.take.ensures.others (codes "params") (keys_differ _ _ refl)) at (sym c.in-Some-members_of.ensures) in
+    let params = rw (c.take-4.ensures.value, c.take-3.ensures.others (codes "params") (keys_differ _ _ refl), c.take-2.ensures.others (codes "params") (keys_differ _ _ refl), c.take.ensures.others
+        (codes "params") (keys_differ _ _ refl)) at (sym c.in-Some-members_of.ensures) in
     rw (all_but_asked _ id version call params) c.read_params.ensures.envelope
