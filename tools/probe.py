@@ -3,6 +3,7 @@
 usage: probe.py ORACLE SEED COUNT [WORD]. Without the word all words are asked, by turns at
 random. Ends with 1 where an answer differs.
 """
+import importlib
 import random
 import subprocess
 import sys
@@ -188,14 +189,14 @@ def expression(rng, model):
 
 
 def makers():
-    """What makes lines of each word: of the words about stock only where the machine has their functions."""
+    """What makes lines of each word: of the words about stock and of connections only where the machine has their functions."""
     found = {"row": row, "value": value, "order": order, "day": day, "moment": moment, "expression": expression}
-    try:
-        import probe_stock
-    except ImportError:
-        print("no functions about stock to compare with in %s: takes, lines, state, split, chain and push are skipped" % sys.argv[1])
-        return found
-    return {**found, **probe_stock.MAKERS}
+    for part, words in (("probe_stock", "takes, lines, state, split, chain and push"), ("probe_http", "http")):
+        try:
+            found.update(importlib.import_module(part).MAKERS)
+        except ImportError:
+            print("no functions of %s to compare with in %s: skipped" % (words, sys.argv[1]))
+    return found
 
 
 def asked_and_wanted():

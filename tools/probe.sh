@@ -2,11 +2,11 @@
 # Compares the libraries, by the program stockd_probe, with those of an independent machine
 # of the same rules, over random values: tools/probe.sh [SEED [COUNT [WORD]]], where the word
 # is one of the probe's: row (which asks body too), value, order, day, moment, expression,
-# takes, lines, state, split, chain or push; without it all are asked. Needs the machine in
-# the folder that ORACLE names (by default ../shared/oracle beside the repository); where it
+# takes, lines, state, split, chain, push or http; without it all are asked. Needs the machine
+# in the folder that ORACLE names (by default ../shared/oracle beside the repository); where it
 # isn't there nothing is compared, and the status is 0; where it lacks the functions about
-# stock, a line says that their words are skipped. Prints the first answers that differ and
-# how many do; the status is 1 where one does.
+# stock or about connections, a line says that their words are skipped. Prints the first
+# answers that differ and how many do; the status is 1 where one does.
 cd "$(dirname "$0")/.." || exit 1
 oracle=${ORACLE:-../shared/oracle}
 if [ ! -f "$oracle/stockd_oracle/codec.py" ]; then

@@ -14,6 +14,7 @@
 //! | `split DEMAND DONE` | the done part and the rest |
 //! | `chain PLACE RULE ..` | the ids of the chain of pull rules, or `too deep` |
 //! | `push PLACE RULE ..` | the id of the push rule |
+//! | `http CUT FAILS HEX` | each item of the connection, with what is written while it comes in and its reply; then how many bytes were taken |
 //!
 //! A stock is `quant:free:in_date:removal:place`, a quant
 //! `id:product:place:lot:quantity:reserved:in_date:guarded`, a line
@@ -22,9 +23,15 @@
 //! ORDER is `fifo`, `lifo`, `fefo` or `closest`. An empty answer is `none`, and
 //! `not asked` stands where the call requires what isn't so.
 //!
-//! `times N` before `row`, `body`, `value`, `expression`, `takes`, `lines` or `chain`
-//! makes that call N times and tells the last answer.
+//! A connection in memory sends the bytes HEX, at most CUT in a read (`whole`: all). Of the
+//! door's calls the one of number FAILS fails (0: none; 1 lets the connection come). An item
+//! is `post:keep:"BODY"` or `post:close:"BODY"`, `bad:STATUS`, `ended`, `cut`, or `failed`;
+//! each message is answered by `{}`.
+//!
+//! `times N` before `row`, `body`, `value`, `expression`, `takes`, `lines`, `chain` or
+//! `http` makes that call N times and tells the last answer.
 
+use crate::connections::connection;
 use crate::moves::{parts_of_demand, state};
 use crate::quants::after_lines;
 use crate::removals::taken;
@@ -54,6 +61,7 @@ pub(crate) fn answer(alloc: Global, schema: &Schema, line: &str) -> Result<Strin
         "day" => day(alloc, rest),
         "moment" => moment(alloc, rest),
         "expression" => expression(alloc, times, rest),
+        "http" => connection(alloc, times, rest),
         _ => stock_answer(alloc, times, word, rest),
     }
 }

@@ -5,14 +5,15 @@
 //!
 //! Rooms: `registry` has the model whose fields and rows are asked for, `answer` tells a
 //! word from another, `rows` and `values` ask ob_codec, `texts` asks ob_dates and ob_expr,
-//! `removals` and `quants` ask wh_quant, `moves` asks wh_move, `routes` asks wh_route.
-//! `told` writes values and commands, `items` reads words of several parts, `askable` says
-//! what `move_lines` may be asked. A further library gets its word in `answer`, and a line
-//! in tools/probe.py.
+//! `removals` and `quants` ask wh_quant, `moves` asks wh_move, `routes` asks wh_route,
+//! `connections` asks ob_http. `told` writes values and commands, `items` reads words of
+//! several parts, `askable` says what `move_lines` may be asked. A further library gets its
+//! word in `answer`, and a line in tools/probe.py.
 #![tactic(auto)]
 
 mod answer;
 mod askable;
+mod connections;
 mod items;
 mod moves;
 mod quants;

@@ -74,7 +74,7 @@ fn values_of(
 }
 
 /// The bytes that hexadecimal digits write, where they write some.
-fn bytes_of(alloc: Global, digits: &str) -> Result<Option<Vec<u8>>, NoMemory> {
+pub(crate) fn bytes_of(alloc: Global, digits: &str) -> Result<Option<Vec<u8>>, NoMemory> {
     match hex::decode(alloc, digits) {
         Ok(bytes) => Ok(Some(bytes)),
         Err(FromHexError::OutOfMemory) => Err(NoMemory),

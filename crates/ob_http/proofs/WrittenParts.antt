@@ -1,0 +1,58 @@
+-- What stands written to a connection after one part and then another, or a front of it.
+use Rattle.std.proofs.Common.{◌≡◌, ℕ, ◌+◌, ◌-◌, List, [], ◌∷◌, length, Result, Ok, Err, OnErr, ◌++◌, take, drop, Option, Some, None, option_map, refl, sym, ap, ◌∙◌, append_assoc}
+use Rattle.std.proofs.lemmas.List.{take-append-drop, take_rest, append-nil}
+use Rattle.std.proofs.Math.Seq.{take-add}
+use Rattle.ob_io.specs.Connections.{extend_last}
+use Rattle.ob_http.specs.Written.{Wrote, WroteFront}
+
+-- two parts after one another are one
+pub extend_twice : (a b : List ℕ) (written : List (List ℕ)) → extend_last b (extend_last a written) ≡ extend_last (a ++ b) written
+extend_twice a b [] = refl
+extend_twice a b (last ∷ []) = ap (λ w. w ∷ []) (append_assoc last a b)
+extend_twice a b (first ∷ next ∷ []) = ap (λ w. first ∷ w) (extend_twice a b (next ∷ []))
+extend_twice a b (first ∷ next ∷ third ∷ rest) = ap (λ w. first ∷ w) (extend_twice a b (next ∷ third ∷ rest))
+
+-- nothing more leaves what stands there
+pub extend_nothing : (written : List (List ℕ)) → extend_last [] written ≡ written
+extend_nothing [] = refl
+extend_nothing (last ∷ []) = ap (λ w. w ∷ []) (append-nil last)
+extend_nothing (first ∷ next ∷ []) = ap (λ w. first ∷ w) (extend_nothing (next ∷ []))
+extend_nothing (first ∷ next ∷ third ∷ rest) = ap (λ w. first ∷ w) (extend_nothing (next ∷ third ∷ rest))
+
+-- the same where the door may not tell
+parts_joined : (before : Option (List (List ℕ))) (a b : List ℕ) → option_map (extend_last b) (option_map (extend_last a) before) ≡ option_map (extend_last (a ++ b)) before
+parts_joined None a b = refl
+parts_joined (Some written) a b = ap Some (extend_twice a b written)
+
+pub wrote_nothing : (before : Option (List (List ℕ))) → Wrote before before []
+wrote_nothing None = refl
+wrote_nothing (Some written) = ap Some (sym (extend_nothing written))
+
+-- a part and then another were written
+pub wrote_both : (before mid now : Option (List (List ℕ))) (a b : List ℕ) → Wrote before mid a → Wrote mid now b → Wrote before now (a ++ b)
+wrote_both before mid now a b first second = second ∙ ap (option_map (extend_last b)) first ∙ parts_joined before a b
+
+-- a front of a part is a front of more
+pub front_of_more : (before now : Option (List (List ℕ))) (a b : List ℕ) → WroteFront before now a → WroteFront before now (a ++ b)
+front_of_more before now a b w = (w.0, w.1 ++ b, ap (λ x. x ++ b) w.2 ∙ append_assoc w.0 w.1 b, w.3)
+
+-- after a whole part a front of the next
+pub front_after : (before mid now : Option (List (List ℕ))) (a b : List ℕ) → Wrote before mid a → WroteFront mid now b → WroteFront before now (a ++ b)
+front_after before mid now a b whole w =
+    (a ++ w.0, w.1, ap (λ x. a ++ x) w.2 ∙ sym (append_assoc a w.0 w.1), wrote_both before mid now a w.0 whole w.3)
+
+-- what a loop over pieces has written is a front
+pub front_so_far : (before now : Option (List (List ℕ))) (done : ℕ) (bytes : List ℕ) → Wrote before now (take done bytes) → WroteFront before now bytes
+front_so_far before now done bytes so_far = (take done bytes, drop done bytes, sym (take-append-drop done bytes), so_far)
+
+-- what holds holds at an error
+pub at_any_error : {T E P : Type 0} (r : Result T E) → P → OnErr r P
+at_any_error (Ok x) h = tt
+at_any_error (Err e) h = h
+
+-- the next piece goes after what a loop has written
+pub more_so_far : (before mid now : Option (List (List ℕ))) (done n : ℕ) (bytes : List ℕ) → Wrote before mid (take done bytes)
+    → Wrote mid now (take n (take (length bytes - done) (drop done bytes))) → Wrote before now (take (done + n) bytes)
+more_so_far before mid now done n bytes so_far piece =
+    wrote_both before mid now (take done bytes) (take n (drop done bytes)) so_far (piece ∙ ap (λ t. option_map (extend_last (take n t)) mid) (take_rest bytes done))
+    ∙ ap (λ t. option_map (extend_last t) before) (sym (take-add done n bytes))

@@ -1,0 +1,7 @@
+-- The number of the digits so far, of which there are at most seven.
+use Rattle.std.proofs.Common.{◌≡◌, ◌^◌, ◌<◌, take}
+use Rattle.std.specs.Str.Parse.{digits_value}
+use Rattle.ob_http.proofs.length.body_length.Given as goal
+
+abbrev pub invariant-loop-digit : goal.invariant-loop-digit
+invariant-loop-digit l = (l.number ≡ digits_value 10 (take l.digit-index l.digits)) × (l.number < 10 ^ l.digit-index)

@@ -1,0 +1,10 @@
+pub mod Lines
+pub mod Head
+pub mod Message
+pub mod Item
+pub mod Reply
+pub mod Written
+pub mod Connection
+pub mod SoFar
+pub mod Front
+pub mod Spans
