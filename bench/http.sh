@@ -26,11 +26,11 @@ large() {
     head -c 1048576 /dev/zero | tr '\0' ' '
 }
 
-# What the probe takes of a processor for so many calls of a line, so that other work beside
-# it counts little.
+# What the probe and the host take of a processor for so many calls of a line, so that other
+# work beside it counts little.
 seconds() {
-    local TIMEFORMAT=%U
-    { time { printf 'times %d ' "$1"; cat "$2"; } | "$probe" >/dev/null; } 2>&1
+    local TIMEFORMAT='%U %S'
+    { time { printf 'times %d ' "$1"; cat "$2"; } | "$probe" >/dev/null; } 2>&1 | awk '{ print $1 + $2 }'
 }
 
 # What all calls but one take, for pieces of this length.

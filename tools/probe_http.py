@@ -43,7 +43,12 @@ class Items:
         return self.why(answer) is None
 
     def __str__(self):
-        return "items %s" % [vars(http.item(self.data, 0))]
+        found, at = [], 0
+        while at is not None:
+            item = http.item(self.data, at)
+            found.append("%s%s" % ("interim line, " if item.interim else "", told(item)[0]))
+            at = item.end if isinstance(item, http.Post) and item.keep else None
+        return "; ".join(found)
 
     def why(self, answer):
         """What is wrong with an answer, or None."""
