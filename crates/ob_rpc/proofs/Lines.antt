@@ -60,11 +60,14 @@ letter_line x same = letter_at _ _ _ _ _ _ x (λ e. subst (λ (n : ℕ). ((n == 
 unlettered : (x : ℕ) → letter x ≡ 0 → x ≡ 10 → ⊥
 unlettered x none same = let P : ℕ → Type 0 = λ n. letter n ≡ 0 in let h : letter 10 ≡ 0 = subst P same none in omega (arith, h)
 
+-- a digit's letter is no line feed
+digit_char_line : (d : ℕ) → digit_char d ≡ 10 → ⊥
+digit_char_line d = above (nat_lt d 10) 48 87 d (omega arith) (omega arith)
+
 byte_at : (short low : Bool) (l x h k : ℕ) → (l ≡ 10 → ⊥) → (short ≡ false → x ≡ 10 → ⊥)
     → IsOneLine (cond short (92 ∷ l ∷ []) (cond low (92 ∷ 117 ∷ 48 ∷ 48 ∷ digit_char h ∷ digit_char k ∷ []) (x ∷ [])))
 byte_at true low l x h k of_l of_x = (λ same. omega arith, (of_l, tt))
-byte_at false true l x h k of_l of_x = (λ same. omega arith, (λ same. omega arith, (λ same. omega arith, (λ same. omega arith, (above (nat_lt h 10) 48 87 h (omega arith) (omega arith), (above
-    (nat_lt k 10) 48 87 k (omega arith) (omega arith), tt))))))
+byte_at false true l x h k of_l of_x = (λ same. omega arith, (λ same. omega arith, (λ same. omega arith, (λ same. omega arith, (digit_char_line h, (digit_char_line k, tt))))))
 byte_at false false l x h k of_l of_x = (of_x refl, tt)
 
 zero_where_false : (l : ℕ) → nat_lt 0 l ≡ false → l ≡ 0

@@ -8,6 +8,7 @@ use Rattle.serde_json.specs.Events.{items_len}
 use Rattle.serde_json.specs.Find.{get_member, as_array, as_object}
 use Rattle.serde_json.specs.View.{view, items_view}
 use Rattle.serde_json.specs.declared.value.Value.{Value, Null, the_lemmas}
+use Rattle.ob_rpc.specs.declared.methods.Served.{Served}
 use Rattle.ob_rpc.specs.Envelope.{Envelope, Fault, Arity, given_id, version_of, text_for, is_service, method_of, wrong_element, element_place, asked_in, envelope_in}
 
 -- two keys that compare as different are different
@@ -28,41 +29,43 @@ view-Null = search (rules, the_lemmas)
 
 -- ---- the members of the params
 
-abbrev pub service_of : Members → Option (List ℕ)
-service_of params = text_for is_service (get_member (codes "service") params)
+abbrev pub service_of : Served → Members → Option (List ℕ)
+service_of served params = text_for (is_service served) (get_member (codes "service") params)
 
-abbrev pub method_at : List ℕ → Members → Option (List ℕ × Arity)
-method_at service params = method_of service (get_member (codes "method") params)
+abbrev pub method_at : Served → List ℕ → Members → Option (List ℕ × Arity)
+method_at served service params = method_of served service (get_member (codes "method") params)
 
 abbrev pub args_of : Members → Option Items
 args_of params = option_and_then as_array (get_member (codes "args") params)
 
-pub no_service : (id : Data) (params : Members) → service_of params ≡ None
-    → asked_in id params ≡ told (codes "params" ∷ codes "service" ∷ []) id
+pub no_service : (served : Served) (id : Data) (params : Members) → service_of served params ≡ None
+    → asked_in served id params ≡ told (codes "params" ∷ codes "service" ∷ []) id
 unfolding asked_in
-no_service id params none = rw none refl
+no_service served id params none = rw none refl
 
-pub no_method : (id : Data) (params : Members) {service : List ℕ} → service_of params ≡ Some service → method_at service params ≡ None
-    → asked_in id params ≡ told (codes "params" ∷ codes "method" ∷ []) id
+pub no_method : (served : Served) (id : Data) (params : Members) {service : List ℕ} → service_of served params ≡ Some service → method_at served service params ≡ None
+    → asked_in served id params ≡ told (codes "params" ∷ codes "method" ∷ []) id
 unfolding asked_in
-no_method id params at_service none = rw (at_service, none) refl
+no_method served id params at_service none = rw (at_service, none) refl
 
-pub no_args : (id : Data) (params : Members) {service : List ℕ} {method : List ℕ × Arity} → service_of params ≡ Some service → method_at service params ≡ Some method → args_of params ≡ None
-    → asked_in id params ≡ told (codes "params" ∷ codes "args" ∷ []) id
+pub no_args : (served : Served) (id : Data) (params : Members) {service : List ℕ} {method : List ℕ × Arity} → service_of served params ≡ Some service → method_at served service params ≡ Some method → args_of params ≡ None
+    → asked_in served id params ≡ told (codes "params" ∷ codes "args" ∷ []) id
 unfolding asked_in
-no_args id params at_service at_method none = rw (at_service, at_method, none) refl
+no_args served id params at_service at_method none = rw (at_service, at_method, none) refl
 
-pub wrong_count : (id : Data) (params : Members) {service : List ℕ} {method : List ℕ × Arity} {items : Items} {number : ℕ} → service_of params ≡ Some service → method_at service params ≡ Some method → args_of params ≡ Some items
+pub wrong_count : (served : Served) (id : Data) (params : Members) {service : List ℕ} {method : List ℕ × Arity} {items : Items} {number : ℕ}
+    → service_of served params ≡ Some service → method_at served service params ≡ Some method → args_of params ≡ Some items
     → wrong_element method.1 (items_len items) ≡ Some number
-    → asked_in id params ≡ Err (record { place = element_place number; id = id })
+    → asked_in served id params ≡ Err (record { place = element_place number; id = id })
 unfolding asked_in
-wrong_count id params at_service at_method at_args wrong = rw (at_service, at_method, at_args, wrong) refl
+wrong_count served id params at_service at_method at_args wrong = rw (at_service, at_method, at_args, wrong) refl
 
-pub all_asked : (id : Data) (params : Members) {service : List ℕ} {method : List ℕ × Arity} {items : Items} → service_of params ≡ Some service → method_at service params ≡ Some method → args_of params ≡ Some items
+pub all_asked : (served : Served) (id : Data) (params : Members) {service : List ℕ} {method : List ℕ × Arity} {items : Items}
+    → service_of served params ≡ Some service → method_at served service params ≡ Some method → args_of params ≡ Some items
     → wrong_element method.1 (items_len items) ≡ None
-    → asked_in id params ≡ Ok (record { id = id; service = service; method = method.0; args = items })
+    → asked_in served id params ≡ Ok (record { id = id; service = service; method = method.0; args = items })
 unfolding asked_in
-all_asked id params at_service at_method at_args none = rw (at_service, at_method, at_args, none) refl
+all_asked served id params at_service at_method at_args none = rw (at_service, at_method, at_args, none) refl
 
 -- ---- the members of the body
 
@@ -78,23 +81,24 @@ call_at body = text_for (bytes_eq (codes "call")) (get_member (codes "method") b
 abbrev pub params_at : Members → Option Members
 params_at body = option_and_then as_object (get_member (codes "params") body)
 
-pub no_id : (body : Members) → id_at body ≡ None → envelope_in body ≡ told (codes "id" ∷ []) null
+pub no_id : (served : Served) (body : Members) → id_at body ≡ None → envelope_in served body ≡ told (codes "id" ∷ []) null
 unfolding envelope_in
-no_id body none = rw none refl
+no_id served body none = rw none refl
 
-pub no_version : (body : Members) {id : Data} → id_at body ≡ Some id → version_at body ≡ None → envelope_in body ≡ told (codes "jsonrpc" ∷ []) id
+pub no_version : (served : Served) (body : Members) {id : Data} → id_at body ≡ Some id → version_at body ≡ None → envelope_in served body ≡ told (codes "jsonrpc" ∷ []) id
 unfolding envelope_in
-no_version body at_id none = rw (at_id, none) refl
+no_version served body at_id none = rw (at_id, none) refl
 
-pub no_call : (body : Members) {id version : Data} → id_at body ≡ Some id → version_at body ≡ Some version → call_at body ≡ None → envelope_in body ≡ told (codes "method" ∷ []) id
+pub no_call : (served : Served) (body : Members) {id version : Data} → id_at body ≡ Some id → version_at body ≡ Some version → call_at body ≡ None → envelope_in served body ≡ told (codes "method" ∷ []) id
 unfolding envelope_in
-no_call body at_id at_version none = rw (at_id, at_version, none) refl
+no_call served body at_id at_version none = rw (at_id, at_version, none) refl
 
-pub no_params : (body : Members) {id version : Data} {call : List ℕ} → id_at body ≡ Some id → version_at body ≡ Some version → call_at body ≡ Some call → params_at body ≡ None → envelope_in body ≡ told (codes "params" ∷ []) id
+pub no_params : (served : Served) (body : Members) {id version : Data} {call : List ℕ} → id_at body ≡ Some id → version_at body ≡ Some version → call_at body ≡ Some call
+    → params_at body ≡ None → envelope_in served body ≡ told (codes "params" ∷ []) id
 unfolding envelope_in
-no_params body at_id at_version at_call none = rw (at_id, at_version, at_call, none) refl
+no_params served body at_id at_version at_call none = rw (at_id, at_version, at_call, none) refl
 
-pub all_but_asked : (body : Members) {id version : Data} {call : List ℕ} {params : Members} → id_at body ≡ Some id → version_at body ≡ Some version → call_at body ≡ Some call
-    → params_at body ≡ Some params → envelope_in body ≡ asked_in id params
+pub all_but_asked : (served : Served) (body : Members) {id version : Data} {call : List ℕ} {params : Members} → id_at body ≡ Some id → version_at body ≡ Some version → call_at body ≡ Some call
+    → params_at body ≡ Some params → envelope_in served body ≡ asked_in served id params
 unfolding envelope_in
-all_but_asked body at_id at_version at_call at_params = rw (at_id, at_version, at_call, at_params) refl
+all_but_asked served body at_id at_version at_call at_params = rw (at_id, at_version, at_call, at_params) refl

@@ -16,7 +16,7 @@ regroup a q b r s t = simp append_assoc
 
 pub error_pieces : (id : Data) (name message a b c : List ℕ) → a ≡ compact_text (string message) → b ≡ compact_text (string name) → c ≡ compact_text id
     → codes "{\"error\":{\"code\":200,\"data\":{\"message\":" ++ (a ++ (codes ",\"name\":" ++ (b ++ (codes "},\"message\":\"Odoo Server Error\"},\"id\":" ++ (c ++
-        (codes ",\"jsonrpc\":\"2.0\"}" ++ [])))))) ≡ reply_form id (error name message)
+    (codes ",\"jsonrpc\":\"2.0\"}" ++ [])))))) ≡ reply_form id (error name message)
 unfolding serde_json_on_literals digits
 error_pieces id name message a b c ea eb ec =
     rw (ea, eb, ec)

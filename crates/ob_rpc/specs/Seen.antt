@@ -3,7 +3,7 @@ use Rattle.std.specs.Prelude.{◌≡◌, Result, Ok, Err}
 use Rattle.serde_json.specs.Data.{Data, null}
 use Rattle.serde_json.specs.View.{view, items_view}
 use Rattle.ob_rpc.specs.Envelope as spec
-use Rattle.ob_rpc.specs.declared.read.Arity.{Arity}
+use Rattle.ob_rpc.specs.declared.methods.Arity.{Arity}
 use Rattle.ob_rpc.specs.declared.request.Envelope.{Envelope}
 use Rattle.ob_rpc.specs.declared.request.EnvFault.{EnvFault}
 use Rattle.ob_rpc.specs.declared.request.EnvFault.TheVariants.{At, NoMemory}

@@ -4,16 +4,18 @@
 //! `envelope` accepts exactly the stated bodies, else it names the first place that is
 //! wrong with the id that was read, and `reply_text` is the stated text.
 //!
-//! Rooms: `request` (what an envelope holds), `read` (from a body to its envelope or its fault)
-//! and `reply` (from an outcome to its text).
+//! Rooms: `request` (what an envelope holds), `methods` (which services and methods there are),
+//! `read` (from a body to its envelope or its fault) and `reply` (from an outcome to its text).
 #![tactic(auto)]
 
+mod methods;
 mod read;
 mod reply;
 mod request;
 #[cfg(test)]
 mod tests;
 
+pub use methods::Served;
 pub use read::envelope;
 pub use reply::{Outcome, no_memory_reply, reply_forms_are_lines, reply_text};
 pub use request::{EnvFault, Envelope};

@@ -2,6 +2,7 @@
 //! each part and answers none where it is wrong; the order in which `envelope`,
 //! `read_body` and `read_params` ask for the parts is the order in which faults are
 //! told. Parts are moved out of the parsed body and never copied, for a body is large.
+//! Which services and methods there are, `methods` says.
 
 ghost use Rattle.std.specs.Prelude.{◌≡◌, ◌≢◌, ◌≤◌, ℕ, List, false, true, length, map, IfOk, IfErr, IfSome, IfNone, option_map, option_and_then};
 ghost use Rattle.ob_base.specs.declared.place.PathStep.TheVariants.{Key};
@@ -9,49 +10,51 @@ ghost use Rattle.serde_json.specs.Find.{get_member, as_object, as_array};
 ghost use Rattle.serde_json.specs.View.{view, members_view, items_view};
 ghost use Rattle.serde_json.specs.Written.{has_float};
 ghost use Rattle.ob_rpc.specs.Envelope as spec;
-ghost use Rattle.ob_rpc.specs.Envelope.{json_of, text_for, element_place, asked_in, envelope_in};
+ghost use Rattle.ob_rpc.specs.Envelope.{json_of, text_for, element_place, asked_in, envelope_in, Takes};
 ghost use Rattle.std.specs.Str.{bytes_eq};
+ghost use Rattle.ob_rpc.specs.declared.methods.Served.TheVariants.{ExecuteKw};
 ghost use Rattle.ob_rpc.specs.Seen.{seen, seen_arity, answer_id, FaultIs, EnvelopeIs};
 
 use crate::Json;
+use crate::methods::{Arity, Served, arity_of, is_service, wrong_element};
 use crate::request::{EnvFault, Envelope};
 use ob_base::{NoMemory, PathStep, Place, Sequence, Word};
 use serde_json::Map;
 use std::alloc::Global;
 
-/// How many elements the arguments of a method have, from and to.
-#[derive(Clone, Copy, Debug, PartialEq, Eq)]
-struct Arity {
-    least: usize,
-    most: usize,
-}
-
 /// The envelope of a body, or the first place of it that is wrong. A body is one JSON
 /// object; then, in this order: `id` is an integer, a text or null, or absent, which is
 /// null; `jsonrpc` is "2.0" or absent; `method` is "call"; `params` is an object, its
-/// `service` is "object", its `method` is "execute_kw", and its `args` is a list of 6 to
-/// 7 elements. Other keys are unread, and the last of a repeated key counts.
+/// `service` is one that is served, its `method` is one that is served of this service,
+/// and its `args` is a list of as many elements as the method takes. Other keys are
+/// unread, and the last of a repeated key counts.
 ///
 /// `EnvFault::At` tells the place with the id, which is null where none was read before
 /// it: too few elements are told at the first that is missing, too many at the first
 /// that is too much. `EnvFault::NoMemory` comes where an allocation fails.
-pub fn envelope(alloc: Global, body: &[u8]) -> Result<Envelope, EnvFault>
-    ensures ok { IfOk result (λ e. spec.envelope_of body.now ≡ Ok (seen e)) }
-    ensures fault { IfErr result (λ f. FaultIs f (spec.envelope_of body.now)) }
-    // `execute_kw`, so far the one method, takes six or seven elements.
-    ensures elements { IfOk result (λ e. (6 ≤ length e.args) × (length e.args ≤ 7)) }
+pub fn envelope(alloc: Global, served: Served, body: &[u8]) -> Result<Envelope, EnvFault>
+    ensures ok { IfOk result (λ e. spec.envelope_of served body.now ≡ Ok (seen e)) }
+    ensures fault { IfErr result (λ f. FaultIs f (spec.envelope_of served body.now)) }
+    // The elements are as many as the envelope's own method takes.
+    ensures elements { IfOk result (λ e. Takes served e.service e.method (length e.args)) }
+    // Where `execute_kw` alone is served, there are six or seven.
+    ensures execute_kw { IfOk result (λ e. served ≡ ExecuteKw → (6 ≤ length e.args) × (length e.args ≤ 7)) }
     ensures id { has_float (answer_id result) ≡ false }
 {
     let Some(members) = members_of(value_of(alloc, body)?) else {
         return Err(fault_at(alloc, &[], Json::Null));
     };
-    read_body(alloc, members)
+    read_body(alloc, served, members)
 }
 
 /// The envelope in the members of a body.
-fn read_body(alloc: Global, mut body: Map<String, Json>) -> Result<Envelope, EnvFault>
-    ensures envelope { EnvelopeIs result (envelope_in (members_view body.entries)) }
-    ensures elements { IfOk result (λ e. (6 ≤ length e.args) × (length e.args ≤ 7)) }
+fn read_body(
+    alloc: Global,
+    served: Served,
+    mut body: Map<String, Json>,
+) -> Result<Envelope, EnvFault>
+    ensures envelope { EnvelopeIs result (envelope_in served (members_view body.entries)) }
+    ensures elements { IfOk result (λ e. Takes served e.service e.method (length e.args)) }
 {
     let Some(id) = id_of(take(&mut body, "id")) else {
         return Err(fault_at(alloc, &["id"], Json::Null));
@@ -65,18 +68,24 @@ fn read_body(alloc: Global, mut body: Map<String, Json>) -> Result<Envelope, Env
     let Some(params) = members_of(take(&mut body, "params")) else {
         return Err(fault_at(alloc, &["params"], id));
     };
-    read_params(alloc, id, params)
+    read_params(alloc, served, id, params)
 }
 
 /// The envelope of an id and the members of `params`.
-fn read_params(alloc: Global, id: Json, mut params: Map<String, Json>) -> Result<Envelope, EnvFault>
-    ensures envelope { EnvelopeIs result (asked_in (view id) (members_view params.entries)) }
-    ensures elements { IfOk result (λ e. (6 ≤ length e.args) × (length e.args ≤ 7)) }
+fn read_params(
+    alloc: Global,
+    served: Served,
+    id: Json,
+    mut params: Map<String, Json>,
+) -> Result<Envelope, EnvFault>
+    ensures envelope { EnvelopeIs result (asked_in served (view id) (members_view params.entries)) }
+    ensures elements { IfOk result (λ e. Takes served e.service e.method (length e.args)) }
 {
-    let Some(service) = text_equal(take(&mut params, "service"), "object") else {
+    let Some(service) = service_of(served, take(&mut params, "service")) else {
         return Err(fault_at(alloc, &["params", "service"], id));
     };
-    let Some((method, arity)) = method_of(service.as_str(), take(&mut params, "method")) else {
+    let Some((method, arity)) = method_of(served, service.as_str(), take(&mut params, "method"))
+    else {
         return Err(fault_at(alloc, &["params", "method"], id));
     };
     let Some(args) = list_of(take(&mut params, "args")) else {
@@ -177,25 +186,26 @@ fn text_of(given: Option<Json>) -> Option<Word>
     }
 }
 
-/// The method that a service has, and how many elements it takes.
-fn method_of(service: &str, given: Option<Json>) -> Option<(Word, Arity)>
-    ensures found { option_map (λ m. (m.0, seen_arity m.1)) result ≡ spec.method_of service.now (option_map view given) }
-    ensures elements { IfSome result (λ m. (m.1.least ≡ 6) × (m.1.most ≡ 7)) }
+/// The service, where it is served.
+fn service_of(served: Served, given: Option<Json>) -> Option<Word>
+    ensures { result ≡ text_for (spec.is_service served) (option_map view given) }
 {
-    let method = text_of(given)?;
-    let arity = arity_of(service, method.as_str())?;
-    Some((method, arity))
-}
-
-fn arity_of(service: &str, method: &str) -> Option<Arity>
-    ensures found { option_map seen_arity result ≡ spec.arity_of service.now method.now }
-    ensures elements { IfSome result (λ arity. (arity.least ≡ 6) × (arity.most ≡ 7)) }
-{
-    if "object" == service && "execute_kw" == method {
-        Some(Arity { least: 6, most: 7 })
+    let service = text_of(given)?;
+    if is_service(served, service.as_str()) {
+        Some(service)
     } else {
         None
     }
+}
+
+/// The method that a service has, and how many elements it takes.
+fn method_of(served: Served, service: &str, given: Option<Json>) -> Option<(Word, Arity)>
+    ensures found { option_map (λ m. (m.0, seen_arity m.1)) result ≡ spec.method_of served service.now (option_map view given) }
+    ensures arity { IfSome result (λ m. spec.arity_of served service.now m.0 ≡ Some (seen_arity m.1)) }
+{
+    let method = text_of(given)?;
+    let arity = arity_of(served, service, method.as_str())?;
+    Some((method, arity))
 }
 
 fn list_of(given: Option<Json>) -> Option<Sequence<Json>>
@@ -204,20 +214,6 @@ fn list_of(given: Option<Json>) -> Option<Sequence<Json>>
     match given {
         Some(Json::Array(items)) => Some(Sequence::from_vec(items)),
         _ => None,
-    }
-}
-
-/// The number of the first element that is missing, or that is one too many.
-fn wrong_element(arity: Arity, count: usize) -> Option<usize>
-    ensures wrong { result ≡ spec.wrong_element (seen_arity arity) count }
-    ensures none { IfNone result ((arity.least ≤ count) × (count ≤ arity.most)) }
-{
-    if count < arity.least {
-        Some(count)
-    } else if arity.most < count {
-        Some(arity.most)
-    } else {
-        None
     }
 }
 

@@ -12,9 +12,9 @@ use thiserror::Error;
 pub struct Envelope {
     /// An integer, a text or null; null where the body has none.
     pub id: Json,
-    /// The service: `object`.
+    /// The service: `common` or `object`.
     pub service: Word,
-    /// The service's method: `execute_kw`.
+    /// The service's method.
     pub method: Word,
     /// What the method is called with, in order, as many as it takes.
     pub args: Sequence<Json>,

@@ -1,8 +1,9 @@
 //! What no clause says: the exact bytes of replies, and bodies and their faults that
 //! were worked out by hand, and that each call succeeds where memory is left.
 
-use crate::{EnvFault, Json, Outcome, envelope, no_memory_reply, reply_text};
-use ob_base::Word;
+use crate::{EnvFault, Json, Outcome, Served, envelope, no_memory_reply, reply_text};
+use ob_base::{NoMemory, Word};
+use std::alloc::Global;
 use std::test::Fail;
 
 /// Bodies that are no request, the first place that is wrong, and the id.
@@ -186,12 +187,112 @@ const REQUESTS: [(&str, &str, usize); 7] = [
     ),
 ];
 
+/// Bodies, the first place that is wrong where every method is served, and the first one
+/// where `execute_kw` alone is; none where it is a request.
+const METHODS: [(&str, &str, &str); 19] = [
+    (
+        r#"{"method":"call","params":{"service":"common","method":"version","args":[]}}"#,
+        "",
+        "params.service",
+    ),
+    (
+        r#"{"method":"call","params":{"service":"common","method":"version","args":[0]}}"#,
+        "params.args.0",
+        "params.service",
+    ),
+    (
+        r#"{"method":"call","params":{"service":"common","method":"login","args":["stock","admin"]}}"#,
+        "params.args.2",
+        "params.service",
+    ),
+    (
+        r#"{"method":"call","params":{"service":"common","method":"login","args":["stock","admin","admin"]}}"#,
+        "",
+        "params.service",
+    ),
+    (
+        r#"{"method":"call","params":{"service":"common","method":"login","args":["stock","admin","admin",{}]}}"#,
+        "params.args.3",
+        "params.service",
+    ),
+    (
+        r#"{"method":"call","params":{"service":"common","method":"authenticate","args":["stock","admin","admin"]}}"#,
+        "params.args.3",
+        "params.service",
+    ),
+    (
+        r#"{"method":"call","params":{"service":"common","method":"authenticate","args":["stock","admin","admin",{}]}}"#,
+        "",
+        "params.service",
+    ),
+    (
+        r#"{"method":"call","params":{"service":"common","method":"authenticate","args":["stock","admin","admin",{},0]}}"#,
+        "params.args.4",
+        "params.service",
+    ),
+    (
+        r#"{"method":"call","params":{"service":"common","method":"execute_kw","args":["stock",2,"admin","demo.line","create",[]]}}"#,
+        "params.method",
+        "params.service",
+    ),
+    (
+        r#"{"method":"call","params":{"service":"common","method":"about","args":{}}}"#,
+        "params.method",
+        "params.service",
+    ),
+    (
+        r#"{"method":"call","params":{"service":"object","method":"execute","args":["stock",2,"admin","demo.line"]}}"#,
+        "params.args.4",
+        "params.method",
+    ),
+    (
+        r#"{"method":"call","params":{"service":"object","method":"execute","args":["stock",2,"admin","demo.line","create"]}}"#,
+        "",
+        "params.method",
+    ),
+    (
+        r#"{"method":"call","params":{"service":"object","method":"execute","args":["stock",2,"admin","demo.line","create",{},[],0,"",null,1.5]}}"#,
+        "",
+        "params.method",
+    ),
+    (
+        r#"{"method":"call","params":{"service":"object","method":"execute_kw","args":["stock",2,"admin","demo.line","create"]}}"#,
+        "params.args.5",
+        "params.args.5",
+    ),
+    (
+        r#"{"method":"call","params":{"service":"object","method":"execute_kw","args":["stock",2,"admin","demo.line","create",[]]}}"#,
+        "",
+        "",
+    ),
+    (
+        r#"{"method":"call","params":{"service":"object","method":"execute_kw","args":["stock",2,"admin","demo.line","create",[],{}]}}"#,
+        "",
+        "",
+    ),
+    (
+        r#"{"method":"call","params":{"service":"object","method":"execute_kw","args":["stock",2,"admin","demo.line","create",[],{},0]}}"#,
+        "params.args.7",
+        "params.args.7",
+    ),
+    (
+        r#"{"method":"call","params":{"service":"object","method":"login","args":["stock","admin","admin"]}}"#,
+        "params.method",
+        "params.method",
+    ),
+    (
+        r#"{"method":"call","params":{"service":"db","method":"version","args":{}}}"#,
+        "params.service",
+        "params.service",
+    ),
+];
+
 #[test]
 fn reads_the_worked_request(rt: HostRuntime) -> Result<(), Fail> {
     let alloc = rt.alloc();
     let body =
         b"{\"jsonrpc\":\"2.0\",\"method\":\"call\",\"params\":{\"service\":\"object\",\"method\":\"execute_kw\",\"args\":[\"stock\",2,\"admin\",\"demo.line\",\"create\",[{\"name\":\"bolt\",\"qty\":3,\"price\":25}]]},\"id\":1}";
-    let read = envelope(alloc, body)?;
+    let read = envelope(alloc, Served::ExecuteKw, body)?;
     assert_eq!(rt; read.id.as_u64(), Some(1));
     assert!(rt; read.service.as_str() == "object");
     assert!(rt; read.method.as_str() == "execute_kw");
@@ -210,7 +311,7 @@ fn reads_the_worked_request(rt: HostRuntime) -> Result<(), Fail> {
 fn takes_what_is_a_request(rt: HostRuntime) -> Result<(), Fail> {
     let alloc = rt.alloc();
     for (body, id, count) in REQUESTS {
-        let read = envelope(alloc, body.as_bytes())?;
+        let read = envelope(alloc, Served::ExecuteKw, body.as_bytes())?;
         assert_eq!(rt; read.id.to_string(alloc)?.as_str(), id);
         assert_eq!(rt; read.args.len(), count);
     }
@@ -221,7 +322,7 @@ fn takes_what_is_a_request(rt: HostRuntime) -> Result<(), Fail> {
 fn tells_the_first_place_that_is_wrong(rt: HostRuntime) -> Result<(), Fail> {
     let alloc = rt.alloc();
     for (body, place, id) in FAULTS {
-        let Err(EnvFault::At(at, by)) = envelope(alloc, body.as_bytes()) else {
+        let Err(EnvFault::At(at, by)) = envelope(alloc, Served::ExecuteKw, body.as_bytes()) else {
             panic!(rt; "{body}");
         };
         assert_eq!(rt; at.to_word(alloc)?.as_str(), place, "{body}");
@@ -231,8 +332,36 @@ fn tells_the_first_place_that_is_wrong(rt: HostRuntime) -> Result<(), Fail> {
 }
 
 #[test]
+fn takes_as_many_elements_as_a_method_has(rt: HostRuntime) -> Result<(), Fail> {
+    for (body, every_method, execute_kw) in METHODS {
+        let alloc = rt.alloc();
+        assert_eq!(rt;
+            wrong_place(alloc, Served::EveryMethod, body)?.as_str(),
+            every_method,
+            "{body}"
+        );
+        assert_eq!(rt;
+            wrong_place(alloc, Served::ExecuteKw, body)?.as_str(),
+            execute_kw,
+            "{body}"
+        );
+    }
+    Ok(())
+}
+
+/// The first place of a body that is wrong; none where it is a request.
+fn wrong_place(alloc: Global, served: Served, body: &str) -> Result<Word, NoMemory> {
+    match envelope(alloc, served, body.as_bytes()) {
+        Ok(_) => Word::from_text(alloc, ""),
+        Err(EnvFault::At(place, _)) => place.to_word(alloc),
+        Err(EnvFault::NoMemory) => Err(NoMemory),
+    }
+}
+
+#[test]
 fn bytes_that_are_no_text_are_no_request(rt: HostRuntime) {
-    let Err(EnvFault::At(place, id)) = envelope(rt.alloc(), b"{\"id\":\"\xff\"}") else {
+    let Err(EnvFault::At(place, id)) = envelope(rt.alloc(), Served::ExecuteKw, b"{\"id\":\"\xff\"}")
+    else {
         panic!(rt; "not told");
     };
     assert!(rt; place.steps().is_empty());

@@ -12,6 +12,7 @@ use Rattle.ob_base.specs.declared.refusal.Refusal.{Refusal}
 use Rattle.ob_base.specs.declared.refusal.Refusal.TheVariants as refusal
 use Rattle.ob_io.specs.Store.{Store, all_changed}
 use Rattle.ob_rpc.specs.Envelope.{Envelope, Fault, element_place, envelope_of}
+use Rattle.ob_rpc.specs.declared.methods.Served.TheVariants.{ExecuteKw}
 use Rattle.ob_schema.specs.Models.{model_at}
 use Rattle.ob_schema.specs.declared.info.ModelInfo.{ModelInfo}
 use Rattle.ob_orm.specs.declared.creating.Created.{Created}
@@ -140,12 +141,13 @@ element_serves models store old now rose id n reply kept_now stands (inr unmade)
 
 -- who serves the request of a body's envelope serves the body
 pub body_serves : (models : List ModelInfo) (old : Tables) (now moment : ℤ) (rose : Type 0) (body reply : List ℕ) (envelope : Envelope) (kept_now : Option Store)
-    → now ≡ moment → envelope_of body ≡ Ok envelope → Serves models old now rose (request_by envelope.id (call_of models envelope.args)) reply kept_now → Serves models old moment rose (request_of models (envelope_of body)) reply kept_now
+    → now ≡ moment → envelope_of ExecuteKw body ≡ Ok envelope
+    → Serves models old now rose (request_by envelope.id (call_of models envelope.args)) reply kept_now → Serves models old moment rose (request_of models (envelope_of ExecuteKw body)) reply kept_now
 body_serves models old now moment rose body reply envelope kept_now now_is is serves = rw is (rw now_is at serves)
 
 -- the refusal of a body at a place, with the id that was read, serves it
 pub fault_serves : (models : List ModelInfo) (store : Store) (old : Tables) (now : ℤ) (rose : Type 0) (body reply : List ℕ) (fault : Fault) (kept_now : Option Store)
-    → envelope_of body ≡ Err fault → Stands models kept_now store old → MayTell reply (malformed_text models fault.id fault.place) → Serves models old now rose (request_of models (envelope_of body)) reply kept_now
+    → envelope_of ExecuteKw body ≡ Err fault → Stands models kept_now store old → MayTell reply (malformed_text models fault.id fault.place) → Serves models old now rose (request_of models (envelope_of ExecuteKw body)) reply kept_now
 fault_serves models store old now rose body reply fault kept_now is stands (inl tells) = rw is (serves_unchanged models store old now rose (request_of models (Err fault)) reply kept_now stands (inl (tells, refl)))
 fault_serves models store old now rose body reply fault kept_now is stands (inr unmade) = rw is (serves_unchanged models store old now rose (request_of models (Err fault)) reply kept_now stands (inr (refl, inl unmade)))
 

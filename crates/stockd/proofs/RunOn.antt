@@ -3,6 +3,7 @@ use Rattle.std.proofs.Common.{◌≡◌, ℕ, ℤ, List, [], ◌∷◌, ◌++◌
 use Rattle.ob_io.specs.Cause.{Rose}
 use Rattle.ob_orm.specs.Tables.{Tables}
 use Rattle.ob_rpc.specs.Envelope.{envelope_of}
+use Rattle.ob_rpc.specs.declared.methods.Served.TheVariants.{ExecuteKw}
 use Rattle.ob_schema.specs.declared.info.ModelInfo.{ModelInfo}
 use Rattle.stockd.specs.Machine.{State, MayAnswer, Step, Rests, TakesMoment, Run, moments_after}
 use Rattle.stockd.specs.Request.{Request, request_of}
@@ -19,7 +20,7 @@ answer_since models old now request reply new since (inr (same, inr fails)) = in
 -- a step from where the machine rested
 step_since : (models : List ModelInfo) (old past new : State) (body reply : List ℕ) → Rests old past → Step models past body reply new → Step models old body reply new
 step_since models old past new body reply rests step =
-    let request = request_of models (envelope_of body) in
+    let request = request_of models (envelope_of ExecuteKw body) in
     let tables_now = subst (λ t. MayAnswer models t (past.moments 0) (Rose past.faults new.faults) request reply new.tables) rests.tables step.answer in
     let now = subst (λ (m : ℕ → ℤ). MayAnswer models old.tables (m 0) (Rose past.faults new.faults) request reply new.tables) rests.moments tables_now in
     record {
@@ -48,10 +49,10 @@ run_from models old from past (body ∷ bodies) (reply ∷ replies) rests run = 
 
 -- what a clock tells of its moments before a body and after it
 abbrev pub TellsMoments : (before now : Option (ℕ → ℤ)) (body reply : List ℕ) → Type 0
-TellsMoments before now body reply = (now ≡ option_map (moments_after (envelope_of body)) before) ⊎ ((reply ≡ no_memory_text) × (now ≡ before))
+TellsMoments before now body reply = (now ≡ option_map (moments_after (envelope_of ExecuteKw body)) before) ⊎ ((reply ≡ no_memory_text) × (now ≡ before))
 
 -- the moments that are still to come, where a clock tells them
 pub rest_of : (before now : Option (ℕ → ℤ)) (body reply : List ℕ) (past : ℕ → ℤ) → before ≡ Some past → TellsMoments before now body reply → (rest : ℕ → ℤ) × TakesMoment body reply past rest × (now ≡ Some rest)
 rest_of before now body reply past is (inl after) =
-    (moments_after (envelope_of body) past, inl refl, after ∙ ap (option_map (moments_after (envelope_of body))) is)
+    (moments_after (envelope_of ExecuteKw body) past, inl refl, after ∙ ap (option_map (moments_after (envelope_of ExecuteKw body))) is)
 rest_of before now body reply past is (inr same) = (past, inr (same.0, refl), same.1 ∙ is)

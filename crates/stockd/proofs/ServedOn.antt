@@ -13,6 +13,7 @@ use Rattle.ob_schema.specs.Models.{model_at}
 use Rattle.ob_schema.specs.declared.info.ModelInfo.{ModelInfo}
 use Rattle.ob_io.specs.Cause.{Rose}
 use Rattle.ob_rpc.specs.Envelope.{envelope_of}
+use Rattle.ob_rpc.specs.declared.methods.Served.TheVariants.{ExecuteKw}
 use Rattle.stockd.specs.Body.{Serves}
 use Rattle.stockd.specs.Ending.{WritesPart}
 use Rattle.stockd.specs.Machine.{State, Run}
@@ -67,7 +68,7 @@ reply_lines-append replies reply =
 abbrev pub IsAnswered : List ModelInfo → (old new : Standing) (body reply : List ℕ) → Type 0
 IsAnswered models old new body reply =
     (store : Store) (tables : Tables) (moments : ℕ → ℤ) → old.kept ≡ Some store → old.coming ≡ Some moments → Kept models store tables → IsSound models tables
-    → Serves models tables (moments 0) (Rose old.faults new.faults) (request_of models (envelope_of body)) reply new.kept
+    → Serves models tables (moments 0) (Rose old.faults new.faults) (request_of models (envelope_of ExecuteKw body)) reply new.kept
 
 -- where the machine stands after a body more, and what is kept then
 record IsStepped (models : List ModelInfo) (start : Start) (bodies replies : List (List ℕ)) (now : Standing) : Type 0 where

@@ -8,6 +8,7 @@ use Rattle.ob_orm.specs.Tables.{Tables}
 use Rattle.ob_orm.specs.Create.{Creates}
 use Rattle.ob_orm.specs.Read.{Reads}
 use Rattle.ob_rpc.specs.Envelope.{Envelope, Fault, envelope_of}
+use Rattle.ob_rpc.specs.declared.methods.Served.TheVariants.{ExecuteKw}
 use Rattle.ob_schema.specs.Models.{model_at}
 use Rattle.ob_schema.specs.declared.info.ModelInfo.{ModelInfo}
 use Rattle.stockd.specs.Request.{Call, Method, create, read, Request, called, malformed, request_of}
@@ -45,7 +46,7 @@ moments_after (Err fault) moments = moments
 -- the moments that are still to come once a body was answered so: none is taken where
 -- memory was wanting before the request was read
 abbrev pub TakesMoment : (body reply : List ℕ) → (moments rest : ℕ → ℤ) → Type 0
-TakesMoment body reply moments rest = (rest ≡ moments_after (envelope_of body) moments) ⊎ ((reply ≡ no_memory_text) × (rest ≡ moments))
+TakesMoment body reply moments rest = (rest ≡ moments_after (envelope_of ExecuteKw body) moments) ⊎ ((reply ≡ no_memory_text) × (rest ≡ moments))
 
 -- where the machine stands: its tables, the moments that are still to come, and how often the keeper has failed
 pub record State : Type 0 where
@@ -55,7 +56,7 @@ pub record State : Type 0 where
 
 -- the machine may give this reply to the body, and go on so
 pub record Step (models : List ModelInfo) (old : State) (body reply : List ℕ) (new : State) : Type 0 where
-  pub answer : MayAnswer models old.tables (old.moments 0) (Rose old.faults new.faults) (request_of models (envelope_of body)) reply new.tables
+  pub answer : MayAnswer models old.tables (old.moments 0) (Rose old.faults new.faults) (request_of models (envelope_of ExecuteKw body)) reply new.tables
   pub moment : TakesMoment body reply old.moments new.moments
   pub count : old.faults ≤ new.faults
 

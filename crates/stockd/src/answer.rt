@@ -8,6 +8,7 @@ ghost use Rattle.ob_base.specs.Times.{IsMoment};
 ghost use Rattle.ob_io.specs.Cause.{Rose};
 ghost use Rattle.ob_io.specs.Store.{Store, IsChangeFit, all_changed};
 ghost use Rattle.ob_rpc.specs.Envelope.{element_place, envelope_of};
+ghost use Rattle.ob_rpc.specs.declared.methods.Served.TheVariants.{ExecuteKw};
 ghost use Rattle.ob_rpc.specs.Reply.{error, reply_form, reply_of, OutcomeHasNoFloat};
 ghost use Rattle.ob_orm.specs.RefusalText.{refusal_message, refusal_name};
 ghost use Rattle.ob_orm.specs.Tables.{Tables};
@@ -28,7 +29,7 @@ use ob_base::{Ledger, NoMemory, RecId, Refusal, Steps, Word};
 use ob_call::Call;
 use ob_io::{Clock, KeepFault, Keeper};
 use ob_orm::{Created, create, read, refusal_text};
-use ob_rpc::{EnvFault, Envelope, Json, Outcome, envelope, no_memory_reply, reply_text};
+use ob_rpc::{EnvFault, Envelope, Json, Outcome, Served, envelope, no_memory_reply, reply_text};
 use ob_schema::Schema;
 use serde_json::Map;
 use std::alloc::Global;
@@ -70,15 +71,15 @@ pub(crate) fn answer<K: Keeper, C: Clock, L: Ledger>(
     ensures served { (store : Store) (tables : Tables) (moments : ℕ → ℤ) → K.kept keeper.old ≡ Some store → C.coming clock.old ≡ Some moments
         → Kept schema.now store tables → IsSound schema.now tables
         → Serves schema.now tables (moments 0) (Rose (K.faults keeper.old) (K.faults keeper.new))
-        (request_of schema.now (envelope_of body.now)) (text_of result) (K.kept keeper.new) }
+        (request_of schema.now (envelope_of ExecuteKw body.now)) (text_of result) (K.kept keeper.new) }
     // A request takes one moment. Where memory is wanting to read the body, none is taken.
-    ensures moments { (C.coming clock.new ≡ option_map (moments_after (envelope_of body.now)) (C.coming clock.old))
+    ensures moments { (C.coming clock.new ≡ option_map (moments_after (envelope_of ExecuteKw body.now)) (C.coming clock.old))
         ⊎ ((text_of result ≡ no_memory_text) × (C.coming clock.new ≡ C.coming clock.old)) }
     // Rows of other models stay.
     ensures others { OthersStay line_model (K.kept keeper.old) (K.kept keeper.new) }
     ensures count { K.faults keeper.old ≤ K.faults keeper.new }
 {
-    match envelope(alloc, body) {
+    match envelope(alloc, Served::ExecuteKw, body) {
         Ok(envelope) => {
             let now = clock.now();
             serve(alloc, keeper, now, schema, steps, &envelope)
