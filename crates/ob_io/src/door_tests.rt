@@ -63,6 +63,7 @@ fn tcp_door_passes_bytes_both_ways(rt: HostRuntime) -> Result<(), Fail> {
     peer.shutdown(Shutdown::Write)?;
     assert_eq!(rt; door.read(&mut room), Ok(0));
     door.shut();
+    assert!(rt; matches!(peer.read(&mut room), Ok(0)));
     assert_eq!(rt; door.next(), Ok(false));
     Ok(())
 }
