@@ -8,7 +8,7 @@ use Rattle.ob_http.specs.Head.{head_of}
 use Rattle.ob_http.specs.Item.{Item, fault, ended, cut, IsItem, Tells, goes_on, is_interim_due}
 use Rattle.ob_http.specs.Reply.{interim_bytes}
 use Rattle.ob_http.specs.Written.{Wrote, WroteFront}
-use Rattle.ob_http.specs.Connection.{Connection, coming_bytes, Sent, ReadsOn, Receives, StopsReading, StopsWriting}
+use Rattle.ob_http.specs.Connection.{Connection, coming_bytes, Sent, ReadsOn, Receives, StopsReading, StopsWriting, AsksInterim, WritesInterim}
 use Rattle.ob_http.specs.Front.{EndsBefore}
 use Rattle.ob_http.specs.declared.inlet.Inlet.{Inlet}
 use Rattle.ob_http.specs.declared.inlet.Inlet.TheVariants as inlet
@@ -131,3 +131,16 @@ stops_after {before} {mid} {part} now more reads bytes_are stopped =
       due = s.due;
       written = subst (λ w. WroteFront w now.written interim_bytes) reads.written s.written;
     })
+
+-- reading writes nothing
+pub reads_only : {before now : Connection} {part : List ℕ} → ReadsOn before now part → Wrote before.written now.written []
+reads_only {before} {now} reads = wrote_none before.written now.written false reads.written refl
+
+-- the front was read ahead, and then memory was wanting
+pub wanting_after : {before mid : Connection} {part : List ℕ} (now : Connection) → ReadsOn before mid part → mid.ahead.bytes ≡ before.ahead.bytes ++ part → Wrote mid.written now.written [] ⊎ WritesInterim mid now
+    → Wrote before.written now.written [] ⊎ WritesInterim before now
+wanting_after {before} {mid} {part} now reads bytes_are (inl none) = inl (subst (λ w. Wrote w now.written []) reads.written none)
+wanting_after {before} {mid} {part} now reads bytes_are (inr wrote) = inr (record {
+  written = subst (λ w. Wrote w now.written interim_bytes) reads.written wrote.written;
+  due = subst (λ o. IfSome o (λ bytes. AsksInterim bytes)) (sym (coming_kept reads.sent bytes_are)) wrote.due;
+})

@@ -1,5 +1,5 @@
 -- What a connection shows once a head has come.
-use Rattle.std.proofs.Common.{◌≡◌, ℕ, ◌<◌, ◌≤◌, Bool, true, List, [], ◌++◌, length, take, drop, refl, sym, ap, ◌∙◌, subst, arith, inl, inr, append_assoc, length-append, Option, Some, option_map, Result, Ok, Err}
+use Rattle.std.proofs.Common.{◌≡◌, ℕ, ◌<◌, ◌≤◌, Bool, true, false, List, [], ◌++◌, length, take, drop, refl, sym, ap, ◌∙◌, subst, arith, inl, inr, append_assoc, length-append, Option, Some, option_map, Result, Ok, Err}
 use Rattle.std.specs.Prelude.{◌⊎◌, IfSome, if◌then◌else◌}
 use Rattle.std.proofs.lemmas.List.{append-nil, take-append-le, drop-append-le}
 use Rattle.ob_base.specs.Limits.{max_head_bytes}
@@ -7,7 +7,7 @@ use Rattle.ob_http.specs.Head.{Head, head_of, Asks}
 use Rattle.ob_http.specs.Item.{post, fault, cut, IsItem, Tells}
 use Rattle.ob_http.specs.Reply.{interim_bytes}
 use Rattle.ob_http.specs.Written.{Wrote, WroteFront}
-use Rattle.ob_http.specs.Connection.{Ahead, Connection, connection_of, coming_bytes, more_taken, Sent, ReadsOn, Receives, StopsReading, StopsWriting}
+use Rattle.ob_http.specs.Connection.{Ahead, Connection, connection_of, coming_bytes, more_taken, Sent, ReadsOn, Receives, StopsReading, StopsWriting, AsksInterim, WritesInterim}
 use Rattle.ob_http.specs.Front.{BeginsWithHead}
 use Rattle.ob_http.specs.declared.inlet.Inlet.{Inlet}
 use Rattle.ob_http.specs.declared.inlet.Inlet.TheVariants as inlet
@@ -130,18 +130,38 @@ stops_in_body before mid now {size} {part} message begins few asked h reads shor
       interim = written_on h reads;
     }))
 
+-- the interim line is due, as the head tells
+due_behind : (before : Connection) {size : HeadSize} (message : Message) (begins : BeginsWithHead before.ahead.bytes size) → length before.ahead.bytes ≤ max_head_bytes
+    → Asks (take size.size before.ahead.bytes) begins.head (Ok message) → message.interim ≡ true → (bytes : List ℕ) → coming_bytes before ≡ Some bytes → AsksInterim bytes
+due_behind before {size} message begins few asked due bytes is =
+    let told = told_coming before.ahead.bytes before.left bytes is in
+    let item = due_item message (drop size.size before.ahead.bytes ++ told.0) in record {
+      item = item.0;
+      rest = item.1;
+      is_item = subst (λ bs. IsItem bs item.0 item.1) (sym told.2) (with_head told.0 begins few (Ok message) asked item.0 item.1 item.2);
+      due = item.3 ∙ due;
+    }
+
 -- the interim line was due, and writing it failed
 pub stops_in_interim : (before now : Connection) {size : HeadSize} (part : List ℕ) (message : Message) (begins : BeginsWithHead before.ahead.bytes size) → length before.ahead.bytes ≤ max_head_bytes
     → Asks (take size.size before.ahead.bytes) begins.head (Ok message) → message.interim ≡ true → WroteFront before.written now.written interim_bytes
     → IfSome (coming_bytes before) (λ bytes. StopsReading before now part ⊎ StopsWriting before now bytes)
 stops_in_interim before now {size} part message begins few asked due wrote =
     if_coming (coming_bytes before) _ (λ bytes is.
-    let told = told_coming before.ahead.bytes before.left bytes is in
-    let item = due_item message (drop size.size before.ahead.bytes ++ told.0) in
+    let asks = due_behind before message begins few asked due bytes is in
     inr (record {
-      item = item.0;
-      rest = item.1;
-      is_item = subst (λ bs. IsItem bs item.0 item.1) (sym told.2) (with_head told.0 begins few (Ok message) asked item.0 item.1 item.2);
-      due = item.3 ∙ due;
+      item = asks.item;
+      rest = asks.rest;
+      is_item = asks.is_item;
+      due = asks.due;
       written = wrote;
     }))
+
+-- memory was wanting behind the head
+pub wanting_in_body : (before mid now : Connection) {size : HeadSize} {part : List ℕ} (message : Message) (begins : BeginsWithHead before.ahead.bytes size) → length before.ahead.bytes ≤ max_head_bytes
+    → Asks (take size.size before.ahead.bytes) begins.head (Ok message) → BehindHead before mid size message.interim → ReadsOn mid now part → Wrote before.written now.written [] ⊎ WritesInterim before now
+wanting_in_body before mid now {size} {part} message begins few asked h reads = where_due message.interim refl (written_on h reads)
+  where
+    where_due : (due : Bool) → message.interim ≡ due → Wrote before.written now.written (if due then interim_bytes else []) → Wrote before.written now.written [] ⊎ WritesInterim before now
+    where_due true is wrote = inr (record { written = wrote; due = if_coming (coming_bytes before) _ (λ bytes comes. due_behind before message begins few asked is bytes comes) })
+    where_due false is wrote = inl wrote

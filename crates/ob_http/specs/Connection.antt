@@ -1,5 +1,5 @@
 -- What a connection shows between two calls, and what one call does to it.
-use Rattle.std.specs.Prelude.{◌≡◌, ℕ, ◌+◌, ◌-◌, ◌^◌, min, List, [], ◌++◌, length, true, Option, Some, option_map, if◌then◌else◌}
+use Rattle.std.specs.Prelude.{◌≡◌, ℕ, ◌+◌, ◌-◌, ◌^◌, min, List, [], ◌++◌, length, true, Option, Some, IfSome, option_map, if◌then◌else◌}
 use Rattle.ob_http.specs.declared.inlet.Inlet.{Inlet}
 use Rattle.ob_http.specs.Item.{Item, IsItem, Tells, goes_on, is_end, is_interim_due}
 use Rattle.ob_http.specs.Reply.{interim_bytes}
@@ -64,3 +64,15 @@ pub record StopsWriting (before now : Connection) (bytes : List ℕ) : Type 0 wh
   pub is_item : IsItem bytes item rest
   pub due : is_interim_due item ≡ true
   pub written : WroteFront before.written now.written interim_bytes
+
+-- the interim line is due before the reply to what these bytes begin with
+pub record AsksInterim (bytes : List ℕ) : Type 0 where
+  pub item : Item
+  pub rest : List ℕ
+  pub is_item : IsItem bytes item rest
+  pub due : is_interim_due item ≡ true
+
+-- the interim line was written, once and whole, and was due
+pub record WritesInterim (before now : Connection) : Type 0 where
+  pub written : Wrote before.written now.written interim_bytes
+  pub due : IfSome (coming_bytes before) (λ bytes. AsksInterim bytes)

@@ -3,7 +3,7 @@
 ghost use Rattle.std.specs.Prelude.{◌≡◌, ◌≤◌, ◌⊎◌, ℕ, List, [], Ok, Err, IfOk, IfSome, IsErr, IsTrue, OnOk, OnErr, length, if◌then◌else◌};
 ghost use Rattle.ob_base.specs.Limits.{max_head_bytes};
 ghost use Rattle.ob_io.specs.Cause.{Rose, HasCause};
-ghost use Rattle.ob_http.specs.Connection.{connection_of, coming_bytes, Sent, Receives, StopsReading, StopsWriting};
+ghost use Rattle.ob_http.specs.Connection.{connection_of, coming_bytes, Sent, Receives, StopsReading, StopsWriting, WritesInterim};
 ghost use Rattle.ob_http.specs.Reply.{IsFaultStatus, interim_bytes};
 ghost use Rattle.ob_http.specs.Written.{Wrote, WroteFront};
 ghost use Rattle.ob_http.specs.Front.{BeginsWithHead};
@@ -31,6 +31,11 @@ pub fn next_request<D: Door>(door: &mut D, held: &mut Held) -> Result<Inlet, Htt
         (part : List ℕ) × Sent before now part
         × (result ≡ Err HttpFault.Failed → IfSome (coming_bytes before) (λ bytes.
         StopsReading before now part ⊎ StopsWriting before now bytes)) }
+
+    // Where memory was wanting, nothing was written but the interim line, and that only where it is due.
+    ensures memory { let before = connection_of held.old (D.left door.old) (D.written door.old) in
+        let now = connection_of held.new (D.left door.new) (D.written door.new) in
+        result ≡ Err HttpFault.NoMemory → Wrote before.written now.written [] ⊎ WritesInterim before now }
     ensures failed { result ≡ Err HttpFault.Failed → Rose (D.faults door.old) (D.faults door.new) }
     ensures no_fall { D.faults door.old ≤ D.faults door.new }
     ensures others { (D.coming door.new ≡ D.coming door.old) × (D.next_faults door.new ≡ D.next_faults door.old) }
@@ -56,6 +61,9 @@ fn take_message<D: Door>(door: &mut D, held: &mut Held, head: HeadSize) -> Resul
         (part : List ℕ) × Sent before now part
         × (result ≡ Err HttpFault.Failed → IfSome (coming_bytes before) (λ bytes.
         StopsReading before now part ⊎ StopsWriting before now bytes)) }
+    ensures memory { let before = connection_of held.old (D.left door.old) (D.written door.old) in
+        let now = connection_of held.new (D.left door.new) (D.written door.new) in
+        result ≡ Err HttpFault.NoMemory → Wrote before.written now.written [] ⊎ WritesInterim before now }
     ensures cause { HasCause (D.faults door.old) (D.faults door.new)
         (result ≡ Err HttpFault.Failed) }
     ensures others { (D.coming door.new ≡ D.coming door.old) × (D.next_faults door.new ≡ D.next_faults door.old) }

@@ -1,11 +1,11 @@
 -- What the front of the bytes is tells the item, or a head whose message is taken.
-use Rattle.std.proofs.Common.{◌++◌}
+use Rattle.std.proofs.Common.{◌++◌, inl}
 use Rattle.std.proofs.lemmas.Result.{err_from_is_err_and}
 use Rattle.ob_http.specs.declared.inlet.HttpFault.TheVariants.{Failed}
 use Rattle.ob_http.specs.declared.lines.Front.TheVariants as front
 use Rattle.ob_http.proofs.ReadingOn.{sent_both}
 use Rattle.ob_http.proofs.FrontLaws.{front_is}
-use Rattle.ob_http.proofs.ConnectionLaws.{receives_too_long, receives_ended, receives_part, stops_in_front, receives_result, stops_after}
+use Rattle.ob_http.proofs.ConnectionLaws.{receives_too_long, receives_ended, receives_part, stops_in_front, receives_result, stops_after, reads_only, wanting_after}
 use Rattle.ob_http.proofs.MessageLaws.{same_fault}
 use Rattle.ob_http.proofs.request.next_request.Goals as goal
 
@@ -20,6 +20,9 @@ returns-in_err-head-clause-sent g c =
           stops_in_front read.reads stops.0 stops.1,
     )
 
+pub returns-in_err-head-clause-memory : goal.returns-in_err-head-clause-memory
+returns-in_err-head-clause-memory g c = λ wanting. inl (reads_only c.in_err-head.ensures.reads.reads)
+
 pub returns-in-Head-clause-item : goal.returns-in-Head-clause-item
 returns-in-Head-clause-item g c =
     let read = front_is (front.Head c.in-Head.head) c.in-Head.is c.in_ok-head.ensures.reads in
@@ -30,6 +33,11 @@ returns-in-Head-clause-sent g c =
     let read = front_is (front.Head c.in-Head.head) c.in-Head.is c.in_ok-head.ensures.reads in
     let sent = c.take_message.ensures.sent in
     (read.part ++ sent.0, sent_both read.part sent.0 read.reads.sent sent.1, λ failed. stops_after _ sent.0 read.reads read.front.0 (sent.2 failed))
+
+pub returns-in-Head-clause-memory : goal.returns-in-Head-clause-memory
+returns-in-Head-clause-memory g c =
+    let read = front_is (front.Head c.in-Head.head) c.in-Head.is c.in_ok-head.ensures.reads in
+    λ wanting. wanting_after _ read.reads read.front.0 (c.take_message.ensures.memory wanting)
 
 pub returns-in-TooLong-clause-item : goal.returns-in-TooLong-clause-item
 returns-in-TooLong-clause-item g c =

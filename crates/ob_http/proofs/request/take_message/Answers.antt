@@ -7,7 +7,7 @@ use Rattle.ob_http.specs.declared.inlet.HttpFault.TheVariants.{Failed}
 use Rattle.ob_http.specs.declared.inlet.Inlet.TheVariants.{Post}
 use Rattle.ob_http.proofs.ReadingOn.{sent_nothing}
 use Rattle.ob_http.proofs.ItemLaws.{fault_of_asks}
-use Rattle.ob_http.proofs.MessageLaws.{receives_fault, behind_head, sent_behind, asked_held, same_status, same_fault, receives_body, receives_cut, stops_in_body, stops_in_interim}
+use Rattle.ob_http.proofs.MessageLaws.{receives_fault, behind_head, sent_behind, asked_held, same_status, same_fault, receives_body, receives_cut, stops_in_body, stops_in_interim, wanting_in_body}
 use Rattle.ob_http.proofs.request.take_message.Goals as goal
 
 pub returns-in-Err-clause-item : goal.returns-in-Err-clause-item
@@ -40,6 +40,12 @@ returns-in_err-body-clause-sent g c =
       sent_behind h takes.reads,
       λ failed. stops_in_body _ _ _ c.in-Ok.message c.requires c.bytes.ensures.few asked h takes.reads (takes.failed (same_fault c.from_residual-in_err-body.result p.0 c.in_err-body.field-0.0 Failed p.1 p.2 failed)),
     )
+
+pub returns-in_err-body-clause-memory : goal.returns-in_err-body-clause-memory
+returns-in_err-body-clause-memory g c =
+    let asked = asked_held (Ok c.in-Ok.message) c.args.head.size c.bytes.ensures.value c.in-Ok.ensures c.requires.head c.requires.head_is in
+    let h = behind_head c.args.head c.in-Ok.message.interim c.pass.ensures.passes c.write_due.ensures.others.1 c.in_ok-write_due.ensures.ok in
+    λ wanting. wanting_in_body _ _ _ c.in-Ok.message c.requires c.bytes.ensures.few asked h c.in_err-body.ensures.takes.reads
 
 pub returns-in-Some-clause-item : goal.returns-in-Some-clause-item
 returns-in-Some-clause-item g c =
