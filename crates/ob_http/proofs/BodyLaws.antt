@@ -34,7 +34,8 @@ left_after None now n part bytes rest = ap (option_map (λ left. part ++ left)) 
 left_after (Some left) now n part bytes rest =
     ap Some (sym (take-append-drop n left) ∙ ap (λ p. p ++ drop n left) (sym bytes.1)) ∙ ap (option_map (λ l. part ++ l)) (sym rest)
 
-pub reads_part : {before now : Option (List ℕ)} {room_before room_now : List ℕ} {n : ℕ} (written written' : Option (List (List ℕ))) (bytes bytes' : List ℕ) (taken taken' : ℕ) → Reads before now room_before room_now n → length room_now ≡ length room_before
+pub reads_part : {before now : Option (List ℕ)} {room_before room_now : List ℕ} {n : ℕ} (written written' : Option (List (List ℕ))) (bytes bytes' : List ℕ) (taken taken' : ℕ)
+    → Reads before now room_before room_now n → length room_now ≡ length room_before
     → written' ≡ written → taken' ≡ more_taken taken n
     → ReadsOn (connection_of (record { bytes = bytes; taken = taken }) before written) (connection_of (record { bytes = bytes'; taken = taken' }) now written') (take n room_now)
 reads_part {before} {now} {room_before} {room_now} {n} written written' bytes bytes' taken taken' reads room same counted = record {
@@ -58,7 +59,8 @@ front_more size n held part room items filled is open_room fits given front =
     let more : length (held ++ (part ++ take n room)) ≤ size = omega (arith, length-append held part, length-append held (part ++ take n room), length-append part (take n room), length-take-le n room given) in
     ap (λ bs. bs ++ take n room) (front ∙ whole) ∙ append_assoc held part (take n room) ∙ sym (take_all size (held ++ (part ++ take n room)) more)
 
-pub rest_more : (size n : ℕ) (held part room rest : List ℕ) (filled : ℕ) → filled ≡ min size (length (held ++ part)) → filled < size → filled + n ≤ size → n ≤ length room → rest ≡ drop size (held ++ part) → rest ≡ drop size (held ++ (part ++ take n room))
+pub rest_more : (size n : ℕ) (held part room rest : List ℕ) (filled : ℕ) → filled ≡ min size (length (held ++ part)) → filled < size → filled + n ≤ size → n ≤ length room
+    → rest ≡ drop size (held ++ part) → rest ≡ drop size (held ++ (part ++ take n room))
 rest_more size n held part room rest filled is open_room fits given rest_is =
     rest_is ∙ drop_all size (held ++ part) (omega arith)
     ∙ sym (drop_all size (held ++ (part ++ take n room)) (omega (arith, length-append held part, length-append held (part ++ take n room), length-append part (take n room), length-take-le n room given)))

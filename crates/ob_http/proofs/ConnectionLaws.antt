@@ -40,7 +40,8 @@ wrote_none before now due same none =
     subst (λ b. Wrote before now (if b then interim_bytes else [])) (sym none) (subst (λ w. Wrote before w []) (sym same) (wrote_nothing before))
 
 -- An item after which nothing more comes, and before whose reply no interim line is due.
-pub receives_end : {before now : Connection} (bytes : List ℕ) (item : Item) (told : Inlet) → IsItem bytes item [] → Tells told item → is_interim_due item ≡ false → goes_on item ≡ false → now.written ≡ before.written → Receives before now bytes told
+pub receives_end : {before now : Connection} (bytes : List ℕ) (item : Item) (told : Inlet) → IsItem bytes item [] → Tells told item → is_interim_due item ≡ false → goes_on item ≡ false
+    → now.written ≡ before.written → Receives before now bytes told
 receives_end {before} {now} bytes item told is tells due ends same = record {
   item = item;
   rest = [];
@@ -50,14 +51,16 @@ receives_end {before} {now} bytes item told is tells due ends same = record {
   rest_comes = λ goes. absurd (cc);
 }
 
-pub receives_too_long : {before mid : Connection} {part : List ℕ} → ReadsOn before mid part → mid.ahead.bytes ≡ before.ahead.bytes ++ part → head_of mid.ahead.bytes ≡ None → max_head_bytes ≤ length mid.ahead.bytes → length mid.ahead.bytes ≤ max_head_bytes
+pub receives_too_long : {before mid : Connection} {part : List ℕ} → ReadsOn before mid part → mid.ahead.bytes ≡ before.ahead.bytes ++ part → head_of mid.ahead.bytes ≡ None
+    → max_head_bytes ≤ length mid.ahead.bytes → length mid.ahead.bytes ≤ max_head_bytes
     → IfSome (coming_bytes before) (λ bytes. Receives before mid bytes (inlet.Bad 431))
 receives_too_long {before} {mid} {part} reads bytes_are none long few =
     if_coming (coming_bytes before) _ (λ bytes is.
     let told = told_coming mid.ahead.bytes mid.left bytes (sym (coming_kept reads.sent bytes_are) ∙ is) in
     receives_end bytes (fault 431) (inlet.Bad 431) (subst (λ bs. IsItem bs (fault 431) []) (sym told.2) (too_long_item mid.ahead.bytes told.0 none (omega arith))) refl refl refl reads.written)
 
-ended_bytes : {before mid : Connection} {part : List ℕ} (bytes : List ℕ) → ReadsOn before mid part → mid.ahead.bytes ≡ before.ahead.bytes ++ part → EndsBefore mid.ahead.bytes mid.left → coming_bytes before ≡ Some bytes → bytes ≡ mid.ahead.bytes
+ended_bytes : {before mid : Connection} {part : List ℕ} (bytes : List ℕ) → ReadsOn before mid part → mid.ahead.bytes ≡ before.ahead.bytes ++ part → EndsBefore mid.ahead.bytes mid.left
+    → coming_bytes before ≡ Some bytes → bytes ≡ mid.ahead.bytes
 ended_bytes {before} {mid} {part} bytes reads bytes_are ends is =
     let told = told_coming mid.ahead.bytes mid.left bytes (sym (coming_kept reads.sent bytes_are) ∙ is) in
     let none : told.0 ≡ [] = subst (λ o. IfSome o (λ rest. rest ≡ [])) told.1 ends.ended in
@@ -109,7 +112,8 @@ receives_result now (Ok told) reads bytes received = receives_after now told rea
 receives_result now (Err why) reads bytes received = tt
 
 -- the front was read ahead, and then a read or a write failed
-pub stops_after : {before mid : Connection} {part : List ℕ} (now : Connection) (more : List ℕ) → ReadsOn before mid part → mid.ahead.bytes ≡ before.ahead.bytes ++ part → IfSome (coming_bytes mid) (λ bytes. StopsReading mid now more ⊎ StopsWriting mid now bytes)
+pub stops_after : {before mid : Connection} {part : List ℕ} (now : Connection) (more : List ℕ) → ReadsOn before mid part → mid.ahead.bytes ≡ before.ahead.bytes ++ part
+    → IfSome (coming_bytes mid) (λ bytes. StopsReading mid now more ⊎ StopsWriting mid now bytes)
     → IfSome (coming_bytes before) (λ bytes. StopsReading before now (part ++ more) ⊎ StopsWriting before now bytes)
 stops_after {before} {mid} {part} now more reads bytes_are stopped =
     if_coming (coming_bytes before) _ (λ bytes is. either bytes (subst (λ o. IfSome o (λ bs. StopsReading mid now more ⊎ StopsWriting mid now bs)) (sym (coming_kept reads.sent bytes_are) ∙ is) stopped))

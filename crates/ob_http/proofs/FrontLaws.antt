@@ -30,7 +30,8 @@ pub front_found : {before now : Connection} {part : List ℕ} {size : HeadSize} 
 front_found {before} {now} {part} reads bytes found = record { part = part; reads = reads; front = (bytes, found); failed = λ is. absurd (cc) }
 
 -- it is too long
-pub front_too_long : {before now : Connection} {part : List ℕ} → ReadsOn before now part → now.ahead.bytes ≡ before.ahead.bytes ++ part → head_of now.ahead.bytes ≡ None → max_head_bytes ≤ length now.ahead.bytes → ReadsFront before now (Ok front.TooLong)
+pub front_too_long : {before now : Connection} {part : List ℕ} → ReadsOn before now part → now.ahead.bytes ≡ before.ahead.bytes ++ part → head_of now.ahead.bytes ≡ None
+    → max_head_bytes ≤ length now.ahead.bytes → ReadsFront before now (Ok front.TooLong)
 front_too_long {before} {now} {part} reads bytes none long = record { part = part; reads = reads; front = (bytes, (none, long)); failed = λ is. absurd (cc) }
 
 -- a read that gave nothing

@@ -18,7 +18,8 @@ use Rattle.ob_http.proofs.ConnectionLaws.{if_coming, told_coming, receives_end}
 use Rattle.ob_http.proofs.ItemLaws.{with_head, body_follows, cut_follows, due_item}
 
 -- the head isn't served
-pub receives_fault : (before now : Connection) {size : HeadSize} (begins : BeginsWithHead before.ahead.bytes size) → length before.ahead.bytes ≤ max_head_bytes → (status : ℕ) → Asks (take size.size before.ahead.bytes) begins.head (Err status)
+pub receives_fault : (before now : Connection) {size : HeadSize} (begins : BeginsWithHead before.ahead.bytes size) → length before.ahead.bytes ≤ max_head_bytes → (status : ℕ)
+    → Asks (take size.size before.ahead.bytes) begins.head (Err status)
     → now.written ≡ before.written → IfSome (coming_bytes before) (λ bytes. Receives before now bytes (inlet.Bad status))
 receives_fault before now {size} begins few status asked same =
     if_coming (coming_bytes before) _ (λ bytes is.
@@ -60,7 +61,8 @@ sent_behind {before} {mid} {now} {size} {interim} {part} h reads = record {
 }
 
 -- what a head asks for, in the bytes that are held
-pub asked_held : {bytes held : List ℕ} (found : Result Message ℕ) (n : ℕ) → bytes ≡ held → ((whole : Head) → head_of (take n bytes) ≡ Some whole → Asks (take n bytes) whole found) → (head : Head) → head_of (take n held) ≡ Some head → Asks (take n held) head found
+pub asked_held : {bytes held : List ℕ} (found : Result Message ℕ) (n : ℕ) → bytes ≡ held → ((whole : Head) → head_of (take n bytes) ≡ Some whole → Asks (take n bytes) whole found) → (head : Head)
+    → head_of (take n held) ≡ Some head → Asks (take n held) head found
 asked_held {bytes} {held} found n same asked = subst (λ bs. (head : Head) → head_of (take n bs) ≡ Some head → Asks (take n bs) head found) same asked
 
 pub same_status : (a b : ℕ) → (let left : Result Inlet HttpFault = Ok (inlet.Bad a) in let right : Result Inlet HttpFault = Ok (inlet.Bad b) in left ≡ right) → a ≡ b

@@ -15,13 +15,22 @@ loop-filled-preserved g c =
     let reads = c.in_ok-count.ensures.reads in
     let items : c.deref_mut.result.now ≡ c.loop-filled.body.items = c.deref_mut.ensures.value in
     let len : c.loop-filled.body.len ≡ length c.deref_mut.result.now = sym c.deref_mut.ensures.len in
-    let room_size : length room ≡ c.args.size - filled = omega (arith, c.read.auto.room, length-take (length c.deref_mut.result.now - filled) (drop filled c.deref_mut.result.now), length-drop filled c.deref_mut.result.now, ap length items, i.room) in
+    let room_size : length room ≡ c.args.size - filled = omega (
+      arith,
+      c.read.auto.room,
+      length-take (length c.deref_mut.result.now - filled)
+          (drop filled c.deref_mut.result.now),
+      length-drop filled c.deref_mut.result.now,
+      ap length items,
+      i.room,
+    ) in
     let given : n ≤ length room = omega (arith, reads.fits, c.read.auto.room) in
     let fits : filled + n ≤ c.args.size = omega (arith, given, room_size, c.loop-filled-test.true) in
     let same = c.count.ensures in
     record {
       part = i.part ++ take n room;
-      reads = reads_both i.part (take n room) i.reads (rw same (reads_part (g.D.Door.written c.loop-filled.door) (g.D.Door.written c.read.new.self) c.loop-filled.self.bytes c.loop-filled.self.bytes c.loop-filled.self.taken _ reads c.read.auto.room c.read.ensures.others.1 refl));
+      reads = reads_both i.part (take n room) i.reads (rw same (reads_part (g.D.Door.written c.loop-filled.door)
+          (g.D.Door.written c.read.new.self) c.loop-filled.self.bytes c.loop-filled.self.bytes c.loop-filled.self.taken _ reads c.read.auto.room c.read.ensures.others.1 refl));
       room = length-written_room c.deref_mut.result.now c.loop-filled.body.items room _ filled c.loop-filled.body.len len (sym (ap length items)) ∙ i.room;
       count = filled_more c.args.size n c.args.self.now.bytes i.part room filled i.count c.loop-filled-test.true fits given;
       front = front-written_room c.deref_mut.result.now c.loop-filled.body.items room _ filled c.loop-filled.body.len n len (omega (arith, fits, len, ap length items, i.room)) given
