@@ -7,8 +7,8 @@
 # items is taken off. The least of five runs counts. Figures, no test.
 set -euo pipefail
 top=$(cd "$(dirname "$0")/.." && pwd)
-items=${1:-20000}
-times=${2:-200}
+items=${1:-10000}
+times=${2:-300}
 probe=$("$top/tools/proved.sh" stockd_probe)
 work=$(mktemp -d)
 trap 'rm -rf "$work"' EXIT
