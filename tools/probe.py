@@ -1,7 +1,8 @@
 """Asks the probe and the libraries of an independent machine the same, over random values.
 
 usage: probe.py ORACLE SEED COUNT [WORD]. Without the word all words are asked, by turns at
-random. Ends with 1 where an answer differs.
+random. Of a word whose lines are always the same all are asked, whatever the count. Ends
+with 1 where an answer differs.
 """
 import importlib
 import random
@@ -189,21 +190,26 @@ def expression(rng, model):
 
 
 def makers():
-    """What makes lines of each word: of the words about stock and of connections only where the machine has their functions."""
-    found = {"row": row, "value": value, "order": order, "day": day, "moment": moment, "expression": expression}
-    for part, words in (("probe_stock", "takes, lines, state, split, chain and push"), ("probe_http", "http")):
+    """What makes lines of each word, and all lines of some: of the words about stock and of connections only where the machine has their functions."""
+    runs, found = {}, {"row": row, "value": value, "order": order, "day": day, "moment": moment, "expression": expression}
+    for part, words in (("probe_stock", "takes, lines, state, split, chain and push"), ("probe_http", "http and http_cuts")):
         try:
-            found.update(importlib.import_module(part).MAKERS)
+            module = importlib.import_module(part)
+            found.update(module.MAKERS)
+            runs.update(getattr(module, "RUNS", {}))
         except ImportError:
             print("no functions of %s to compare with in %s: skipped" % (words, sys.argv[1]))
-    return found
+    return found, runs
 
 
 def asked_and_wanted():
-    """So many lines with the answers that are wanted, of one word or of all."""
-    rng, model, found = random.Random(int(sys.argv[2])), declared(), makers()
+    """So many lines with the answers that are wanted, of one word or of all; or all lines of a word of a run."""
+    rng, model = random.Random(int(sys.argv[2])), declared()
+    found, runs = makers()
     # Rows and values have more forms than the others.
     words = sys.argv[4:] or [*found, "row", "value", "value"]
+    if words[0] in runs:
+        return runs[words[0]]()
     if words[0] not in found:
         print("nothing to compare with for %s: skipped" % words[0])
         return []

@@ -23,6 +23,13 @@ LINES = ("POST /jsonrpc HTTP/1.1",) * 100 + ("POST /jsonrpc HTTP/1.0", "POST /js
     "P@ST /jsonrpc HTTP/1.1", "POST /jsonrp\xe9 HTTP/1.1", "POST /jsonrpc HTTP/2.0", "POST /jsonrpc HTTP/0.9", "POST /jsonrpc HTTP/1.2", "POST /jsonrpc HTTP/01.1",
     "POST /jsonrpc HTTP/1.1 ", " POST /jsonrpc HTTP/1.1", "POST  /jsonrpc HTTP/1.1", "POST /jsonrpc  HTTP/2.0", "POST /jsonrpc http/2.0", "POST /jsonrpc HTTP/1",
     "POST /jsonrpc\tHTTP/1.1", "\xe9 /jsonrpc HTTP/2.0", "POST", "POST /jsonrpc", "\r", "\r\r", "POST /jsonrpc HTTP/1.1\r", "POST /jsonrpc HTTP/2.0\r")
+# The worked request of a login, its body, and what is changed in its head.
+BODY = (b'{"jsonrpc":"2.0","method":"call","params":{"service":"common","method":"login",'
+        b'"args":["stock","admin","admin"]},"id":1}')
+LOGIN = (b"POST /jsonrpc HTTP/1.1\r\nHost: 127.0.0.1:8069\r\nContent-Type: application/json\r\n"
+         b"Content-Length: 120\r\n\r\n" + BODY)
+CHANGES = ((b"", b""), (b"Host: 127.0.0.1:8069", b"Expect: 100-continue"), (b"Length: 120", b"Length: 8388609"),
+           (b"Content-Length: 120\r\n", b""), (b"POST", b"GET"), (b"/jsonrpc ", b"/web "), (b"HTTP/1.1", b"HTTP/2.0"))
 coming, traffic = [], []
 
 
@@ -152,7 +159,22 @@ def connection(rng, _model):
         coming.append(data[:rng.randrange(len(data) + 1)] if rng.random() < 0.1 else data)
     data, cut = coming.pop(), rng.choice(CUTS)
     fails = 0 if rng.random() < 0.8 else rng.randint(2, 2 + len(data) // (READ if cut == "whole" else int(cut)) + 12)
+    return asked(data, cut, fails)
+
+
+def asked(data, cut, fails=0):
+    """A line of the probe about a connection, with its answers."""
     return "http %s %d %s" % (cut, fails, data.hex()), Items(data, cut, fails)
 
 
+def every_cut():
+    """The worked request and those with a change in the head, ended at each place; the whole in pieces of each length."""
+    changed = [LOGIN.replace(old, new, 1) if old else LOGIN for old, new in CHANGES]
+    lines = dict(asked(data[:end], cut) for data in changed for end in range(len(data) + 1) for cut in CUTS)
+    lines.update(asked(data, str(cut)) for data in changed for cut in range(1, len(data)))
+    return list(lines.items())
+
+
 MAKERS = {"http": connection}
+# The words whose lines are always the same.
+RUNS = {"http_cuts": every_cut}

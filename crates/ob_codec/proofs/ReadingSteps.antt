@@ -51,7 +51,8 @@ below_push ids id before below above = All-push (λ (i : RecId). i.0 ≤ id.0) i
 -- ---- values
 
 -- the kept ones of the fields from a place on
-pub kept_more : (fields : List FieldInfo) (i : ℕ) (field : FieldInfo) → i < length fields → field ≡ get_or fields i field → is_kept field ≡ true → filter is_kept (drop i fields) ≡ field ∷ filter is_kept (drop (i + 1) fields)
+pub kept_more : (fields : List FieldInfo) (i : ℕ) (field : FieldInfo) → i < length fields → field ≡ get_or fields i field → is_kept field ≡ true
+    → filter is_kept (drop i fields) ≡ field ∷ filter is_kept (drop (i + 1) fields)
 kept_more fields i field lt at kept =
     ap (filter is_kept) (drop_more fields i field lt ∙ ap (λ (f : FieldInfo). f ∷ drop (i + 1) fields) (sym at))
     ∙ ap (λ (b : Bool). cond b (field ∷ filter is_kept (drop (i + 1) fields)) (filter is_kept (drop (i + 1) fields))) kept
@@ -78,7 +79,8 @@ values_more all rest field values bytes v left whole more read same =
     ∙ ap (λ (o : Option (Value × List ℕ)). listed_after values (option_and_then (λ x. option_and_then (λ vs. Some (x.0 ∷ vs)) (body_values rest x.1)) o)) read)
     ∙ same
 
-pub values_pass : (all rest : List FieldInfo) (values : List Value) (bytes : List ℕ) (whole : Option (List Value)) → all ≡ rest → listed_after values (body_values all bytes) ≡ whole → listed_after values (body_values rest bytes) ≡ whole
+pub values_pass : (all rest : List FieldInfo) (values : List Value) (bytes : List ℕ) (whole : Option (List Value)) → all ≡ rest → listed_after values (body_values all bytes) ≡ whole
+    → listed_after values (body_values rest bytes) ≡ whole
 values_pass all rest values bytes whole pass same = ap (λ (fs : List FieldInfo). listed_after values (body_values fs bytes)) (sym pass) ∙ same
 
 -- nothing is left to read

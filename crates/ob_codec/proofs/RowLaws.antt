@@ -166,7 +166,8 @@ first_held all rest field values v more holds some at = first_kept rest field va
   first_kept rest field (x ∷ values) v holds some at = subst HasContent (sym at) (HasContent-from_IsValueOf field.field_type field.selection x holds.0)
 
 -- the head and the fields, after nothing
-pub written : (fields : List FieldInfo) (values : List Value) (start head out : List ℕ) → HoldAll fields values → start ≡ [] → head ≡ start ++ head_form (length values) → out ≡ head ++ forms fields values → out ≡ row_form fields values
+pub written : (fields : List FieldInfo) (values : List Value) (start head out : List ℕ) → HoldAll fields values → start ≡ [] → head ≡ start ++ head_form (length values)
+    → out ≡ head ++ forms fields values → out ≡ row_form fields values
 written fields values start head out holds e0 e1 e2 =
     e2 ∙ ap (λ (h : List ℕ). h ++ forms fields values) (e1 ∙ ap (λ (s : List ℕ). s ++ head_form (length values)) e0)
     ∙ ap (λ (n : ℕ). head_form n ++ forms fields values) (length-values fields values holds)
@@ -199,7 +200,8 @@ few_kept fields few = omega (arith, length-filter is_kept fields, count_by-le-le
 
 -- ---- what the reading of a body says of its rows
 
-pub read_ok : (fields : List FieldInfo) (body : List ℕ) (r : Result (List Value) RowFault) → IsBytes body → IsRowResult (λ values. values) r (body_row fields body) → IfOk r (λ values. HoldAll fields values × (body ≡ row_form fields values))
+pub read_ok : (fields : List FieldInfo) (body : List ℕ) (r : Result (List Value) RowFault) → IsBytes body → IsRowResult (λ values. values) r (body_row fields body)
+    → IfOk r (λ values. HoldAll fields values × (body ≡ row_form fields values))
 read_ok fields body (Ok values) fits given = row_takes fields body values fits given
 read_ok fields body (Err e) fits given = tt
 

@@ -280,7 +280,8 @@ ids_again before (id ∷ ids) rest rises =
 abbrev rows_form : List RecId → List ℕ
 rows_form ids = to_be_bytes w32 (length ids) ++ flat_map id_form ids
 
-rows_takes : (limit : ℕ) (P : Value → Type 0) → ((ids : List RecId) → IsTargets ids → length ids ≤ limit → P (Refs ids)) → (bytes : List ℕ) (x : Value × List ℕ) → IsBytes bytes → body_rows limit bytes ≡ Some x → Took 7 P bytes x
+rows_takes : (limit : ℕ) (P : Value → Type 0) → ((ids : List RecId) → IsTargets ids → length ids ≤ limit → P (Refs ids)) → (bytes : List ℕ) (x : Value × List ℕ) → IsBytes bytes
+    → body_rows limit bytes ≡ Some x → Took 7 P bytes x
 unfolding body_rows
 rows_takes limit P holds bytes x fits e =
     let a = bind_some (body_number w32 bytes) _ x e in
@@ -340,7 +341,8 @@ unset_holds type.Many2one choices e = tt
 unset_holds type.One2many choices e = absurd cc
 unset_holds type.Many2many choices e = absurd cc
 
-pub tagged_takes : (t : FieldType) (choices : List Choice) (tag : ℕ) (bytes : List ℕ) (x : Value × List ℕ) → IsBytes bytes → body_tagged t choices tag bytes ≡ Some x → Takes (tag ∷ bytes) (content_of x.0) x.1 × IsValueOf t choices x.0
+pub tagged_takes : (t : FieldType) (choices : List Choice) (tag : ℕ) (bytes : List ℕ) (x : Value × List ℕ) → IsBytes bytes → body_tagged t choices tag bytes ≡ Some x
+    → Takes (tag ∷ bytes) (content_of x.0) x.1 × IsValueOf t choices x.0
 unfolding body_tagged
 tagged_takes t choices tag bytes x fits e =
     elim (chosen (eqb tag 0) (cond (has_unset t) (Some (Nil, bytes)) None) (cond (eqb tag (tag_of t)) (body_content t choices bytes) None) (Some x) e) [

@@ -5,7 +5,7 @@ use Rattle.std.proofs.lemmas.Bool.{ltb-true}
 use Rattle.httparse.specs.Grammar.{RequestHead, ReadsRequest}
 use Rattle.ob_base.specs.Limits.{max_head_fields}
 use Rattle.ob_http.specs.declared.head.Message.{Message}
-use Rattle.ob_http.specs.Head.{Head, head_of, has_other_version, Reads, Asks}
+use Rattle.ob_http.specs.Head.{Head, head_of, has_other_version, ReadsMessage, Asks}
 use Rattle.ob_http.proofs.HeadLines.{as_many_fields}
 
 -- one head is at the front of bytes
@@ -14,20 +14,20 @@ one_head bytes a b first second = let same : Some a ≡ Some b = sym first ∙ s
 
 -- where the first checks pass, the grammar decides
 pub reads_asked : (bytes : List ℕ) (known : Head) (found : Result Message ℕ) → known.fields ≤ max_head_fields → has_other_version known.line ≡ false
-    → Reads bytes found → Asks bytes known found
+    → ReadsMessage bytes found → Asks bytes known found
 reads_asked bytes known found few served reads = at (nat_lt max_head_fields known.fields) refl
   where
-    version : (b : Bool) → has_other_version known.line ≡ b → MatchBool b (found ≡ Err 505) (Reads bytes found)
+    version : (b : Bool) → has_other_version known.line ≡ b → MatchBool b (found ≡ Err 505) (ReadsMessage bytes found)
     version true e = let clash : true ≡ false = sym e ∙ served in absurd (cc)
     version false e = reads
 
-    at : (b : Bool) → nat_lt max_head_fields known.fields ≡ b → MatchBool b (found ≡ Err 431) (MatchBool (has_other_version known.line) (found ≡ Err 505) (Reads bytes found))
+    at : (b : Bool) → nat_lt max_head_fields known.fields ≡ b → MatchBool b (found ≡ Err 431) (MatchBool (has_other_version known.line) (found ≡ Err 505) (ReadsMessage bytes found))
     at true e = let many = ltb-true max_head_fields known.fields e in absurd (omega arith)
     at false e = version (has_other_version known.line) refl
 
 -- bytes that are no request with so few fields are no request
 pub none_reads : (bytes : List ℕ) (known : Head) (room : ℕ) → head_of bytes ≡ Some known → known.fields ≤ room
-    → ((head : RequestHead) → ReadsRequest bytes head [] → length head.fields ≤ room → ⊥) → Reads bytes (Err 400)
+    → ((head : RequestHead) → ReadsRequest bytes head [] → length head.fields ≤ room → ⊥) → ReadsMessage bytes (Err 400)
 none_reads bytes known room is few none =
     inr ((λ head reads. none head reads (omega (arith, as_many_fields bytes known head is reads))), refl)
 

@@ -16,7 +16,8 @@ length-written_room items old room post filled len is same =
     length-take-le len (front ++ drop (length front) old) (omega (arith, is, same, length-append front (drop (length front) old), length-drop (length front) old)) ∙ is ∙ sym same
 
 -- its front goes on by what was read
-pub front-written_room : (items old room post : List ℕ) (filled len n : ℕ) → len ≡ length items → filled + n ≤ len → n ≤ length room → take (filled + n) (written_room items old room post filled len) ≡ take filled items ++ take n room
+pub front-written_room : (items old room post : List ℕ) (filled len n : ℕ) → len ≡ length items → filled + n ≤ len → n ≤ length room
+    → take (filled + n) (written_room items old room post filled len) ≡ take filled items ++ take n room
 front-written_room items old room post filled len n is fits given =
     let front = take filled items in
     let count : length front ≡ filled = length-take-le filled items (omega arith) in
@@ -29,7 +30,8 @@ front-written_room items old room post filled len n is fits given =
 
 -- what a read gives is a part of what is left
 
-left_after : (before now : Option (List ℕ)) (n : ℕ) (part : List ℕ) → IfSome before (λ left. (n ≤ length left) × (part ≡ take n left)) → now ≡ option_map (drop n) before → before ≡ option_map (λ left. part ++ left) now
+left_after : (before now : Option (List ℕ)) (n : ℕ) (part : List ℕ) → IfSome before (λ left. (n ≤ length left) × (part ≡ take n left)) → now ≡ option_map (drop n) before
+    → before ≡ option_map (λ left. part ++ left) now
 left_after None now n part bytes rest = ap (option_map (λ left. part ++ left)) (sym rest)
 left_after (Some left) now n part bytes rest =
     ap Some (sym (take-append-drop n left) ∙ ap (λ p. p ++ drop n left) (sym bytes.1)) ∙ ap (option_map (λ l. part ++ l)) (sym rest)
@@ -48,7 +50,8 @@ reads_part {before} {now} {room_before} {room_now} {n} written written' bytes by
 
 -- the body grows by a part where it isn't full
 
-pub filled_more : (size n : ℕ) (held part room : List ℕ) (filled : ℕ) → filled ≡ min size (length (held ++ part)) → filled < size → filled + n ≤ size → n ≤ length room → filled + n ≡ min size (length (held ++ (part ++ take n room)))
+pub filled_more : (size n : ℕ) (held part room : List ℕ) (filled : ℕ) → filled ≡ min size (length (held ++ part)) → filled < size → filled + n ≤ size → n ≤ length room
+    → filled + n ≡ min size (length (held ++ (part ++ take n room)))
 filled_more size n held part room filled is open_room fits given =
     omega (arith, length-append held part, length-append held (part ++ take n room), length-append part (take n room), length-take-le n room given)
 

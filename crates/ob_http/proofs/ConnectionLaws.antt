@@ -5,10 +5,10 @@ use Rattle.std.proofs.lemmas.List.{append-nil}
 use Rattle.ob_base.specs.Limits.{max_head_bytes}
 use Rattle.ob_http.specs.Lines.{are_empty_lines}
 use Rattle.ob_http.specs.Head.{head_of}
-use Rattle.ob_http.specs.Item.{Item, fault, ended, cut, IsItem, Tells, goes_on, is_interim_due}
+use Rattle.ob_http.specs.Item.{Item, fault, ended, cut, IsItem, TellsItem, goes_on, is_interim_due}
 use Rattle.ob_http.specs.Reply.{interim_bytes}
 use Rattle.ob_http.specs.Written.{Wrote, WroteFront}
-use Rattle.ob_http.specs.Connection.{Connection, coming_bytes, Sent, ReadsOn, Receives, StopsReading, StopsWriting, AsksInterim, WritesInterim}
+use Rattle.ob_http.specs.Connection.{Connection, coming_bytes, Sent, ReadsOn, Receives, FailsReading, FailsWriting, AsksInterim, WritesInterim}
 use Rattle.ob_http.specs.Front.{EndsBefore}
 use Rattle.ob_http.specs.declared.inlet.Inlet.{Inlet}
 use Rattle.ob_http.specs.declared.inlet.Inlet.TheVariants as inlet
@@ -40,7 +40,7 @@ wrote_none before now due same none =
     subst (λ b. Wrote before now (if b then interim_bytes else [])) (sym none) (subst (λ w. Wrote before w []) (sym same) (wrote_nothing before))
 
 -- An item after which nothing more comes, and before whose reply no interim line is due.
-pub receives_end : {before now : Connection} (bytes : List ℕ) (item : Item) (told : Inlet) → IsItem bytes item [] → Tells told item → is_interim_due item ≡ false → goes_on item ≡ false
+pub receives_end : {before now : Connection} (bytes : List ℕ) (item : Item) (told : Inlet) → IsItem bytes item [] → TellsItem told item → is_interim_due item ≡ false → goes_on item ≡ false
     → now.written ≡ before.written → Receives before now bytes told
 receives_end {before} {now} bytes item told is tells due ends same = record {
   item = item;
@@ -82,7 +82,7 @@ receives_part {before} {mid} {part} reads bytes_are ends some =
 
 -- a read failed before a head had come
 pub stops_in_front : {before now : Connection} {part : List ℕ} → ReadsOn before now part → head_of (before.ahead.bytes ++ part) ≡ None → length (before.ahead.bytes ++ part) < max_head_bytes
-    → IfSome (coming_bytes before) (λ bytes. StopsReading before now part ⊎ StopsWriting before now bytes)
+    → IfSome (coming_bytes before) (λ bytes. FailsReading before now part ⊎ FailsWriting before now bytes)
 stops_in_front {before} {now} {part} reads none few =
     let ends = ends_in (before.ahead.bytes ++ part) none few in
     if_coming (coming_bytes before) _ (λ bytes is. inl (record {
@@ -93,7 +93,8 @@ stops_in_front {before} {now} {part} reads none few =
     }))
 
 -- the front was read ahead, and then an item came in
-pub receives_after : {before mid : Connection} {part : List ℕ} (now : Connection) (told : Inlet) → ReadsOn before mid part → mid.ahead.bytes ≡ before.ahead.bytes ++ part → IfSome (coming_bytes mid) (λ bytes. Receives mid now bytes told)
+pub receives_after : {before mid : Connection} {part : List ℕ} (now : Connection) (told : Inlet) → ReadsOn before mid part → mid.ahead.bytes ≡ before.ahead.bytes ++ part
+    → IfSome (coming_bytes mid) (λ bytes. Receives mid now bytes told)
     → IfSome (coming_bytes before) (λ bytes. Receives before now bytes told)
 receives_after {before} {mid} {part} now told reads bytes_are received =
     if_coming (coming_bytes before) _ (λ bytes is.
@@ -113,15 +114,15 @@ receives_result now (Err why) reads bytes received = tt
 
 -- the front was read ahead, and then a read or a write failed
 pub stops_after : {before mid : Connection} {part : List ℕ} (now : Connection) (more : List ℕ) → ReadsOn before mid part → mid.ahead.bytes ≡ before.ahead.bytes ++ part
-    → IfSome (coming_bytes mid) (λ bytes. StopsReading mid now more ⊎ StopsWriting mid now bytes)
-    → IfSome (coming_bytes before) (λ bytes. StopsReading before now (part ++ more) ⊎ StopsWriting before now bytes)
+    → IfSome (coming_bytes mid) (λ bytes. FailsReading mid now more ⊎ FailsWriting mid now bytes)
+    → IfSome (coming_bytes before) (λ bytes. FailsReading before now (part ++ more) ⊎ FailsWriting before now bytes)
 stops_after {before} {mid} {part} now more reads bytes_are stopped =
-    if_coming (coming_bytes before) _ (λ bytes is. either bytes (subst (λ o. IfSome o (λ bs. StopsReading mid now more ⊎ StopsWriting mid now bs)) (sym (coming_kept reads.sent bytes_are) ∙ is) stopped))
+    if_coming (coming_bytes before) _ (λ bytes is. either bytes (subst (λ o. IfSome o (λ bs. FailsReading mid now more ⊎ FailsWriting mid now bs)) (sym (coming_kept reads.sent bytes_are) ∙ is) stopped))
   where
     joined : mid.ahead.bytes ++ more ≡ before.ahead.bytes ++ (part ++ more)
     joined = ap (λ bs. bs ++ more) bytes_are ∙ append_assoc before.ahead.bytes part more
 
-    either : (bytes : List ℕ) → StopsReading mid now more ⊎ StopsWriting mid now bytes → StopsReading before now (part ++ more) ⊎ StopsWriting before now bytes
+    either : (bytes : List ℕ) → FailsReading mid now more ⊎ FailsWriting mid now bytes → FailsReading before now (part ++ more) ⊎ FailsWriting before now bytes
     either bytes (inl s) = inl (record {
       item = s.item;
       is_item = subst (λ bs. IsItem bs s.item []) joined s.is_item;

@@ -1,12 +1,12 @@
 -- A text that is cut at the first byte of a kind.
-use Rattle.std.proofs.Common.{◌≡◌, ℕ, ◌+◌, ◌-◌, ◌&&◌, Bool, true, false, cond, List, [], ◌∷◌, length, take, drop, Some, None, refl, sym, ap, ◌∙◌, arith, nat_lt}
+use Rattle.std.proofs.Common.{◌≡◌, ℕ, ◌+◌, ◌-◌, Bool, true, false, cond, List, [], ◌∷◌, length, take, drop, Some, None, refl, sym, ap, ◌∙◌, arith, nat_lt}
 use Rattle.std.specs.List.{slice_split, position, position_or_len, before_first, count_by}
 use Rattle.std.specs.Bool.{◌==◌}
 use Rattle.std.proofs.lemmas.List.{take_rest, take_all}
 use Rattle.std.proofs.lemmas.List.Sums.{fails_before_first}
 use Rattle.std.proofs.lemmas.List.Splits.{slice_split_first, slice_split_none, length-slice_split}
 use Rattle.std.proofs.lemmas.Bool.{ltb-true, ltb-false}
-use Rattle.ob_http.specs.Head.{end_in_other_version, has_other_version, is_other_version}
+use Rattle.ob_http.specs.Head.{end_in_other_version, has_other_version}
 
 -- the byte of a space
 abbrev is_space : ℕ → Bool
@@ -60,18 +60,3 @@ pub four_words : (line after_method version after_version method target word : L
 four_words line after_method version after_version method target word first second third =
     let more = part_first is_space after_version in
     ap end_in_other_version (first ∙ ap (λ l. method ∷ l) (second ∙ ap (λ l. target ∷ l) (third ∙ ap (λ l. word ∷ l) more.2)))
-
--- two cuts leave three
-pub three_words : (line after_method version method target : List ℕ)
-    → slice_split is_space line ≡ method ∷ slice_split is_space after_method → slice_split is_space after_method ≡ target ∷ slice_split is_space version
-    → slice_split is_space version ≡ version ∷ []
-    → has_other_version line ≡ (nat_lt 0 (length method) && nat_lt 0 (length target) && is_other_version version)
-three_words line after_method version method target first second third =
-    ap end_in_other_version (first ∙ ap (λ l. method ∷ l) (second ∙ ap (λ l. target ∷ l) third))
-
-pub two_words : (line after_method method : List ℕ)
-    → slice_split is_space line ≡ method ∷ slice_split is_space after_method → slice_split is_space after_method ≡ after_method ∷ [] → has_other_version line ≡ false
-two_words line after_method method first second = ap end_in_other_version (first ∙ ap (λ l. method ∷ l) second)
-
-pub one_word : (line : List ℕ) → slice_split is_space line ≡ line ∷ [] → has_other_version line ≡ false
-one_word line first = ap end_in_other_version first

@@ -5,17 +5,17 @@ use Rattle.std.specs.List.{list_all, after_last}
 use Rattle.std.proofs.lemmas.Bool.{eq-eqb, ne_eqb, and_from, and_left, and_right, not_from_false, not_from_true}
 use Rattle.std.proofs.lemmas.List.{length-drop}
 use Rattle.std.proofs.lemmas.List.Sums.{list_all-from_AllPass, suffix_len_is}
-use Rattle.ob_http.specs.Lines.{is_line_feed, ended_lines, is_empty_line, are_empty_lines}
+use Rattle.ob_http.specs.Lines.{ends_line, ended_lines, is_empty_line, are_empty_lines}
 use Rattle.ob_http.specs.SoFar.{HasCome, IsSoFar, NoFeed}
 use Rattle.ob_http.specs.declared.lines.LinesSoFar.{LinesSoFar}
 use Rattle.ob_http.proofs.SoFarLaws.{ended_so_far}
 
 -- how many bytes stand after the last line feed
-length-after_last : {bytes : List ℕ} {s : LinesSoFar} → IsSoFar bytes s → s.searched ≡ length bytes → length (after_last is_line_feed bytes) ≡ length bytes - s.start
+length-after_last : {bytes : List ℕ} {s : LinesSoFar} → IsSoFar bytes s → s.searched ≡ length bytes → length (after_last ends_line bytes) ≡ length bytes - s.start
 length-after_last {bytes} {s} h all =
     let none : NoFeed bytes s.start (length bytes) = subst (NoFeed bytes s.start) all h.no_feed in
     let within : s.start ≤ length bytes = omega (arith, h.start, h.searched) in
-    let count = suffix_len_is (λ b. not (is_line_feed b)) bytes s.start 0 within (λ k low high. not_from_false _ (none k low high)) (λ some. not_from_true _ (h.feed_before some)) in
+    let count = suffix_len_is (λ b. not (ends_line b)) bytes s.start 0 within (λ k low high. not_from_false _ (none k low high)) (λ some. not_from_true _ (h.feed_before some)) in
     ap (λ n. length (drop (length bytes - n) bytes)) count ∙ length-drop (length bytes - (length bytes - s.start)) bytes ∙ omega arith
 
 fails_at : (p : List ℕ → Bool) (xs ys : List (List ℕ)) (y : List ℕ) → p y ≡ false → list_all p (xs ++ y ∷ ys) ≡ false
@@ -31,7 +31,7 @@ ends_empty {bytes} {s} h all none at_end =
     let come : HasCome h.lines None s.fields = subst (λ o. HasCome h.lines o s.fields) none h.come in
     let lines : ended_lines bytes ≡ h.lines = ended_so_far h (subst (NoFeed bytes s.start) all h.no_feed) in
     and_from _ _ (ap (list_all is_empty_line) lines ∙ list_all-from_AllPass is_empty_line h.lines come.0)
-    (eq-eqb (length (after_last is_line_feed bytes)) 0 (length-after_last h all ∙ omega arith))
+    (eq-eqb (length (after_last ends_line bytes)) 0 (length-after_last h all ∙ omega arith))
 
 pub ends_in_text : {bytes : List ℕ} {s : LinesSoFar} → IsSoFar bytes s → s.searched ≡ length bytes → (s.line ≡ None → ⊥) → are_empty_lines bytes ≡ false
 ends_in_text {bytes} {s} h all some =
@@ -41,4 +41,4 @@ ends_in_text {bytes} {s} h all some =
 pub ends_in_line : {bytes : List ℕ} {s : LinesSoFar} → IsSoFar bytes s → s.searched ≡ length bytes → (s.start ≡ length bytes → ⊥) → are_empty_lines bytes ≡ false
 ends_in_line {bytes} {s} h all open_line =
     let within : s.start ≤ length bytes = omega (arith, h.start, h.searched) in
-    and_right _ _ (ne_eqb (length (after_last is_line_feed bytes)) 0 (λ e. open_line (omega (arith, length-after_last h all))))
+    and_right _ _ (ne_eqb (length (after_last ends_line bytes)) 0 (λ e. open_line (omega (arith, length-after_last h all))))

@@ -7,7 +7,7 @@ use Rattle.std.proofs.lemmas.Bool.Decides.{nat_tests}
 use Rattle.std.proofs.lemmas.List.{take_at, drop_at, drop_all, get_or_at, get_or_append_left, take-append-le, drop-append-le, length-drop}
 use Rattle.std.proofs.lemmas.List.Elements.{All-cons, All-head, All-tail}
 use Rattle.std.proofs.lemmas.List.Folds.{prefix_len-append}
-use Rattle.ob_http.specs.Lines.{ended_lines, line_text, is_empty_line, lines_size}
+use Rattle.ob_http.specs.Lines.{ended_lines, line_text, is_empty_line, size_with_feeds}
 use Rattle.ob_http.specs.Head.{Head, head_in, head_of}
 use Rattle.ob_http.proofs.LineLaws.{ended_longer}
 
@@ -34,13 +34,14 @@ prefix_stays p xs ys less = grind (arith, prefix_len-append, nat_tests)
 
 -- the head of lines of which so many are blank and so many have text
 abbrev pub head_at : List (List ℕ) → ℕ → ℕ → Head
-head_at lines blank texts = record { line = line_text (get_or lines blank []); fields = texts - 1; size = lines_size (take (blank + texts + 1) lines) }
+head_at lines blank texts = record { line = line_text (get_or lines blank []); fields = texts - 1; size = size_with_feeds (take (blank + texts + 1) lines) }
 
 -- that head, where an empty line comes after them
 abbrev head_with : List (List ℕ) → ℕ → ℕ → Option Head
 head_with lines blank texts = cond (ltb (blank + texts) (length lines)) (Some (head_at lines blank texts)) None
 
-head_counted : (lines : List (List ℕ)) (blank texts : ℕ) (tail : List (List ℕ)) → prefix_len is_empty_line lines ≡ blank → drop blank lines ≡ tail → prefix_len is_full_line tail ≡ texts → head_in lines ≡ head_with lines blank texts
+head_counted : (lines : List (List ℕ)) (blank texts : ℕ) (tail : List (List ℕ)) → prefix_len is_empty_line lines ≡ blank → drop blank lines ≡ tail
+    → prefix_len is_full_line tail ≡ texts → head_in lines ≡ head_with lines blank texts
 head_counted lines blank texts tail b d t =
     let first : head_in lines ≡ head_with lines blank (prefix_len is_full_line (drop blank lines)) = ap (λ n. head_with lines n (prefix_len is_full_line (drop n lines))) b in
     first ∙ ap (λ ls. head_with lines blank (prefix_len is_full_line ls)) d ∙ ap (head_with lines blank) t
@@ -62,7 +63,7 @@ no_head_open blank rest text all full others =
 
 -- an empty line after them ends a head
 pub head_found : (blank fields more : List (List ℕ)) (text last : List ℕ) → AllPass is_empty_line blank → is_empty_line text ≡ false → AllPass is_full_line fields → is_empty_line last ≡ true
-    → head_in ((blank ++ text ∷ fields) ++ last ∷ more) ≡ Some (record { line = line_text text; fields = length fields; size = lines_size ((blank ++ text ∷ fields) ++ last ∷ []) })
+    → head_in ((blank ++ text ∷ fields) ++ last ∷ more) ≡ Some (record { line = line_text text; fields = length fields; size = size_with_feeds ((blank ++ text ∷ fields) ++ last ∷ []) })
 head_found blank fields more text last all full others end =
     let lines = (blank ++ text ∷ fields) ++ last ∷ more in
     let texts = text ∷ fields in
@@ -80,7 +81,7 @@ head_found blank fields more text last all full others end =
     let front : take (n + m + 1) lines ≡ before ++ last ∷ [] = ap (take (n + m + 1)) lines_again ∙ take_at (before ++ last ∷ []) more (n + m + 1) (omega (arith, count, length-append before (last ∷ []))) in
     head_counted lines n m (texts ++ last ∷ more) b d t
     ∙ ap (λ c. cond c (Some (head_at lines n m)) None) (lt-ltb (n + m) (length lines) within)
-    ∙ ap Some (same_head _ _ _ _ _ _ (ap line_text line) (omega arith) (ap lines_size front))
+    ∙ ap Some (same_head _ _ _ _ _ _ (ap line_text line) (omega arith) (ap size_with_feeds front))
   where
     same_head : (line line' : List ℕ) (fields fields' size size' : ℕ) → line ≡ line' → fields ≡ fields' → size ≡ size'
         → let h : Head = record { line = line; fields = fields; size = size } in let h' : Head = record { line = line'; fields = fields'; size = size' } in h ≡ h'
@@ -95,8 +96,8 @@ head_stays lines more blank texts head b t is =
     let d' : drop blank (lines ++ more) ≡ drop blank lines ++ more = drop-append-le blank lines more (omega arith) in
     let t' : prefix_len is_full_line (drop blank lines ++ more) ≡ texts = prefix_stays is_full_line (drop blank lines) more (omega (arith, length-drop blank lines)) ∙ t in
     let same : head_at (lines ++ more) blank texts ≡ head_at lines blank texts =
-    ap (λ l. record { line = line_text l; fields = texts - 1; size = lines_size (take (blank + texts + 1) (lines ++ more)) }) (get_or_append_left lines more [] blank (omega arith))
-    ∙ ap (λ ls. record { line = line_text (get_or lines blank []); fields = texts - 1; size = lines_size ls }) (take-append-le (blank + texts + 1) lines more (omega arith)) in
+    ap (λ l. record { line = line_text l; fields = texts - 1; size = size_with_feeds (take (blank + texts + 1) (lines ++ more)) }) (get_or_append_left lines more [] blank (omega arith))
+    ∙ ap (λ ls. record { line = line_text (get_or lines blank []); fields = texts - 1; size = size_with_feeds ls }) (take-append-le (blank + texts + 1) lines more (omega arith)) in
     head_counted (lines ++ more) blank texts (drop blank lines ++ more) b' d' t'
     ∙ ap (λ c. cond c (Some (head_at (lines ++ more) blank texts)) None) (lt-ltb (blank + texts) (length (lines ++ more)) (omega (arith, length-append lines more)))
     ∙ ap Some same

@@ -10,25 +10,25 @@ use Rattle.std.proofs.lemmas.List.{length-map}
 use Rattle.std.proofs.Math.Seq.{drop-append_seam}
 use Rattle.httparse.specs.Grammar.{AllPass, is_token_byte, is_value_byte, is_uri_byte, LineEnd, crlf, lf, print_end, print_blank, print_version, Field, IsField, print_field, print_section, RequestHead, IsRequestHead, ReadsRequest}
 use Rattle.httparse.proofs.GrammarLemmas.{print_request-append}
-use Rattle.ob_http.specs.Lines.{is_line_feed, ended_lines, line_text, is_empty_line, lines_size}
+use Rattle.ob_http.specs.Lines.{ends_line, ended_lines, line_text, is_empty_line, size_with_feeds}
 use Rattle.ob_http.specs.Head.{Head, head_in, head_of}
 
 -- no line feed is among the bytes
 abbrev HasNoFeed : List ℕ → Type 0
-HasNoFeed bytes = All (λ b. is_line_feed b ≡ false) bytes
+HasNoFeed bytes = All (λ b. ends_line b ≡ false) bytes
 
 -- a line and its line feed are the first ended line
 ended_first : (line rest : List ℕ) → HasNoFeed line → ended_lines (line ++ 10 ∷ rest) ≡ line ∷ ended_lines rest
 ended_first line rest none =
-    let parts = slice_split is_line_feed rest in
-    let some : suc (length parts) - 1 ≡ suc (length parts - 1) = omega (arith, length-slice_split is_line_feed rest) in
-    ap (λ ps. take (length ps - 1) ps) (slice_split_at is_line_feed line 10 rest none refl) ∙ ap (λ n. take n (line ∷ parts)) some
+    let parts = slice_split ends_line rest in
+    let some : suc (length parts) - 1 ≡ suc (length parts - 1) = omega (arith, length-slice_split ends_line rest) in
+    ap (λ ps. take (length ps - 1) ps) (slice_split_at ends_line line 10 rest none refl) ∙ ap (λ n. take n (line ∷ parts)) some
 
 -- bytes that pass a test that a line feed does not
 no_feed : (test : ℕ → Bool) (bytes : List ℕ) → test 10 ≡ false → AllPass test bytes → HasNoFeed bytes
-no_feed test bytes refuses all = All-weaker (λ b. IsTrue (test b)) (λ b. is_line_feed b ≡ false) (λ b pass. at b pass (is_line_feed b) refl) bytes all
+no_feed test bytes refuses all = All-weaker (λ b. IsTrue (test b)) (λ b. ends_line b ≡ false) (λ b pass. at b pass (ends_line b) refl) bytes all
   where
-    at : (b : ℕ) → test b ≡ true → (t : Bool) → is_line_feed b ≡ t → is_line_feed b ≡ false
+    at : (b : ℕ) → test b ≡ true → (t : Bool) → ends_line b ≡ t → ends_line b ≡ false
     at b pass true e = let same : b ≡ 10 = eqb-true b 10 e in let clash : true ≡ false = sym pass ∙ ap test same ∙ refuses in absurd (cc)
     at b pass false e = e
 
@@ -39,8 +39,8 @@ end_text lf = []
 
 no_feed_in_end : (end : LineEnd) → HasNoFeed (end_text end)
 unfolding end_text
-no_feed_in_end crlf = All-cons (λ b. is_line_feed b ≡ false) 13 [] refl (All-nil (λ b. is_line_feed b ≡ false))
-no_feed_in_end lf = All-nil (λ b. is_line_feed b ≡ false)
+no_feed_in_end crlf = All-cons (λ b. ends_line b ≡ false) 13 [] refl (All-nil (λ b. ends_line b ≡ false))
+no_feed_in_end lf = All-nil (λ b. ends_line b ≡ false)
 
 end_parts : (end : LineEnd) → print_end end ≡ end_text end ++ 10 ∷ []
 unfolding end_text
@@ -52,7 +52,7 @@ ended_text : (text : List ℕ) (end : LineEnd) (rest : List ℕ) → HasNoFeed t
     → ended_lines (text ++ (print_end end ++ rest)) ≡ (text ++ end_text end) ∷ ended_lines rest
 ended_text text end rest none =
     let parts : text ++ (print_end end ++ rest) ≡ (text ++ end_text end) ++ 10 ∷ rest = ap (λ e. text ++ (e ++ rest)) (end_parts end) ∙ regroup text (end_text end) rest in
-    ap ended_lines parts ∙ ended_first (text ++ end_text end) rest (All-append (λ b. is_line_feed b ≡ false) text (end_text end) none (no_feed_in_end end))
+    ap ended_lines parts ∙ ended_first (text ++ end_text end) rest (All-append (λ b. ends_line b ≡ false) text (end_text end) none (no_feed_in_end end))
   where
     regroup : (a b r : List ℕ) → a ++ ((b ++ 10 ∷ []) ++ r) ≡ (a ++ b) ++ 10 ∷ r
     regroup a b r = ap (λ l. a ++ l) (append_assoc b (10 ∷ []) r) ∙ sym (append_assoc a b (10 ∷ r))
@@ -71,23 +71,23 @@ feed_no_token = refl
 no_feed_in_field : (f : Field) → IsField f → HasNoFeed (field_text f)
 unfolding field_text
 no_feed_in_field f is =
-    let P : ℕ → Type 0 = λ b. is_line_feed b ≡ false in
+    let P : ℕ → Type 0 = λ b. ends_line b ≡ false in
     All-append P f.name (58 ∷ f.raw) (no_feed is_token_byte f.name feed_no_token is.name.1) (All-cons P 58 f.raw refl (no_feed is_value_byte f.raw refl is.raw))
 
-digit_no_feed : (n : ℕ) → is_line_feed (48 + n) ≡ false
-digit_no_feed n = at (is_line_feed (48 + n)) refl
+digit_no_feed : (n : ℕ) → ends_line (48 + n) ≡ false
+digit_no_feed n = at (ends_line (48 + n)) refl
   where
-    at : (t : Bool) → is_line_feed (48 + n) ≡ t → is_line_feed (48 + n) ≡ false
+    at : (t : Bool) → ends_line (48 + n) ≡ t → ends_line (48 + n) ≡ false
     at true e = let same = eqb-true (48 + n) 10 e in absurd (omega arith)
     at false e = e
 
 no_feed_in_codes : Unit {0} → HasNoFeed (codes "HTTP/1.")
-no_feed_in_codes u = no_feed (λ b. not (is_line_feed b)) (codes "HTTP/1.") refl (AllPass-from_list_all (λ b. not (is_line_feed b)) (codes "HTTP/1.") refl)
+no_feed_in_codes u = no_feed (λ b. not (ends_line b)) (codes "HTTP/1.") refl (AllPass-from_list_all (λ b. not (ends_line b)) (codes "HTTP/1.") refl)
 
 no_feed_in_request : (h : RequestHead) → IsRequestHead h → HasNoFeed (request_text h)
 unfolding request_text
 no_feed_in_request h is =
-    let P : ℕ → Type 0 = λ b. is_line_feed b ≡ false in
+    let P : ℕ → Type 0 = λ b. ends_line b ≡ false in
     let version = All-append P (codes "HTTP/1.") ((48 + h.minor) ∷ []) (no_feed_in_codes tt) (All-cons P (48 + h.minor) [] (digit_no_feed h.minor) (All-nil P)) in
     All-append P h.method (32 ∷ (h.target ++ 32 ∷ print_version h.minor)) (no_feed is_token_byte h.method feed_no_token is.method.1)
     (All-cons P 32 (h.target ++ 32 ∷ print_version h.minor) refl
@@ -113,7 +113,7 @@ ended_blanks : (ends : List LineEnd) (rest : List ℕ) → ended_lines (print_bl
 ended_blanks [] rest = refl
 ended_blanks (end ∷ ends) rest =
     ap ended_lines (append_assoc (print_end end) (print_blank ends) rest)
-    ∙ ended_text [] end (print_blank ends ++ rest) (All-nil (λ b. is_line_feed b ≡ false))
+    ∙ ended_text [] end (print_blank ends ++ rest) (All-nil (λ b. ends_line b ≡ false))
     ∙ ap (λ lines. end_text end ∷ lines) (ended_blanks ends rest)
 
 -- the line of a field with what of its end stands before the line feed
@@ -160,7 +160,7 @@ request_lines bytes h is =
     let ended : ended_lines section ≡ map field_line h.fields ++ (end_text h.last ∷ [])
     = ap ended_lines (append_assoc (flat_map print_field h.fields) (print_end h.last) [])
     ∙ ended_fields h.fields (print_end h.last ++ []) is.0.fields
-    ∙ ap (λ lines. map field_line h.fields ++ lines) (ended_text [] h.last [] (All-nil (λ b. is_line_feed b ≡ false))) in
+    ∙ ap (λ lines. map field_line h.fields ++ lines) (ended_text [] h.last [] (All-nil (λ b. ends_line b ≡ false))) in
     ap ended_lines (is.1 ∙ print_request-append h [] ∙ ap (λ l. print_blank h.blank ++ l) (request_first h (print_end h.line_end ++ section)))
     ∙ ended_blanks h.blank first
     ∙ ap (λ lines. map end_text h.blank ++ lines) (ended_text (request_text h) h.line_end section (no_feed_in_request h is.0) ∙ ap (λ lines. (request_text h ++ end_text h.line_end) ∷ lines) ended)
@@ -201,7 +201,7 @@ counted lines known is = at (nat_lt (prefix_len is_empty_line lines + texts_of (
     at : (b : Bool) → cond b (Some (record {
       line = line_text (get_or lines (prefix_len is_empty_line lines) []);
       fields = texts_of (drop (prefix_len is_empty_line lines) lines) - 1;
-      size = lines_size (take (prefix_len is_empty_line lines + texts_of (drop (prefix_len is_empty_line lines) lines) + 1) lines);
+      size = size_with_feeds (take (prefix_len is_empty_line lines + texts_of (drop (prefix_len is_empty_line lines) lines) + 1) lines);
     })) None ≡ Some known → known.fields ≡ texts_of (drop (prefix_len is_empty_line lines) lines) - 1
     at true e = sym (ap (fields_or 0) e)
     at false e = absurd (cc)

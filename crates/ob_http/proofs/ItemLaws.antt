@@ -9,8 +9,8 @@ use Rattle.ob_base.specs.Limits.{max_head_bytes, max_head_fields, max_line_bytes
 use Rattle.ob_base.specs.Chain.{◌>>=◌}
 use Rattle.httparse.specs.Grammar.{RequestHead}
 use Rattle.ob_http.specs.Lines.{are_empty_lines}
-use Rattle.ob_http.specs.Head.{Head, head_of, has_other_version, Reads, Asks}
-use Rattle.ob_http.specs.Message.{message_of, or_status, number_or, same_number, values_of, has_field, path_of, keeps_open, expects_interim}
+use Rattle.ob_http.specs.Head.{Head, head_of, has_other_version, ReadsMessage, Asks}
+use Rattle.ob_http.specs.Message.{message_of, or_status, number_or, same_number, values_of, has_header, path_of, keeps_open, expects_interim}
 use Rattle.ob_http.specs.Item.{Item, post, fault, ended, cut, headless_item, FollowsHead, BeginsWith, IsItem, is_interim_due, is_end}
 use Rattle.ob_http.specs.Reply.{IsFaultStatus}
 use Rattle.ob_http.specs.Front.{BeginsWithHead}
@@ -122,11 +122,13 @@ fault_505 : IsFaultStatus 505
 fault_505 = inr (inr (inr (inr (inr (inr refl)))))
 
 -- what a chain may end with ends it, or its rest does
-fault_here : {B : Type 0} (code status : ℕ) (holds : Bool) (next : Bool → Result B ℕ) → IsFaultStatus code → (next true ≡ Err status → IsFaultStatus status) → (or_status code holds >>= next) ≡ Err status → IsFaultStatus status
+fault_here : {B : Type 0} (code status : ℕ) (holds : Bool) (next : Bool → Result B ℕ) → IsFaultStatus code → (next true ≡ Err status → IsFaultStatus status)
+    → (or_status code holds >>= next) ≡ Err status → IsFaultStatus status
 fault_here code status true next here later is = later is
 fault_here code status false next here later is = let same : code ≡ status = cc in subst IsFaultStatus same here
 
-fault_number : {B : Type 0} (code status : ℕ) (number : Option ℕ) (next : ℕ → Result B ℕ) → IsFaultStatus code → ((n : ℕ) → next n ≡ Err status → IsFaultStatus status) → (number_or code number >>= next) ≡ Err status → IsFaultStatus status
+fault_number : {B : Type 0} (code status : ℕ) (number : Option ℕ) (next : ℕ → Result B ℕ) → IsFaultStatus code → ((n : ℕ) → next n ≡ Err status → IsFaultStatus status)
+    → (number_or code number >>= next) ≡ Err status → IsFaultStatus status
 fault_number code status None next here later is = let same : code ≡ status = cc in subst IsFaultStatus same here
 fault_number code status (Some n) next here later is = later n is
 
@@ -142,7 +144,7 @@ abbrev number_check : RequestHead → Result Message ℕ
 number_check request = number_or 400 (same_number (values_of (codes "content-length") request)) >>= within_check request
 
 abbrev has_length : RequestHead → Bool
-has_length request = has_field (codes "content-length") request && not (has_field (codes "transfer-encoding") request)
+has_length request = has_header (codes "content-length") request && not (has_header (codes "transfer-encoding") request)
 
 abbrev length_check : RequestHead → Result Message ℕ
 length_check request = or_status 411 (has_length request) >>= (λ _. number_check request)
@@ -160,7 +162,8 @@ fault_of_message request status is =
     (λ n. fault_here {B = Message} 413 status (nat_le n max_line_bytes) (λ _. Ok (record { length = n; keep = keeps_open request; interim = expects_interim request })) fault_413
     (no_fault (record { length = n; keep = keeps_open request; interim = expects_interim request }) status))))) is
 
-fault_when : (bytes : List ℕ) (head : Head) (status : ℕ) (many other : Bool) → (let found : Result Message ℕ = Err status in MatchBool many (found ≡ Err 431) (MatchBool other (found ≡ Err 505) (Reads bytes found))) → IsFaultStatus status
+fault_when : (bytes : List ℕ) (head : Head) (status : ℕ) (many other : Bool)
+    → (let found : Result Message ℕ = Err status in MatchBool many (found ≡ Err 431) (MatchBool other (found ≡ Err 505) (ReadsMessage bytes found))) → IsFaultStatus status
 fault_when bytes head status true other asked = let same : status ≡ 431 = cc in subst IsFaultStatus (sym same) fault_431
 fault_when bytes head status false true asked = let same : status ≡ 505 = cc in subst IsFaultStatus (sym same) fault_505
 fault_when bytes head status false false (inl read) = fault_of_message read.0 status (sym read.2)

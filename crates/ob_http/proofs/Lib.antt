@@ -9,6 +9,7 @@ pub mod BodyLaws
 pub mod ItemLaws
 pub mod ConnectionLaws
 pub mod MessageLaws
+pub mod TakingLaws
 pub mod Decimals
 pub mod Trims
 pub mod Digits
@@ -17,4 +18,3 @@ pub mod HeadLines
 pub mod Cuts
 pub mod Messages
 pub mod Asked
-pub mod Statuses

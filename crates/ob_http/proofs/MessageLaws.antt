@@ -4,14 +4,13 @@ use Rattle.std.specs.Prelude.{◌⊎◌, IfSome, if◌then◌else◌}
 use Rattle.std.proofs.lemmas.List.{append-nil, take-append-le, drop-append-le}
 use Rattle.ob_base.specs.Limits.{max_head_bytes}
 use Rattle.ob_http.specs.Head.{Head, head_of, Asks}
-use Rattle.ob_http.specs.Item.{post, fault, cut, IsItem, Tells}
+use Rattle.ob_http.specs.Item.{post, fault, cut, IsItem, TellsItem}
 use Rattle.ob_http.specs.Reply.{interim_bytes}
 use Rattle.ob_http.specs.Written.{Wrote, WroteFront}
-use Rattle.ob_http.specs.Connection.{Ahead, Connection, connection_of, coming_bytes, more_taken, Sent, ReadsOn, Receives, StopsReading, StopsWriting, AsksInterim, WritesInterim}
+use Rattle.ob_http.specs.Connection.{ReadAhead, Connection, connection_of, coming_bytes, more_taken, Sent, ReadsOn, Receives, FailsReading, FailsWriting, AsksInterim, WritesInterim}
 use Rattle.ob_http.specs.Front.{BeginsWithHead}
 use Rattle.ob_http.specs.declared.inlet.Inlet.{Inlet}
 use Rattle.ob_http.specs.declared.inlet.Inlet.TheVariants as inlet
-use Rattle.ob_http.specs.declared.inlet.HttpFault.{HttpFault}
 use Rattle.ob_http.specs.declared.lines.HeadSize.{HeadSize}
 use Rattle.ob_http.specs.declared.head.Message.{Message}
 use Rattle.ob_http.proofs.ConnectionLaws.{if_coming, told_coming, receives_end}
@@ -34,12 +33,12 @@ pub record BehindHead (before mid : Connection) (size : HeadSize) (interim : Boo
   pub taken : mid.ahead.taken ≡ before.ahead.taken
   pub written : Wrote before.written mid.written (if interim then interim_bytes else [])
 
-pub behind_head : {held ahead : Ahead} {left left' : Option (List ℕ)} {written written' : Option (List (List ℕ))} (size : HeadSize) (interim : Bool) → ahead ≡ record held { bytes = drop size.size held.bytes } → left' ≡ left
+pub behind_head : {held ahead : ReadAhead} {left left' : Option (List ℕ)} {written written' : Option (List (List ℕ))} (size : HeadSize) (interim : Bool) → ahead ≡ record held { bytes = drop size.size held.bytes } → left' ≡ left
     → Wrote written written' (if interim then interim_bytes else []) → BehindHead (connection_of held left written) (connection_of ahead left' written') size interim
 behind_head size interim passed left written = record {
-  bytes = ap (λ (a : Ahead). a.bytes) passed;
+  bytes = ap (λ (a : ReadAhead). a.bytes) passed;
   left = left;
-  taken = ap (λ (a : Ahead). a.taken) passed;
+  taken = ap (λ (a : ReadAhead). a.taken) passed;
   written = written;
 }
 
@@ -65,13 +64,6 @@ pub asked_held : {bytes held : List ℕ} (found : Result Message ℕ) (n : ℕ) 
     → head_of (take n held) ≡ Some head → Asks (take n held) head found
 asked_held {bytes} {held} found n same asked = subst (λ bs. (head : Head) → head_of (take n bs) ≡ Some head → Asks (take n bs) head found) same asked
 
-pub same_status : (a b : ℕ) → (let left : Result Inlet HttpFault = Ok (inlet.Bad a) in let right : Result Inlet HttpFault = Ok (inlet.Bad b) in left ≡ right) → a ≡ b
-same_status a b e = cc
-
--- what went wrong is what the call says
-pub same_fault : {A : Type 0} (r : Result Inlet HttpFault) (a b why : HttpFault) → r ≡ Err a → a ≡ b → r ≡ Err why → (let left : Result A HttpFault = Err b in left ≡ Err why)
-same_fault r a b why is same failed = let w : b ≡ why = cc in ap Err w
-
 -- too few bytes behind the head
 cut_behind : (before mid : Connection) {size : HeadSize} (part : List ℕ) (message : Message) (begins : BeginsWithHead before.ahead.bytes size) → length before.ahead.bytes ≤ max_head_bytes
     → Asks (take size.size before.ahead.bytes) begins.head (Ok message) → BehindHead before mid size message.interim → length (mid.ahead.bytes ++ part) < message.length → IsItem (before.ahead.bytes ++ part) (cut message.interim) []
@@ -81,7 +73,7 @@ cut_behind before mid {size} part message begins few asked h short =
 pub receives_body : (before mid now : Connection) {size : HeadSize} {part : List ℕ} (message : Message) (told : Inlet) (body : List ℕ) (begins : BeginsWithHead before.ahead.bytes size) → length before.ahead.bytes ≤ max_head_bytes
     → Asks (take size.size before.ahead.bytes) begins.head (Ok message) → BehindHead before mid size message.interim → ReadsOn mid now part
     → (message.length ≤ length (mid.ahead.bytes ++ part)) × (body ≡ take message.length (mid.ahead.bytes ++ part)) × (now.ahead.bytes ≡ drop message.length (mid.ahead.bytes ++ part))
-    → ((found : List ℕ) → body ≡ found → Tells told (post found message.keep message.interim)) → IfSome (coming_bytes before) (λ bytes. Receives before now bytes told)
+    → ((found : List ℕ) → body ≡ found → TellsItem told (post found message.keep message.interim)) → IfSome (coming_bytes before) (λ bytes. Receives before now bytes told)
 receives_body before mid now {size} {part} message told body begins few asked h reads came tells =
     if_coming (coming_bytes before) _ (λ bytes is.
     let b = behind bytes h reads is in
@@ -104,7 +96,8 @@ receives_body before mid now {size} {part} message told body begins few asked h 
 
 -- the connection ended before its end
 pub receives_cut : (before mid now : Connection) {size : HeadSize} {part : List ℕ} (message : Message) (begins : BeginsWithHead before.ahead.bytes size) → length before.ahead.bytes ≤ max_head_bytes
-    → Asks (take size.size before.ahead.bytes) begins.head (Ok message) → BehindHead before mid size message.interim → ReadsOn mid now part → (length (mid.ahead.bytes ++ part) < message.length) × IfSome now.left (λ rest. rest ≡ [])
+    → Asks (take size.size before.ahead.bytes) begins.head (Ok message) → BehindHead before mid size message.interim → ReadsOn mid now part
+    → (length (mid.ahead.bytes ++ part) < message.length) × IfSome now.left (λ rest. rest ≡ [])
     → IfSome (coming_bytes before) (λ bytes. Receives before now bytes inlet.Cut)
 receives_cut before mid now {size} {part} message begins few asked h reads came =
     if_coming (coming_bytes before) _ (λ bytes is.
@@ -123,7 +116,7 @@ receives_cut before mid now {size} {part} message begins few asked h reads came 
 -- a read failed before its end
 pub stops_in_body : (before mid now : Connection) {size : HeadSize} {part : List ℕ} (message : Message) (begins : BeginsWithHead before.ahead.bytes size) → length before.ahead.bytes ≤ max_head_bytes
     → Asks (take size.size before.ahead.bytes) begins.head (Ok message) → BehindHead before mid size message.interim → ReadsOn mid now part → length (mid.ahead.bytes ++ part) < message.length
-    → IfSome (coming_bytes before) (λ bytes. StopsReading before now part ⊎ StopsWriting before now bytes)
+    → IfSome (coming_bytes before) (λ bytes. FailsReading before now part ⊎ FailsWriting before now bytes)
 stops_in_body before mid now {size} {part} message begins few asked h reads short =
     if_coming (coming_bytes before) _ (λ bytes is. inl (record {
       item = cut message.interim;
@@ -147,7 +140,7 @@ due_behind before {size} message begins few asked due bytes is =
 -- the interim line was due, and writing it failed
 pub stops_in_interim : (before now : Connection) {size : HeadSize} (part : List ℕ) (message : Message) (begins : BeginsWithHead before.ahead.bytes size) → length before.ahead.bytes ≤ max_head_bytes
     → Asks (take size.size before.ahead.bytes) begins.head (Ok message) → message.interim ≡ true → WroteFront before.written now.written interim_bytes
-    → IfSome (coming_bytes before) (λ bytes. StopsReading before now part ⊎ StopsWriting before now bytes)
+    → IfSome (coming_bytes before) (λ bytes. FailsReading before now part ⊎ FailsWriting before now bytes)
 stops_in_interim before now {size} part message begins few asked due wrote =
     if_coming (coming_bytes before) _ (λ bytes is.
     let asks = due_behind before message begins few asked due bytes is in

@@ -9,13 +9,13 @@ use Rattle.httparse.specs.Spans.{header_bytes, name_and_value}
 use Rattle.ob_base.specs.Chain.{◌>>=◌}
 use Rattle.ob_base.specs.Limits.{max_line_bytes}
 use Rattle.ob_http.specs.declared.head.Message.{Message}
-use Rattle.ob_http.specs.Message.{message_of, path_of, has_field, values_of, same_number, keeps_open, expects_interim, or_status, number_or, lists_word}
-use Rattle.ob_http.specs.Spans.{is_named, values_at, length_from}
+use Rattle.ob_http.specs.Message.{message_of, path_of, has_header, values_of, same_number, keeps_open, expects_interim, or_status, number_or, lists_word}
+use Rattle.ob_http.specs.Spans.{is_header_named, values_at, length_from}
 use Rattle.ob_http.proofs.FieldSpans.{has_is, values_are, named_has_values, values_have_name}
 
 -- the length that the fields of a request give
 abbrev pub length_asked : RequestHead → Result ℕ ℕ
-length_asked head = length_from (has_field (codes "content-length") head && not (has_field (codes "transfer-encoding") head)) (values_of (codes "content-length") head)
+length_asked head = length_from (has_header (codes "content-length") head && not (has_header (codes "transfer-encoding") head)) (values_of (codes "content-length") head)
 
 -- a message of this length, and what else the request says
 abbrev pub message_with : RequestHead → ℕ → Message
@@ -41,7 +41,7 @@ message_by head p m l n = do
 
 pub message_is : (head : RequestHead) → message_of head
     ≡ message_by head (bytes_eq (path_of head) (codes "/jsonrpc")) (bytes_eq head.method (codes "POST"))
-    (has_field (codes "content-length") head && not (has_field (codes "transfer-encoding") head)) (same_number (values_of (codes "content-length") head))
+    (has_header (codes "content-length") head && not (has_header (codes "transfer-encoding") head)) (same_number (values_of (codes "content-length") head))
 unfolding message_of
 message_is head = refl
 
@@ -63,19 +63,19 @@ chained head true (Some n) = at (nat_le n max_line_bytes)
 pub elsewhere : (head : RequestHead) → bytes_eq (path_of head) (codes "/jsonrpc") ≡ false → message_of head ≡ Err 404
 elsewhere head other =
     message_is head ∙ ap (λ p. message_by head p (bytes_eq head.method (codes "POST"))
-    (has_field (codes "content-length") head && not (has_field (codes "transfer-encoding") head)) (same_number (values_of (codes "content-length") head))) other
+    (has_header (codes "content-length") head && not (has_header (codes "transfer-encoding") head)) (same_number (values_of (codes "content-length") head))) other
 
 pub not_posted : (head : RequestHead) → bytes_eq (path_of head) (codes "/jsonrpc") ≡ true → bytes_eq head.method (codes "POST") ≡ false → message_of head ≡ Err 405
 not_posted head here other =
     message_is head ∙ (λ i. message_by head (here i) (other i)
-    (has_field (codes "content-length") head && not (has_field (codes "transfer-encoding") head)) (same_number (values_of (codes "content-length") head)))
+    (has_header (codes "content-length") head && not (has_header (codes "transfer-encoding") head)) (same_number (values_of (codes "content-length") head)))
 
 by_length : (head : RequestHead) → bytes_eq (path_of head) (codes "/jsonrpc") ≡ true → bytes_eq head.method (codes "POST") ≡ true
     → message_of head ≡ (length_asked head >>= (λ length. Ok (message_with head length)))
 by_length head here posted =
     message_is head ∙ (λ i. message_by head (here i) (posted i)
-    (has_field (codes "content-length") head && not (has_field (codes "transfer-encoding") head)) (same_number (values_of (codes "content-length") head)))
-    ∙ chained head (has_field (codes "content-length") head && not (has_field (codes "transfer-encoding") head)) (same_number (values_of (codes "content-length") head))
+    (has_header (codes "content-length") head && not (has_header (codes "transfer-encoding") head)) (same_number (values_of (codes "content-length") head)))
+    ∙ chained head (has_header (codes "content-length") head && not (has_header (codes "transfer-encoding") head)) (same_number (values_of (codes "content-length") head))
 
 pub no_length : (head : RequestHead) (status : ℕ) → bytes_eq (path_of head) (codes "/jsonrpc") ≡ true → bytes_eq head.method (codes "POST") ≡ true
     → length_asked head ≡ Err status → message_of head ≡ Err status
@@ -89,7 +89,7 @@ of_length head length keep interim here posted given keeps expects =
 
 -- the same length by the spans
 pub length_is : (bytes : List ℕ) (spans : List HeaderSpan) (head : RequestHead) → map (header_bytes bytes) spans ≡ map name_and_value head.fields
-    → length_from (list_any (is_named bytes (codes "content-length")) spans && not (list_any (is_named bytes (codes "transfer-encoding")) spans)) (values_at bytes (codes "content-length") spans)
+    → length_from (list_any (is_header_named bytes (codes "content-length")) spans && not (list_any (is_header_named bytes (codes "transfer-encoding")) spans)) (values_at bytes (codes "content-length") spans)
     ≡ length_asked head
 length_is bytes spans head e =
     let length = has_is bytes (codes "content-length") spans head e in
@@ -98,15 +98,15 @@ length_is bytes spans head e =
     λ i. length_from (length i && not (coding i)) (values i)
 
 -- the fields of a length are there, and no other field tells of the body's end
-pub length_alone : (bytes : List ℕ) (spans : List HeaderSpan) → list_any (is_named bytes (codes "transfer-encoding")) spans ≡ false
+pub length_alone : (bytes : List ℕ) (spans : List HeaderSpan) → list_any (is_header_named bytes (codes "transfer-encoding")) spans ≡ false
     → (values_at bytes (codes "content-length") spans ≡ [] → ⊥)
-    → (list_any (is_named bytes (codes "content-length")) spans && not (list_any (is_named bytes (codes "transfer-encoding")) spans)) ≡ true
+    → (list_any (is_header_named bytes (codes "content-length")) spans && not (list_any (is_header_named bytes (codes "transfer-encoding")) spans)) ≡ true
 length_alone bytes spans none some =
     let there = values_have_name bytes (codes "content-length") spans some in
     λ i. there i && not (none i)
 
 pub length_absent : (bytes : List ℕ) (spans : List HeaderSpan) (b : Bool) → values_at bytes (codes "content-length") spans ≡ []
-    → length_from (list_any (is_named bytes (codes "content-length")) spans && b) (values_at bytes (codes "content-length") spans) ≡ Err 411
+    → length_from (list_any (is_header_named bytes (codes "content-length")) spans && b) (values_at bytes (codes "content-length") spans) ≡ Err 411
 length_absent bytes spans b none =
     ap (λ there. length_by (there && b) (same_number (values_at bytes (codes "content-length") spans))) (named_has_values bytes (codes "content-length") spans none)
 

@@ -1,9 +1,9 @@
 -- Parts of a connection that come one after another.
-use Rattle.std.proofs.Common.{◌≡◌, ℕ, ◌+◌, ◌^◌, ◌<◌, ◌≤◌, List, [], ◌++◌, length, refl, sym, ap, ◌∙◌, arith, append_assoc, length-append, inl, inr, Option, Some, None, option_map}
-use Rattle.ob_io.specs.Cause.{Rose}
+use Rattle.std.proofs.Common.{◌≡◌, ℕ, ◌+◌, ◌^◌, ◌<◌, List, [], ◌++◌, length, refl, sym, ap, ◌∙◌, arith, append_assoc, length-append, Option, Some, None, option_map}
 use Rattle.ob_http.specs.Connection.{Connection, Sent, ReadsOn, more_taken}
 
-left_joined : (before mid now : Option (List ℕ)) (part more : List ℕ) → before ≡ option_map (λ left. part ++ left) mid → mid ≡ option_map (λ left. more ++ left) now → before ≡ option_map (λ left. (part ++ more) ++ left) now
+left_joined : (before mid now : Option (List ℕ)) (part more : List ℕ) → before ≡ option_map (λ left. part ++ left) mid → mid ≡ option_map (λ left. more ++ left) now
+    → before ≡ option_map (λ left. (part ++ more) ++ left) now
 left_joined before mid None part more first second = first ∙ ap (option_map (λ left. part ++ left)) second
 left_joined before mid (Some left) part more first second = first ∙ ap (option_map (λ rest. part ++ rest)) second ∙ ap Some (sym (append_assoc part more left))
 
@@ -30,13 +30,3 @@ sent_nothing before now left taken fits = record {
   left = sym left ∙ left_same now.left;
   taken = taken ∙ omega arith;
 }
-
--- counts that rise
-
-pub rose_later : (before mid now : ℕ) → before ≤ mid → Rose mid now → Rose before now
-rose_later before mid now no_fall (inl less) = inl (omega arith)
-rose_later before mid now no_fall (inr full) = inr full
-
-pub rose_before : (before mid now : ℕ) → Rose before mid → mid ≤ now → Rose before now
-rose_before before mid now (inl less) no_fall = inl (omega arith)
-rose_before before mid now (inr full) no_fall = inr (omega arith)

@@ -6,12 +6,12 @@ use Rattle.std.proofs.lemmas.List.{append-nil, take_all, take_more, length-take,
 use Rattle.std.proofs.lemmas.List.Elements.{All-nil, All-push, All-from_get_or}
 use Rattle.std.proofs.Math.Seq.{take-add}
 use Rattle.memchr.specs.Find.{NoneBefore, Nowhere, Passes, is_byte}
-use Rattle.ob_http.specs.Lines.{is_line_feed, ended_lines, line_text, is_empty_line, lines_size}
+use Rattle.ob_http.specs.Lines.{ends_line, ended_lines, line_text, is_empty_line, size_with_feeds}
 use Rattle.ob_http.specs.Head.{head_in, head_of}
-use Rattle.ob_http.specs.SoFar.{IsOpen, NoFeed, whole_lines, HasCome, IsSoFar, IsNextFeed}
+use Rattle.ob_http.specs.SoFar.{IsOpen, NoFeed, lines_with_feeds, HasCome, IsSoFar, IsNextFeed}
 use Rattle.ob_http.specs.Front.{BeginsWithHead}
 use Rattle.ob_http.specs.declared.lines.LinesSoFar.{LinesSoFar}
-use Rattle.ob_http.proofs.LineLaws.{ended_whole, whole_lines-append, length-whole_lines}
+use Rattle.ob_http.proofs.LineLaws.{ended_whole, lines_with_feeds-append, length-lines_with_feeds}
 use Rattle.ob_http.proofs.HeadLaws.{is_full_line, head_found, no_head_blank, no_head_open}
 
 -- the text of a line
@@ -48,16 +48,16 @@ no_feed_through bytes from mid to first second k low high =
 
 open_between : (bytes : List ℕ) (from to : ℕ) → NoFeed bytes from to → IsOpen (line_at bytes from to)
 open_between bytes from to none =
-    All-from_get_or (λ b. is_line_feed b ≡ false) (line_at bytes from to) 0 (λ i l.
+    All-from_get_or (λ b. ends_line b ≡ false) (line_at bytes from to) 0 (λ i l.
     let count = length-take (to - from) (drop from bytes) in
     let at : get_or (line_at bytes from to) i 0 ≡ get_or bytes (from + i) 0 = get_or-take (to - from) (drop from bytes) i 0 (omega (arith, count)) ∙ get_or-drop from bytes i 0 in
-    ap is_line_feed at ∙ none (from + i) (omega arith) (omega (arith, count)))
+    ap ends_line at ∙ none (from + i) (omega arith) (omega (arith, count)))
 
 -- the lines up to and with the next one
 pub record HasNext (bytes : List ℕ) (lines : List (List ℕ)) (start end : ℕ) : Type 0 where
-  pub starts : length (whole_lines lines) ≡ start
-  pub front : take (end + 1) bytes ≡ whole_lines (lines ++ line_at bytes start end ∷ [])
-  pub whole : whole_lines (lines ++ line_at bytes start end ∷ []) ≡ whole_lines lines ++ (line_at bytes start end ++ 10 ∷ [])
+  pub starts : length (lines_with_feeds lines) ≡ start
+  pub front : take (end + 1) bytes ≡ lines_with_feeds (lines ++ line_at bytes start end ∷ [])
+  pub whole : lines_with_feeds (lines ++ line_at bytes start end ∷ []) ≡ lines_with_feeds lines ++ (line_at bytes start end ++ 10 ∷ [])
   pub lines_open : All IsOpen (lines ++ line_at bytes start end ∷ [])
   pub length_is : length (line_at bytes start end) ≡ end - start
 
@@ -65,13 +65,13 @@ pub has_next : {bytes : List ℕ} {s : LinesSoFar} {end : ℕ} (h : IsSoFar byte
 has_next {bytes} {s} {end} h feed =
     let line = line_at bytes s.start end in
     let after : s.start ≤ end = omega (arith, h.start, feed.after) in
-    let whole : whole_lines (h.lines ++ line ∷ []) ≡ whole_lines h.lines ++ (line ++ 10 ∷ []) = whole_lines-append h.lines (line ∷ []) in
+    let whole : lines_with_feeds (h.lines ++ line ∷ []) ≡ lines_with_feeds h.lines ++ (line ++ 10 ∷ []) = lines_with_feeds-append h.lines (line ∷ []) in
     let more : take (end + 1) bytes ≡ take end bytes ++ get_or bytes end 0 ∷ [] = take_more bytes end 0 feed.within in
     let split : take end bytes ≡ take s.start bytes ++ line = ap (λ n. take n bytes) (two_parts s.start end after) ∙ take-add s.start (end - s.start) bytes in
     let byte : get_or bytes end 0 ≡ 10 = eqb-true (get_or bytes end 0) 10 feed.feed in
     record {
       starts = sym (ap length h.front) ∙ length-take-le s.start bytes (omega (arith, feed.within));
-      front = more ∙ ap (λ b. take end bytes ++ b ∷ []) byte ∙ ap (λ bs. bs ++ 10 ∷ []) (split ∙ ap (λ bs. bs ++ line) h.front) ∙ append_assoc (whole_lines h.lines) line (10 ∷ []) ∙ sym whole;
+      front = more ∙ ap (λ b. take end bytes ++ b ∷ []) byte ∙ ap (λ bs. bs ++ 10 ∷ []) (split ∙ ap (λ bs. bs ++ line) h.front) ∙ append_assoc (lines_with_feeds h.lines) line (10 ∷ []) ∙ sym whole;
       whole = whole;
       lines_open = All-push IsOpen h.lines line h.lines_open (open_between bytes s.start end (no_feed_through bytes s.start s.searched end h.no_feed feed.before));
       length_is = omega (arith, length-take (end - s.start) (drop s.start bytes), length-drop s.start bytes, feed.within);
@@ -89,7 +89,7 @@ so_far_more {bytes} {s} {end} h feed line fields come =
       start = omega arith;
       searched = omega (arith, feed.within);
       no_feed = λ k low high. absurd (omega arith);
-      feed_before = λ some. ap (λ n. is_line_feed (get_or bytes n 0)) last ∙ feed.feed;
+      feed_before = λ some. ap (λ n. ends_line (get_or bytes n 0)) last ∙ feed.feed;
       come = come;
     }
 
@@ -98,12 +98,12 @@ so_far_more {bytes} {s} {end} h feed line fields come =
 come_blank : (lines : List (List ℕ)) (line : List ℕ) (fields : ℕ) → HasCome lines None fields → length (line_text line) ≡ 0 → HasCome (lines ++ line ∷ []) None fields
 come_blank lines line fields come none = (All-push (λ l. is_empty_line l ≡ true) lines line come.0 (empty_line line none), come.1)
 
-come_first : (lines : List (List ℕ)) (line : List ℕ) (fields start len : ℕ) → HasCome lines None fields → len ≡ length (line_text line) → 0 < len → length (whole_lines lines) ≡ start
+come_first : (lines : List (List ℕ)) (line : List ℕ) (fields start len : ℕ) → HasCome lines None fields → len ≡ length (line_text line) → 0 < len → length (lines_with_feeds lines) ≡ start
     → HasCome (lines ++ line ∷ []) (Some (start, start + len)) fields
 come_first lines line fields start len come count some starts =
     let text = text_front line in
-    let whole : whole_lines (lines ++ line ∷ []) ≡ whole_lines lines ++ (line ++ 10 ∷ []) = whole_lines-append lines (line ∷ []) in
-    let size : length (whole_lines (lines ++ line ∷ [])) ≡ start + (length line + 1) = omega (arith, ap length whole, length-append (whole_lines lines) (line ++ 10 ∷ []), length-append line (10 ∷ []), starts) in
+    let whole : lines_with_feeds (lines ++ line ∷ []) ≡ lines_with_feeds lines ++ (line ++ 10 ∷ []) = lines_with_feeds-append lines (line ∷ []) in
+    let size : length (lines_with_feeds (lines ++ line ∷ [])) ≡ start + (length line + 1) = omega (arith, ap length whole, length-append (lines_with_feeds lines) (line ++ 10 ∷ []), length-append line (10 ∷ []), starts) in
     let span : start + len - start ≡ length (line_text line) = omega arith in record {
       blank = lines;
       text = line;
@@ -115,8 +115,8 @@ come_first lines line fields start len come count some starts =
       count = sym come.1;
       begins = omega arith;
       within = omega (arith, size, text.0);
-      stands = ap (λ n. take n (drop start (whole_lines (lines ++ line ∷ [])))) span
-          ∙ ap (take (length (line_text line))) (ap (drop start) whole ∙ drop_at (whole_lines lines) (line ++ 10 ∷ []) start starts)
+      stands = ap (λ n. take n (drop start (lines_with_feeds (lines ++ line ∷ [])))) span
+          ∙ ap (take (length (line_text line))) (ap (drop start) whole ∙ drop_at (lines_with_feeds lines) (line ++ 10 ∷ []) start starts)
           ∙ take-append-le (length (line_text line)) line (10 ∷ []) text.0 ∙ text.1;
     }
 
@@ -127,7 +127,7 @@ span_stays bytes more from to ordered within =
 
 come_field : (lines : List (List ℕ)) (line : List ℕ) (fields : ℕ) (span : ℕ × ℕ) → HasCome lines (Some span) fields → 0 < length (line_text line) → HasCome (lines ++ line ∷ []) (Some span) (fields + 1)
 come_field lines line fields span come some =
-    let whole : whole_lines (lines ++ line ∷ []) ≡ whole_lines lines ++ (line ++ 10 ∷ []) = whole_lines-append lines (line ∷ []) in record {
+    let whole : lines_with_feeds (lines ++ line ∷ []) ≡ lines_with_feeds lines ++ (line ++ 10 ∷ []) = lines_with_feeds-append lines (line ∷ []) in record {
       blank = come.blank;
       text = come.text;
       rest = come.rest ++ line ∷ [];
@@ -137,8 +137,8 @@ come_field lines line fields span come some =
       rest_full = All-push (λ l. is_full_line l ≡ true) come.rest line come.rest_full (ap not (full_line line some));
       count = length_push come.rest line ∙ ap (λ n. n + 1) come.count;
       begins = come.begins;
-      within = omega (arith, come.within, ap length whole, length-append (whole_lines lines) (line ++ 10 ∷ []));
-      stands = ap (λ bs. take (span.1 - span.0) (drop span.0 bs)) whole ∙ span_stays (whole_lines lines) (line ++ 10 ∷ []) span.0 span.1 come.begins come.within ∙ come.stands;
+      within = omega (arith, come.within, ap length whole, length-append (lines_with_feeds lines) (line ++ 10 ∷ []));
+      stands = ap (λ bs. take (span.1 - span.0) (drop span.0 bs)) whole ∙ span_stays (lines_with_feeds lines) (line ++ 10 ∷ []) span.0 span.1 come.begins come.within ∙ come.stands;
     }
 
 -- the four steps
@@ -169,24 +169,24 @@ last_line {bytes} {s} {end} span h feed is empty =
     let lines = h.lines ++ line ∷ [] in
     let next = has_next h feed in
     let lines_are : lines ≡ (come.blank ++ come.text ∷ come.rest) ++ line ∷ [] = ap (λ ls. ls ++ line ∷ []) come.lines_are in
-    let ended : ended_lines (take (end + 1) bytes) ≡ lines = ap ended_lines (next.front ∙ sym (append-nil (whole_lines lines))) ∙ ended_whole lines [] next.lines_open (All-nil (λ b. is_line_feed b ≡ false)) in
+    let ended : ended_lines (take (end + 1) bytes) ≡ lines = ap ended_lines (next.front ∙ sym (append-nil (lines_with_feeds lines))) ∙ ended_whole lines [] next.lines_open (All-nil (λ b. ends_line b ≡ false)) in
     let count : length (take (end + 1) bytes) ≡ end + 1 = length-take-le (end + 1) bytes (omega (arith, feed.within)) in record {
-      head = record { line = line_text come.text; fields = length come.rest; size = lines_size ((come.blank ++ come.text ∷ come.rest) ++ line ∷ []) };
+      head = record { line = line_text come.text; fields = length come.rest; size = size_with_feeds ((come.blank ++ come.text ∷ come.rest) ++ line ∷ []) };
       within = omega (arith, feed.within);
       head_is = ap head_in (ended ∙ lines_are) ∙ head_found come.blank come.rest [] come.text line come.blank_empty come.text_full come.rest_full (empty_line line empty);
       stands = record {
         begins = come.begins;
         within = omega (arith, count, come.within, next.starts, h.start, feed.after);
-        line = ap (λ bs. take (span.1 - span.0) (drop span.0 bs)) (next.front ∙ next.whole) ∙ span_stays (whole_lines h.lines) (line ++ 10 ∷ []) span.0 span.1 come.begins come.within ∙ come.stands;
+        line = ap (λ bs. take (span.1 - span.0) (drop span.0 bs)) (next.front ∙ next.whole) ∙ span_stays (lines_with_feeds h.lines) (line ++ 10 ∷ []) span.0 span.1 come.begins come.within ∙ come.stands;
         fields = sym come.count;
-        size = sym count ∙ ap length next.front ∙ length-whole_lines lines ∙ ap lines_size lines_are;
+        size = sym count ∙ ap length next.front ∙ length-lines_with_feeds lines ∙ ap size_with_feeds lines_are;
       };
     }
 
 -- lines are no more than their bytes
-lines-le-whole : (lines : List (List ℕ)) → length lines ≤ length (whole_lines lines)
+lines-le-whole : (lines : List (List ℕ)) → length lines ≤ length (lines_with_feeds lines)
 lines-le-whole [] = omega arith
-lines-le-whole (line ∷ lines) = omega (arith, lines-le-whole lines, length-append line (10 ∷ whole_lines lines))
+lines-le-whole (line ∷ lines) = omega (arith, lines-le-whole lines, length-append line (10 ∷ lines_with_feeds lines))
 
 -- there are fewer fields than bytes
 pub few_fields : {bytes : List ℕ} {s : LinesSoFar} {end : ℕ} (span : ℕ × ℕ) → IsSoFar bytes s → IsNextFeed bytes s.searched end → s.line ≡ Some span → s.fields + 1 ≤ end
@@ -197,16 +197,16 @@ few_fields {bytes} {s} {end} span h feed is =
 -- the search for the next line feed
 
 -- a byte that the search passed by
-passed_by : (bytes hay : List ℕ) (from k : ℕ) → hay ≡ drop from bytes → from ≤ k → (Passes (is_byte 10) hay (k - from) → ⊥) → is_line_feed (slice_index bytes k) ≡ false
+passed_by : (bytes hay : List ℕ) (from k : ℕ) → hay ≡ drop from bytes → from ≤ k → (Passes (is_byte 10) hay (k - from) → ⊥) → ends_line (slice_index bytes k) ≡ false
 passed_by bytes hay from k is low other =
     let at : get_or bytes k 0 ≡ get_or hay (k - from) 0 = ap (λ n. get_or bytes n 0) (two_parts from k low) ∙ sym (get_or-drop from bytes (k - from) 0) ∙ ap (λ bs. get_or bs (k - from) 0) (sym is) in
-    ap is_line_feed at ∙ false_from_ne_true (is_line_feed (get_or hay (k - from) 0)) other
+    ap ends_line at ∙ false_from_ne_true (ends_line (get_or hay (k - from) 0)) other
 
 pub next_feed : (bytes hay : List ℕ) (from offset : ℕ) → hay ≡ drop from bytes → NoneBefore (Passes (is_byte 10) hay) 0 (length hay) offset → Passes (is_byte 10) hay offset → IsNextFeed bytes from (from + offset)
 next_feed bytes hay from offset is none found = record {
   after = omega arith;
   within = omega (arith, none.high, ap length is, length-drop from bytes);
-  feed = ap is_line_feed (sym (get_or-drop from bytes offset 0) ∙ ap (λ bs. get_or bs offset 0) (sym is)) ∙ found;
+  feed = ap ends_line (sym (get_or-drop from bytes offset 0) ∙ ap (λ bs. get_or bs offset 0) (sym is)) ∙ found;
   before = λ k low high. passed_by bytes hay from k is low (none.before (k - from) (omega arith) (omega arith));
 }
 
@@ -237,7 +237,7 @@ no_head_come lines (Some span) fields come = ap head_in come.lines_are ∙ no_he
 pub ended_so_far : {bytes : List ℕ} {s : LinesSoFar} (h : IsSoFar bytes s) → NoFeed bytes s.start (length bytes) → ended_lines bytes ≡ h.lines
 ended_so_far {bytes} {s} h none =
     let rest : line_at bytes s.start (length bytes) ≡ drop s.start bytes = take_all (length bytes - s.start) (drop s.start bytes) (omega (arith, length-drop s.start bytes)) in
-    let bytes_are : bytes ≡ whole_lines h.lines ++ drop s.start bytes = sym (take-append-drop s.start bytes) ∙ ap (λ bs. bs ++ drop s.start bytes) h.front in
+    let bytes_are : bytes ≡ lines_with_feeds h.lines ++ drop s.start bytes = sym (take-append-drop s.start bytes) ∙ ap (λ bs. bs ++ drop s.start bytes) h.front in
     ap ended_lines bytes_are ∙ ended_whole h.lines (drop s.start bytes) h.lines_open (subst IsOpen rest (open_between bytes s.start (length bytes) none))
 
 pub no_head_yet : {bytes : List ℕ} {s : LinesSoFar} → IsSoFar bytes s → s.searched ≡ length bytes → head_of bytes ≡ None
@@ -266,7 +266,7 @@ so_far_longer {bytes} {s} more h =
       front = take-append-le s.start bytes more within ∙ h.front;
       start = h.start;
       searched = omega (arith, h.searched, length-append bytes more);
-      no_feed = λ k low high. ap is_line_feed (get_or_append_left bytes more 0 k (omega (arith, h.searched))) ∙ h.no_feed k low high;
-      feed_before = λ some. ap is_line_feed (get_or_append_left bytes more 0 (s.start - 1) (omega arith)) ∙ h.feed_before some;
+      no_feed = λ k low high. ap ends_line (get_or_append_left bytes more 0 k (omega (arith, h.searched))) ∙ h.no_feed k low high;
+      feed_before = λ some. ap ends_line (get_or_append_left bytes more 0 (s.start - 1) (omega arith)) ∙ h.feed_before some;
       come = h.come;
     }

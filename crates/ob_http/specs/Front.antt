@@ -24,11 +24,11 @@ pub record EndsBefore (bytes : List ℕ) (left : Option (List ℕ)) : Type 0 whe
   pub ended : IfSome left (λ rest. rest ≡ [])
 
 -- what the front of the bytes is that were read, by what is left of the connection
-abbrev pub IsFront : List ℕ → Option (List ℕ) → Front → Type 0
-IsFront bytes left (front.Head size) = BeginsWithHead bytes size
-IsFront bytes left front.TooLong = (head_of bytes ≡ None) × (max_head_bytes ≤ length bytes)
-IsFront bytes left front.Empty = EndsBefore bytes left × (are_empty_lines bytes ≡ true)
-IsFront bytes left front.Part = EndsBefore bytes left × (are_empty_lines bytes ≡ false)
+abbrev pub IsFrontRead : List ℕ → Option (List ℕ) → Front → Type 0
+IsFrontRead bytes left (front.Head size) = BeginsWithHead bytes size
+IsFrontRead bytes left front.TooLong = (head_of bytes ≡ None) × (max_head_bytes ≤ length bytes)
+IsFrontRead bytes left front.Empty = EndsBefore bytes left × (are_empty_lines bytes ≡ true)
+IsFrontRead bytes left front.Part = EndsBefore bytes left × (are_empty_lines bytes ≡ false)
 
 -- More bytes were read ahead, or none at the connection's end. A read that fails gives none.
 pub record Fills (before now : Connection) (result : Result Bool HttpFault) : Type 0 where
@@ -43,7 +43,7 @@ pub record Fills (before now : Connection) (result : Result Bool HttpFault) : Ty
 pub record ReadsFront (before now : Connection) (result : Result Front HttpFault) : Type 0 where
   pub part : List ℕ
   pub reads : ReadsOn before now part
-  pub front : IfOk result (λ front. (now.ahead.bytes ≡ before.ahead.bytes ++ part) × IsFront now.ahead.bytes now.left front)
+  pub front : IfOk result (λ front. (now.ahead.bytes ≡ before.ahead.bytes ++ part) × IsFrontRead now.ahead.bytes now.left front)
   pub failed : result ≡ Err fault.Failed → (head_of (before.ahead.bytes ++ part) ≡ None) × (length (before.ahead.bytes ++ part) < max_head_bytes)
 
 -- A body of this length was taken from the front of the bytes: none where the connection ended before.

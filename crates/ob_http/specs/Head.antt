@@ -5,7 +5,7 @@ use Rattle.std.specs.Char.{is_ascii_digit}
 use Rattle.std.specs.Str.{bytes_eq}
 use Rattle.httparse.specs.Grammar.{RequestHead, ReadsRequest}
 use Rattle.ob_base.specs.Limits.{max_head_fields}
-use Rattle.ob_http.specs.Lines.{ended_lines, line_text, is_empty_line, lines_size}
+use Rattle.ob_http.specs.Lines.{ended_lines, line_text, is_empty_line, size_with_feeds}
 use Rattle.ob_http.specs.declared.head.Message.{Message}
 use Rattle.ob_http.specs.declared.lines.HeadSize.{HeadSize}
 use Rattle.ob_http.specs.Message.{message_of}
@@ -33,7 +33,7 @@ head_in lines =
     if nat_lt (blank + texts) (length lines) then Some (record {
       line = line_text (get_or lines blank []);
       fields = texts - 1;
-      size = lines_size (take (blank + texts + 1) lines);
+      size = size_with_feeds (take (blank + texts + 1) lines);
     }) else None
 
 -- the head at the front of bytes, where they have its end
@@ -61,8 +61,8 @@ has_other_version line = end_in_other_version (slice_split (λ byte. byte == 32)
 
 -- What a request in the grammar of heads asks for, or 400 where the bytes are no such request. The
 -- grammar is that of the kit's `httparse` (RFC 9112, sections 2 to 5).
-abbrev pub Reads : List ℕ → Result Message ℕ → Type 0
-Reads bytes found =
+abbrev pub ReadsMessage : List ℕ → Result Message ℕ → Type 0
+ReadsMessage bytes found =
     ((request : RequestHead) × ReadsRequest bytes request [] × (found ≡ message_of request))
     ⊎ (((request : RequestHead) → ¬ (ReadsRequest bytes request [])) × (found ≡ Err 400))
 
@@ -71,4 +71,4 @@ abbrev pub Asks : List ℕ → Head → Result Message ℕ → Type 0
 Asks bytes head found =
     MatchBool (nat_lt max_head_fields head.fields) (found ≡ Err 431) (
     MatchBool (has_other_version head.line) (found ≡ Err 505)
-    (Reads bytes found))
+    (ReadsMessage bytes found))

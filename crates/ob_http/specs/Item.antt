@@ -63,9 +63,9 @@ pub data AreItems : List ℕ → List Item → Type 0 where
   more : (bytes : List ℕ) (item : Item) (rest : List ℕ) (items : List Item) → IsItem bytes item rest → goes_on item ≡ true → AreItems rest items → AreItems bytes (item ∷ items)
 
 -- what came in tells the item
-abbrev pub Tells : Inlet → Item → Type 0
-Tells (Post body keep) (post bytes stays interim) = (body.items ≡ bytes) × (keep ≡ stays)
-Tells (Bad status) (fault code) = status ≡ code
-Tells Ended ended = ⊤
-Tells Cut (cut interim) = ⊤
-Tells _ _ = ⊥
+abbrev pub TellsItem : Inlet → Item → Type 0
+TellsItem (Post body keep) (post bytes stays interim) = (body.items ≡ bytes) × (keep ≡ stays)
+TellsItem (Bad status) (fault code) = status ≡ code
+TellsItem Ended ended = ⊤
+TellsItem Cut (cut interim) = ⊤
+TellsItem _ _ = ⊥

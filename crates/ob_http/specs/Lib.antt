@@ -5,6 +5,7 @@ pub mod Item
 pub mod Reply
 pub mod Written
 pub mod Connection
+pub mod Taking
 pub mod SoFar
 pub mod Front
 pub mod Spans

@@ -4,12 +4,12 @@ use Rattle.std.specs.Prelude.{ℕ, ◌+◌, ◌-◌, ◌==◌, ◌&&◌, Bool, L
 use Rattle.std.specs.List.{slice_split, sum_by, list_all, after_last}
 
 -- the byte that ends a line
-abbrev pub is_line_feed : ℕ → Bool
-is_line_feed byte = byte == 10
+abbrev pub ends_line : ℕ → Bool
+ends_line byte = byte == 10
 
 -- the lines that a line feed ends, without it; what stands after the last line feed is none
 abbrev pub ended_lines : List ℕ → List (List ℕ)
-ended_lines bytes = let parts = slice_split is_line_feed bytes in take (length parts - 1) parts
+ended_lines bytes = let parts = slice_split ends_line bytes in take (length parts - 1) parts
 
 -- the text of a line: it has no carriage return at its end
 abbrev pub line_text : List ℕ → List ℕ
@@ -20,9 +20,9 @@ abbrev pub is_empty_line : List ℕ → Bool
 is_empty_line line = length (line_text line) == 0
 
 -- how many bytes lines take, with their line feeds
-abbrev pub lines_size : List (List ℕ) → ℕ
-lines_size lines = sum_by (λ line. length line + 1) lines
+abbrev pub size_with_feeds : List (List ℕ) → ℕ
+size_with_feeds lines = sum_by (λ line. length line + 1) lines
 
 -- the bytes are empty lines alone, each ended
 abbrev pub are_empty_lines : List ℕ → Bool
-are_empty_lines bytes = list_all is_empty_line (ended_lines bytes) && length (after_last is_line_feed bytes) == 0
+are_empty_lines bytes = list_all is_empty_line (ended_lines bytes) && length (after_last ends_line bytes) == 0

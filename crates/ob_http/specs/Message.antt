@@ -14,8 +14,8 @@ abbrev pub values_of : List ℕ → RequestHead → List (List ℕ)
 values_of name request = map field_value (filter (λ field. str_eq_ignore_ascii_case field.name name) request.fields)
 
 -- whether a field of this name is there
-abbrev pub has_field : List ℕ → RequestHead → Bool
-has_field name request = list_any (λ field. str_eq_ignore_ascii_case field.name name) request.fields
+abbrev pub has_header : List ℕ → RequestHead → Bool
+has_header name request = list_any (λ field. str_eq_ignore_ascii_case field.name name) request.fields
 
 -- the part of the target before the first question mark
 abbrev pub path_of : RequestHead → List ℕ
@@ -63,7 +63,7 @@ unfoldable pub message_of : RequestHead → Result Message ℕ
 message_of request = do
   _ ← or_status 404 (bytes_eq (path_of request) (codes "/jsonrpc"))
   _ ← or_status 405 (bytes_eq request.method (codes "POST"))
-  _ ← or_status 411 (has_field (codes "content-length") request && not (has_field (codes "transfer-encoding") request))
+  _ ← or_status 411 (has_header (codes "content-length") request && not (has_header (codes "transfer-encoding") request))
   length ← number_or 400 (same_number (values_of (codes "content-length") request))
   _ ← or_status 413 (nat_le length max_line_bytes)
   Ok (record { length = length; keep = keeps_open request; interim = expects_interim request })

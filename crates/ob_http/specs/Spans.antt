@@ -15,12 +15,12 @@ abbrev pub AreWithin : List ℕ → List HeaderSpan → Type 0
 AreWithin bytes spans = All (IsHeaderWithin (length bytes)) spans
 
 -- the field that a span covers has this name, in any case
-abbrev pub is_named : List ℕ → List ℕ → HeaderSpan → Bool
-is_named bytes name span = str_eq_ignore_ascii_case (span_bytes bytes span.name) name
+abbrev pub is_header_named : List ℕ → List ℕ → HeaderSpan → Bool
+is_header_named bytes name span = str_eq_ignore_ascii_case (span_bytes bytes span.name) name
 
 -- the values that the spans of this name cover
 abbrev pub values_at : List ℕ → List ℕ → List HeaderSpan → List (List ℕ)
-values_at bytes name spans = map (λ span. span_bytes bytes span.value) (filter (is_named bytes name) spans)
+values_at bytes name spans = map (λ span. span_bytes bytes span.value) (filter (is_header_named bytes name) spans)
 
 -- the spans cover the parts of a request
 pub record Covers (bytes : List ℕ) (request : RequestSpans) (spans : List HeaderSpan) (head : RequestHead) : Type 0 where

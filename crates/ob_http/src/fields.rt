@@ -9,7 +9,7 @@ ghost use Rattle.httparse.specs.Grammar.{trim_ows, AllPass};
 ghost use Rattle.httparse.specs.Spans.{IsHeaderWithin};
 ghost use Rattle.ob_http.specs.Message as spec;
 ghost use Rattle.ob_http.specs.Message.{same_number, without_zeros};
-ghost use Rattle.ob_http.specs.Spans.{AreWithin, is_named, values_at};
+ghost use Rattle.ob_http.specs.Spans.{AreWithin, is_header_named, values_at};
 
 use crate::length::number_digits;
 use crate::text::{cut_at, is_same_text, trimmed};
@@ -35,9 +35,11 @@ impl<'b> Fields<'b> {
     /// Whether a field of this name is there.
     pub(crate) fn has(self, name: &[u8]) -> bool
         requires { AreWithin self.head.now self.spans.now }
-        ensures { result ≡ list_any (is_named self.entry.head.now name.now) self.entry.spans.now }
+        ensures { result ≡ list_any (is_header_named self.entry.head.now name.now) self.entry.spans.now }
     {
-        self.spans.iter().any(|field| self.is_named(*field, name))
+        self.spans
+            .iter()
+            .any(|field| self.is_header_named(*field, name))
     }
 
     /// Whether a field of this name has this value, without regard to case.
@@ -47,7 +49,9 @@ impl<'b> Fields<'b> {
             (values_at self.entry.head.now name.now self.entry.spans.now) }
     {
         for field in self.spans {
-            if self.is_named(*field, name) && is_same_text(field.value.of(self.head), value) {
+            if self.is_header_named(*field, name)
+                && is_same_text(field.value.of(self.head), value)
+            {
                 return true;
             }
         }
@@ -61,7 +65,7 @@ impl<'b> Fields<'b> {
             (values_at self.entry.head.now name.now self.entry.spans.now) }
     {
         for field in self.spans {
-            if self.is_named(*field, name) && lists_word(field.value.of(self.head), word) {
+            if self.is_header_named(*field, name) && lists_word(field.value.of(self.head), word) {
                 return true;
             }
         }
@@ -69,9 +73,9 @@ impl<'b> Fields<'b> {
     }
 
     /// Whether the field has this name.
-    fn is_named(self, field: HeaderSpan, name: &[u8]) -> bool
+    fn is_header_named(self, field: HeaderSpan, name: &[u8]) -> bool
         requires { IsHeaderWithin (length self.head.now) field }
-        ensures { result ≡ is_named self.entry.head.now name.now field }
+        ensures { result ≡ is_header_named self.entry.head.now name.now field }
     {
         is_same_text(field.name.of(self.head), name)
     }
@@ -89,7 +93,7 @@ impl<'b> Fields<'b> {
     {
         let mut found: Option<&'b [u8]> = None;
         for field in self.spans {
-            if !self.is_named(*field, name) {
+            if !self.is_header_named(*field, name) {
                 continue;
             }
             let Some(digits) = number_digits(field.value.of(self.head)) else {

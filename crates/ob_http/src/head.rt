@@ -8,7 +8,7 @@ ghost use Rattle.httparse.specs.Spans.{IsWithin, IsRequestWithin, IsRequestOf};
 ghost use Rattle.ob_http.specs.Head as spec;
 ghost use Rattle.ob_http.specs.Head.{Head, head_of, IsHeadAt, Asks};
 ghost use Rattle.ob_http.specs.Message.{message_of, lists_word};
-ghost use Rattle.ob_http.specs.Spans.{AreWithin, Covers, is_named, values_at, length_from};
+ghost use Rattle.ob_http.specs.Spans.{AreWithin, Covers, is_header_named, values_at, length_from};
 
 use crate::fields::{Fields, LengthFault};
 use crate::length::body_length;
@@ -104,7 +104,7 @@ fn expects_interim(version: u8, fields: Fields<'_>) -> bool
 /// The length of the body that the fields give, or the status that says why there is none.
 fn length_of(fields: Fields<'_>) -> Result<usize, u16>
     requires { AreWithin fields.head.now fields.spans.now }
-    ensures { let has = λ (name : List ℕ). list_any (is_named fields.entry.head.now name) fields.entry.spans.now in
+    ensures { let has = λ (name : List ℕ). list_any (is_header_named fields.entry.head.now name) fields.entry.spans.now in
         result ≡ length_from (has (codes "content-length") && not (has (codes "transfer-encoding")))
         (values_at fields.entry.head.now (codes "content-length") fields.entry.spans.now) }
 {

@@ -29,10 +29,10 @@ pub struct Held {
 
 impl Model for Held {
     ghost use Rattle.std.specs.Prelude.{◌^◌, ◌<◌, ◌≤◌, length};
-    ghost use Rattle.ob_http.specs.Connection.{Ahead};
+    ghost use Rattle.ob_http.specs.Connection.{ReadAhead};
     ghost use Rattle.ob_base.specs.Limits.{max_head_bytes};
 
-    ghost Value = { Ahead };
+    ghost Value = { ReadAhead };
 
     ghost view = { λ h. record { bytes = h.bytes.items; taken = h.taken } };
 

@@ -1,10 +1,11 @@
 //! The next message of a connection, whatever pieces its bytes come in.
 
-ghost use Rattle.std.specs.Prelude.{◌≡◌, ◌≤◌, ◌⊎◌, ℕ, List, [], Ok, Err, IfOk, IfSome, IsErr, IsTrue, OnOk, OnErr, length, if◌then◌else◌};
+ghost use Rattle.std.specs.Prelude.{◌≡◌, ◌≤◌, [], Err, IsErr, IsTrue, OnOk, OnErr, length, if◌then◌else◌};
 ghost use Rattle.ob_base.specs.Limits.{max_head_bytes};
 ghost use Rattle.ob_io.specs.Cause.{Rose, HasCause};
-ghost use Rattle.ob_http.specs.Connection.{connection_of, coming_bytes, Sent, Receives, StopsReading, StopsWriting, WritesInterim};
-ghost use Rattle.ob_http.specs.Reply.{IsFaultStatus, interim_bytes};
+ghost use Rattle.ob_http.specs.Connection.{connection_of};
+ghost use Rattle.ob_http.specs.Taking.{TakesNext};
+ghost use Rattle.ob_http.specs.Reply.{interim_bytes};
 ghost use Rattle.ob_http.specs.Written.{Wrote, WroteFront};
 ghost use Rattle.ob_http.specs.Front.{BeginsWithHead};
 
@@ -19,23 +20,10 @@ use ob_io::{Door, Failed};
 /// before the body is read, where the message asks for it. After an `Err`, and after any
 /// other answer than a message that keeps the connection, nothing more is to be read of it.
 pub fn next_request<D: Door>(door: &mut D, held: &mut Held) -> Result<Inlet, HttpFault>
-    ensures item { let before = connection_of held.old (D.left door.old) (D.written door.old) in
-        let now = connection_of held.new (D.left door.new) (D.written door.new) in
-        IfOk result (λ inlet. IfSome (coming_bytes before) (λ bytes. Receives before now bytes inlet)) }
-    ensures status { (status : ℕ) → result ≡ Ok (Inlet.Bad status) → IsFaultStatus status }
+    ensures takes { TakesNext
+        (connection_of held.old (D.left door.old) (D.written door.old))
+        (connection_of held.new (D.left door.new) (D.written door.new)) result }
     ensures few { length held.new.bytes ≤ max_head_bytes }
-
-    // What the connection sent in this call was counted, whatever the answer.
-    ensures sent { let before = connection_of held.old (D.left door.old) (D.written door.old) in
-        let now = connection_of held.new (D.left door.new) (D.written door.new) in
-        (part : List ℕ) × Sent before now part
-        × (result ≡ Err HttpFault.Failed → IfSome (coming_bytes before) (λ bytes.
-        StopsReading before now part ⊎ StopsWriting before now bytes)) }
-
-    // Where memory was wanting, nothing was written but the interim line, and that only where it is due.
-    ensures memory { let before = connection_of held.old (D.left door.old) (D.written door.old) in
-        let now = connection_of held.new (D.left door.new) (D.written door.new) in
-        result ≡ Err HttpFault.NoMemory → Wrote before.written now.written [] ⊎ WritesInterim before now }
     ensures failed { result ≡ Err HttpFault.Failed → Rose (D.faults door.old) (D.faults door.new) }
     ensures no_fall { D.faults door.old ≤ D.faults door.new }
     ensures others { (D.coming door.new ≡ D.coming door.old) × (D.next_faults door.new ≡ D.next_faults door.old) }
@@ -51,19 +39,10 @@ pub fn next_request<D: Door>(door: &mut D, held: &mut Held) -> Result<Inlet, Htt
 /// Takes the message whose head was read ahead.
 fn take_message<D: Door>(door: &mut D, held: &mut Held, head: HeadSize) -> Result<Inlet, HttpFault>
     requires { BeginsWithHead held.old.bytes head }
-    ensures item { let before = connection_of held.old (D.left door.old) (D.written door.old) in
-        let now = connection_of held.new (D.left door.new) (D.written door.new) in
-        IfOk result (λ inlet. IfSome (coming_bytes before) (λ bytes. Receives before now bytes inlet)) }
-    ensures status { (status : ℕ) → result ≡ Ok (Inlet.Bad status) → IsFaultStatus status }
+    ensures takes { TakesNext
+        (connection_of held.old (D.left door.old) (D.written door.old))
+        (connection_of held.new (D.left door.new) (D.written door.new)) result }
     ensures few { length held.new.bytes ≤ max_head_bytes }
-    ensures sent { let before = connection_of held.old (D.left door.old) (D.written door.old) in
-        let now = connection_of held.new (D.left door.new) (D.written door.new) in
-        (part : List ℕ) × Sent before now part
-        × (result ≡ Err HttpFault.Failed → IfSome (coming_bytes before) (λ bytes.
-        StopsReading before now part ⊎ StopsWriting before now bytes)) }
-    ensures memory { let before = connection_of held.old (D.left door.old) (D.written door.old) in
-        let now = connection_of held.new (D.left door.new) (D.written door.new) in
-        result ≡ Err HttpFault.NoMemory → Wrote before.written now.written [] ⊎ WritesInterim before now }
     ensures cause { HasCause (D.faults door.old) (D.faults door.new)
         (result ≡ Err HttpFault.Failed) }
     ensures others { (D.coming door.new ≡ D.coming door.old) × (D.next_faults door.new ≡ D.next_faults door.old) }

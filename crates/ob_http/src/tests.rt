@@ -22,7 +22,7 @@ fn door_of<R: AllocGlobal>(rt: &R, text: &str, cut: usize) -> Result<SureDoor, F
 
 #[test]
 fn a_message_comes_in_whatever_pieces(rt: HostRuntime) -> Result<(), Fail> {
-    for cut in [1, 7, 64, 100, 101, 102, 4_096] {
+    for cut in 1..=LOGIN.len() {
         let mut door = door_of(&rt, LOGIN, cut)?;
         let mut held = Held::new(rt.alloc());
         match next_request(&mut door, &mut held) {
@@ -35,6 +35,18 @@ fn a_message_comes_in_whatever_pieces(rt: HostRuntime) -> Result<(), Fail> {
         }
         assert!(rt; matches!(next_request(&mut door, &mut held), Ok(Inlet::Ended)));
         assert_eq!(rt; held.taken(), LOGIN.len() as u64);
+    }
+    Ok(())
+}
+
+#[test]
+fn a_message_that_ends_too_early_is_cut(rt: HostRuntime) -> Result<(), Fail> {
+    for end in 0..LOGIN.len() {
+        for cut in [1, 7, 64, 4_096] {
+            let bytes = Vec::from_slice(rt.alloc(), &LOGIN.as_bytes()[..end])?;
+            let told = items_of(rt.alloc(), bytes, cut)?;
+            assert_eq!(rt; told.as_str(), if end == 0 { "ended" } else { "cut" });
+        }
     }
     Ok(())
 }
@@ -210,6 +222,54 @@ fn heads_have_their_limits(rt: HostRuntime) -> Result<(), Fail> {
     let before = "POST /web HTTP/2.0|";
     assert_eq!(rt; items_with(&rt, before, "N v|", 64, "|")?.as_str(), "505");
     assert_eq!(rt; items_with(&rt, before, "N v|", 65, "|")?.as_str(), "431");
+    Ok(())
+}
+
+/// The byte at a place of a long body: neighbours differ, and so do those a power of two apart.
+fn long_body_byte(place: usize) -> u8 {
+    (place % 251) as u8
+}
+
+/// A door of one connection: a head, a body that is as long as the head says, and a further head.
+fn long_door<R: AllocGlobal>(rt: &R, size: usize, cut: usize) -> Result<SureDoor, Fail> {
+    let alloc = rt.alloc();
+    let head = format!(in alloc; "POST /jsonrpc HTTP/1.1\r\nContent-Length: {size}\r\n\r\n")?;
+    let mut bytes = Vec::from_slice(alloc, head.as_bytes())?;
+    for place in 0..size {
+        bytes.push(long_body_byte(place))?;
+    }
+    bytes.extend_from_slice(b"GET /web HTTP/1.1\r\n\r\n")?;
+    let mut door = SureDoor::new(alloc, vec![in alloc; bytes]?, cut, 0)?;
+    let _ = door.next();
+    Ok(door)
+}
+
+#[test]
+fn a_body_of_the_greatest_size_comes_in_whole(rt: HostRuntime) -> Result<(), Fail> {
+    for cut in [4_096, 1_000_003] {
+        let mut door = long_door(&rt, 8_388_608, cut)?;
+        let mut held = Held::new(rt.alloc());
+        match next_request(&mut door, &mut held) {
+            Ok(Inlet::Post { body, keep }) => {
+                assert!(rt; keep);
+                assert_eq!(rt; body.len(), 8_388_608);
+                for (place, byte) in body.iter().enumerate() {
+                    assert_eq!(rt; *byte, long_body_byte(place));
+                }
+            }
+            _ => assert!(rt; false),
+        }
+        assert!(rt; matches!(next_request(&mut door, &mut held), Ok(Inlet::Bad(404))));
+    }
+    Ok(())
+}
+
+#[test]
+fn a_longer_body_is_refused_unread(rt: HostRuntime) -> Result<(), Fail> {
+    let mut door = long_door(&rt, 8_388_609, 4_096)?;
+    let mut held = Held::new(rt.alloc());
+    assert!(rt; matches!(next_request(&mut door, &mut held), Ok(Inlet::Bad(413))));
+    assert_eq!(rt; held.taken(), 4_096);
     Ok(())
 }
 

@@ -32,7 +32,8 @@ coded_link = code_by (ℕ × ℕ) (coded× coded_ℕ coded_ℕ) (λ l. (l.field.
 
 abbrev coded_row : Coded KeptRow
 coded_row =
-    code_by (ℕ × (List ℕ × List Link)) (coded× coded_ℕ (coded× (coded_list coded_ℕ) (coded_list coded_link))) (λ r. (r.id.0, (r.body, r.links))) (λ p. record { id = record { 0 = p.0 }; body = p.1.0; links = p.1.1 }) (λ _. refl)
+    code_by (ℕ × (List ℕ × List Link)) (coded× coded_ℕ (coded× (coded_list coded_ℕ) (coded_list coded_link))) (λ r. (r.id.0, (r.body, r.links)))
+    (λ p. record { id = record { 0 = p.0 }; body = p.1.0; links = p.1.1 }) (λ _. refl)
 
 -- a store is stored as its two maps
 abbrev pub coded_store : Coded Store

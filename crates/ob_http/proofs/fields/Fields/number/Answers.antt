@@ -12,7 +12,7 @@ returns-in_default-clause-unequal c =
     let later = values_at c.args.self.head.now c.args.name.now (drop (c.loop-field.field-index + 1) c.args.self.spans.now) in
     let decimal = not_decimal c.number_digits.result c.of.result.now c.number_digits.ensures c.in_default.is in
     let next = named_next c.args.self.head.now c.args.name.now c.args.self.spans.now c.loop-field.field-index no_span c.of.result.now c.loop-field-test.true
-    (sym c.is_named.ensures ∙ c.if-not-is_named.false) c.of.ensures in
+    (sym c.is_header_named.ensures ∙ c.if-not-is_header_named.false) c.of.ensures in
     λ _. tells_unequal _ (sym c.loop-field.invariant ∙ ap (common_digits found) next ∙ refused found c.of.result.now later decimal)
 
 pub returns-in-Some-found-clause-unequal : goal.returns-in-Some-found-clause-unequal
@@ -20,7 +20,7 @@ returns-in-Some-found-clause-unequal c =
     let found = option_map (λ (d : Bor (List ℕ)). d.now) c.loop-field.found in
     let later = values_at c.args.self.head.now c.args.name.now (drop (c.loop-field.field-index + 1) c.args.self.spans.now) in
     let next = named_next c.args.self.head.now c.args.name.now c.args.self.spans.now c.loop-field.field-index no_span c.of.result.now c.loop-field-test.true
-    (sym c.is_named.ensures ∙ c.if-not-is_named.false) c.of.ensures in
+    (sym c.is_header_named.ensures ∙ c.if-not-is_header_named.false) c.of.ensures in
     let others : not (bytes_eq c.in-Some-found.earlier.now c.in-Some.digits.now) ≡ true
     = ap (λ (b : Bor (List ℕ)). not (bytes_eq b.now c.in-Some.digits.now)) (sym c.in-Some-found.earlier-is) ∙ sym c.ne.ensures ∙ c.if-ne.true in
     let apart = told_apart c.loop-field.found c.in-Some-found.earlier c.number_digits.result c.in-Some.digits c.of.result.now c.number_digits.ensures c.in-Some-found.is c.in-Some.is others in

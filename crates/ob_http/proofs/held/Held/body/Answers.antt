@@ -1,7 +1,7 @@
 -- The body has what was held, and then what is read, up to its size.
 use Rattle.std.proofs.Common.{◌≡◌, ◌++◌, ◌+◌, ◌-◌, ◌∙◌, ◌≤◌, take, drop, length, arith, refl, ap, sym}
 use Rattle.std.proofs.lemmas.List.{length-take, length-drop}
-use Rattle.ob_http.specs.Connection.{Ahead}
+use Rattle.ob_http.specs.Connection.{ReadAhead}
 use Rattle.ob_http.proofs.ReadingOn.{reads_both}
 use Rattle.ob_http.proofs.BodyLaws.{length-written_room, front-written_room, reads_part, filled_more, front_more, rest_more}
 use Rattle.ob_http.proofs.held.Held.body.Goals as goal
@@ -35,8 +35,8 @@ loop-filled-preserved g c =
       count = filled_more c.args.size n c.args.self.now.bytes i.part room filled i.count c.loop-filled-test.true fits given;
       front = front-written_room c.deref_mut.result.now c.loop-filled.body.items room _ filled c.loop-filled.body.len n len (omega (arith, fits, len, ap length items, i.room)) given
           ∙ front_more c.args.size n c.args.self.now.bytes i.part room (take filled c.deref_mut.result.now) filled i.count c.loop-filled-test.true fits given (ap (take filled) items ∙ i.front);
-      rest = ap (λ (ahead : Ahead). ahead.bytes) same ∙ rest_more c.args.size n c.args.self.now.bytes i.part room c.loop-filled.self.bytes filled i.count c.loop-filled-test.true fits given i.rest;
-      few = omega (arith, i.few, ap (λ (ahead : Ahead). length ahead.bytes) same);
+      rest = ap (λ (ahead : ReadAhead). ahead.bytes) same ∙ rest_more c.args.size n c.args.self.now.bytes i.part room c.loop-filled.self.bytes filled i.count c.loop-filled-test.true fits given i.rest;
+      few = omega (arith, i.few, ap (λ (ahead : ReadAhead). length ahead.bytes) same);
       faults = omega (arith, i.faults, c.read.ensures.cause.no_fall);
       coming = c.read.ensures.others.0 ∙ i.coming;
       next_faults = c.read.ensures.count ∙ i.next_faults;
