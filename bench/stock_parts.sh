@@ -2,9 +2,11 @@
 # How fast the arithmetic of stock is: bench/stock_parts.sh [ITEMS [TIMES]]. Stocks, lines and
 # rules that takes, move_lines and pull_chain work off in a second of a processor, and how
 # much longer each takes at twice the items: at most 2.3 times, as nothing walks over all
-# items for each of them. All by the proved program stockd_probe (`tools/build.sh
-# stockd_probe` builds it), which makes each call as often as its input says; reading the
-# items is taken off. The least of five runs counts. Figures, no test.
+# items for each of them. Where valgrind is there, the ratio of the instructions stands beside
+# that of the times: it is the same in every run, since neither other work nor the size of the
+# processor's caches has a part in it. All by the proved program stockd_probe
+# (`tools/build.sh stockd_probe` builds it), which makes each call as often as its input says;
+# reading the items is taken off. The least of five runs counts. Figures, no test.
 set -euo pipefail
 top=$(cd "$(dirname "$0")/.." && pwd)
 items=${1:-10000}
@@ -60,8 +62,29 @@ calls() {
     awk -v often="$(least "$work/often")" -v once="$(least "$work/once")" 'BEGIN { print often - once }'
 }
 
+# The instructions that an input takes.
+instructions() {
+    valgrind --tool=callgrind --callgrind-out-file=/dev/null "$probe" <"$1" 2>&1 >/dev/null | awk '/Collected/ { print $NF }'
+}
+
+# The instructions of one call for so many items.
+work_of() {
+    "$1" "$2" >"$work/once"
+    sed "s/^/times 2 /" "$work/once" >"$work/twice"
+    echo $(($(instructions "$work/twice") - $(instructions "$work/once")))
+}
+
+# How many times as many instructions a call takes at twice the items.
+work_ratio() {
+    if ! command -v valgrind >/dev/null; then
+        echo "not counted, without valgrind"
+        return
+    fi
+    awk -v a="$(work_of "$1" "$items")" -v b="$(work_of "$1" $((2 * items)))" 'BEGIN { printf "%.2f", b / a }'
+}
+
 for call in takes move_lines pull_chain; do
-    awk -v call=$call -v n="$items" -v m="$times" -v a="$(calls $call "$items")" -v b="$(calls $call $((2 * items)))" 'BEGIN {
-        printf "%s: %.1f million items a second at %d, %.1f million at %d; ratio %.2f\n", call, n * (m - 1) / a / 1e6, n, 2 * n * (m - 1) / b / 1e6, 2 * n, b / a
+    awk -v call=$call -v n="$items" -v m="$times" -v a="$(calls $call "$items")" -v b="$(calls $call $((2 * items)))" -v counted="$(work_ratio $call)" 'BEGIN {
+        printf "%s: %.1f million items a second at %d, %.1f million at %d; ratio of the times %.2f, of the instructions %s\n", call, n * (m - 1) / a / 1e6, n, 2 * n * (m - 1) / b / 1e6, 2 * n, b / a, counted
     }'
 done

@@ -1,36 +1,37 @@
 //! Evaluation of a checked expression over cells that are there already. Each
 //! evaluation is one step of the counter, and a part is read only where the parts
-//! before it have a value. A new form of the tree gets its value here and in
-//! `specs/Meaning`, what it may read in `specs/Reads`, and a fault of its own in
-//! `specs/Outcome`.
+//! before it have a value and don't decide. A new form of the tree gets its value here and
+//! in `specs/Meaning`, and what it may read in `specs/Reads`.
 
-ghost use Rattle.std.specs.Prelude.{◌≡◌, Bool, IfOk, IfErr, IsTrue, Ok, OnOk};
+ghost use Rattle.std.specs.Prelude.{◌≡◌, IfOk, IfErr, Ok, Option, Some, IsOk};
 ghost use Rattle.ob_base.specs.Tally.{ticked};
-ghost use Rattle.ob_base.specs.ValueOrder.{integer_of};
 ghost use Rattle.ob_base.specs.declared.id.Cell.{Cell};
 ghost use Rattle.ob_base.specs.declared.value.Value.{Value};
-ghost use Rattle.ob_expr.specs.declared.checker.Kind.TheVariants.{Int as an_integer};
-ghost use Rattle.ob_expr.specs.Checking.{IsWellKinded, TypedTree, kind_of, typed_tree_of};
-ghost use Rattle.ob_expr.specs.Meaning.{HasKind, HoldsKinds, held_in_row, meaning};
+ghost use Rattle.ob_expr.specs.TypedTree.{IsWellKinded, TypedTree, kind_of, typed_tree_of};
+ghost use Rattle.ob_expr.specs.Chain.{each};
+ghost use Rattle.ob_expr.specs.Kinds.{HasKind};
+ghost use Rattle.ob_expr.specs.Meaning.{ids_of, meaning, path_value, row_at, row_of};
 ghost use Rattle.ob_expr.specs.Outcome.{IsEvalFault};
-ghost use Rattle.ob_expr.specs.Reads.{MayRead, MeansValue};
+ghost use Rattle.ob_expr.specs.Reads.{ComesToPaths, EachInTurn, GivesCellsValues, HoldsKinds, MayRead, MayReadPath, ReadsAlongPaths};
+ghost use Rattle.ob_expr.specs.Told.{TellsRead};
 
-use crate::checker::Typed;
-use ob_base::{Cell, Ledger, Steps, Value};
+use crate::computing::{
+    chosen, decides, digits, empty_value, fitted, gathered, is_true, joined, operated, prefixed,
+};
+use crate::fault::EvalFault;
+use crate::row::Row;
+use crate::typed::{Path, Typed};
+use ob_base::{Cell, Ledger, ModelNo, RecId, Steps, Value};
 use std::alloc::Global;
 use std::marker::Model;
-use thiserror::Error;
 
 /// The cells that an expression reads. What a cell holds is there already: reading it
 /// evaluates nothing.
 pub trait Reads {
     type Fault;
 
-    /// What each cell holds, where it has a value.
-    ghost value_of: { Self → Cell → Value };
-
-    /// Whether a cell has a value: that it has one is known once it is read.
-    ghost has_value: { Self → Cell → Bool };
+    /// What each cell holds; none where it has no value.
+    ghost held: { Self → Cell → Option Value };
 
     /// The cells that may be read.
     ghost can_read: { Self → Cell → Type 0 };
@@ -41,31 +42,10 @@ pub trait Reads {
     /// Reads a cell. No cell changes by it.
     fn value(&mut self, cell: Cell) -> Result<Value, Self::Fault>
         requires { can_read self.old cell }
-        ensures value { IfOk result (λ value. value ≡ value_of self.old cell) }
-        ensures there { OnOk result (IsTrue (has_value self.old cell)) }
+        ensures value { IfOk result (λ value. held self.old cell ≡ Some value) }
         ensures failed { IfErr result (has_failed self.new) }
-        ensures kept { value_of self.new ≡ value_of self.old }
-        ensures same { has_value self.new ≡ has_value self.old }
+        ensures kept { held self.new ≡ held self.old }
         ensures readable { (c : Cell) → can_read self.old c → can_read self.new c };
-}
-
-/// Why an evaluation gave no value.
-#[derive(Debug, Drop, Error)]
-pub enum EvalFault<F> {
-    /// An integer does not fit 64 bits.
-    #[error("overflow")]
-    Overflow,
-    /// A text is too long.
-    #[error("too long")]
-    TooLong,
-    /// A division by zero.
-    #[error("division by zero")]
-    ZeroDivisor,
-    /// A read failed.
-    #[error("a read failed")]
-    Read(F),
-    #[error("no memory")]
-    NoMemory,
 }
 
 /// A value that was evaluated for a cell. Only `eval` makes one.
@@ -103,100 +83,175 @@ impl Fresh {
     }
 }
 
-/// Evaluates a checked expression for a cell, over the fields of the cell's row.
-/// It ticks once, before it reads. The first fault is told: of the left part, of the
-/// right part, of the whole. No form so far needs memory; those to come will.
+/// Evaluates a checked expression for a cell, over the cells along its paths from the
+/// cell's row. It ticks once, before it reads. The first fault is told, operands from the left.
 pub fn eval<R: Reads, L: Ledger>(
-    _alloc: Global,
+    alloc: Global,
     typed: &Typed,
     cell: Cell,
     reads: &mut R,
     steps: &mut Steps<L>,
 ) -> Result<Fresh, EvalFault<R::Fault>>
     requires kinded { IsWellKinded (typed_tree_of typed.now) }
-    requires readable { MayRead (R.has_value reads.old) (R.value_of reads.old) cell
-        (R.can_read reads.old) (typed_tree_of typed.now) }
-    requires held { HoldsKinds (held_in_row (R.value_of reads.old) cell) (typed_tree_of typed.now) }
+    requires readable { MayRead (R.held reads.old) (R.can_read reads.old) (row_of cell) (typed_tree_of typed.now) }
+    requires held { HoldsKinds (R.held reads.old) cell.model (typed_tree_of typed.now) }
 
     ensures cell { IfOk result (λ fresh. fresh.cell ≡ cell) }
     ensures value { IfOk result
-        (λ fresh. meaning (typed_tree_of typed.now) (held_in_row (R.value_of reads.old) cell)
-        ≡ Ok fresh.value) }
+        (λ fresh. meaning (R.held reads.old) (row_of cell) (typed_tree_of typed.now) ≡ Ok fresh.value) }
     ensures kind { IfOk result (λ fresh. HasKind (kind_of (typed_tree_of typed.now)) fresh.value) }
-    ensures there { OnOk result
-        (MeansValue (R.has_value reads.old) (R.value_of reads.old) cell (typed_tree_of typed.now)) }
     ensures fault { IfErr result
         (IsEvalFault (R.has_failed reads.new)
-        (meaning (typed_tree_of typed.now) (held_in_row (R.value_of reads.old) cell))) }
+        (meaning (R.held reads.old) (row_of cell) (typed_tree_of typed.now))) }
 
     ensures ticked { steps.new ≡ ticked L.noted steps.old }
-    ensures kept { R.value_of reads.new ≡ R.value_of reads.old }
-    ensures same { R.has_value reads.new ≡ R.has_value reads.old }
+    ensures kept { R.held reads.new ≡ R.held reads.old }
     ensures readable { (c : Cell) → R.can_read reads.old c → R.can_read reads.new c }
 {
     steps.tick();
-    let value = value_in_row(typed, cell, reads)?;
+    let value = value_in(alloc, typed, Row::of(cell), reads)?;
     Ok(Fresh { cell, value })
 }
 
-/// The value of an expression over the fields of a cell's row.
-fn value_in_row<R: Reads>(
+/// What an expression means depends on the cells along its paths alone, and an evaluation
+/// comes to no others.
+pub fn reads_along_paths()
+    ensures meaning { (tree : TypedTree) → ReadsAlongPaths tree }
+    ensures reads { (tree : TypedTree) → ComesToPaths tree }
+{}
+
+/// What an expression means is what a cell holds, or what operators make: so a day, a
+/// moment and a reference are always a cell's.
+pub fn values_from_cells()
+    ensures { (tree : TypedTree) → GivesCellsValues tree }
+{}
+
+/// The value of an expression in a row.
+#[cycle(values)]
+fn value_in<R: Reads>(
+    alloc: Global,
     typed: &Typed,
-    cell: Cell,
+    row: Row,
     reads: &mut R,
 ) -> Result<Value, EvalFault<R::Fault>>
-    requires kinded { IsWellKinded (typed_tree_of typed.now) }
-    requires readable { MayRead (R.has_value reads.old) (R.value_of reads.old) cell
-        (R.can_read reads.old) (typed_tree_of typed.now) }
-    requires held { HoldsKinds (held_in_row (R.value_of reads.old) cell) (typed_tree_of typed.now) }
-
-    ensures value { IfOk result
-        (λ value. meaning (typed_tree_of typed.now) (held_in_row (R.value_of reads.old) cell)
-        ≡ Ok value) }
-    ensures kind { IfOk result (HasKind (kind_of (typed_tree_of typed.now))) }
-    ensures there { OnOk result
-        (MeansValue (R.has_value reads.old) (R.value_of reads.old) cell (typed_tree_of typed.now)) }
-    ensures fault { IfErr result
-        (IsEvalFault (R.has_failed reads.new)
-        (meaning (typed_tree_of typed.now) (held_in_row (R.value_of reads.old) cell))) }
-
-    ensures kept { R.value_of reads.new ≡ R.value_of reads.old }
-    ensures same { R.has_value reads.new ≡ R.has_value reads.old }
+    requires { MayRead (R.held reads.old) (R.can_read reads.old) row (typed_tree_of typed.now) }
+    ensures told { TellsRead (R.has_failed reads.new) (λ v. v) result (meaning (R.held reads.old) row (typed_tree_of typed.now)) }
+    ensures kept { R.held reads.new ≡ R.held reads.old }
     ensures readable { (c : Cell) → R.can_read reads.old c → R.can_read reads.new c }
-    ensures still_readable { (tree : TypedTree)
-        → MayRead (R.has_value reads.old) (R.value_of reads.old) cell (R.can_read reads.old) tree
-        → MayRead (R.has_value reads.new) (R.value_of reads.new) cell (R.can_read reads.new) tree }
-    ensures still_held { (tree : TypedTree)
-        → HoldsKinds (held_in_row (R.value_of reads.old) cell) tree
-        → HoldsKinds (held_in_row (R.value_of reads.new) cell) tree }
 {
     match typed {
-        Typed::Field(field, _) => {
-            let read = Cell {
-                model: cell.model,
-                id: cell.id,
-                field: *field,
-            };
-            reads.value(read).map_err(EvalFault::Read)
-        }
-        Typed::Product(left, right) => {
-            let left = value_in_row(left, cell, reads)?;
-            let right = value_in_row(right, cell, reads)?;
-            match integer(left).checked_mul(integer(right)) {
-                Some(product) => Ok(Value::Int(product)),
-                None => Err(EvalFault::Overflow),
+        Typed::Id => fitted(row.id.0 as i128),
+        Typed::Integer(number) => Ok(Value::Int(*number)),
+        Typed::Text(text) => Ok(Value::Word(text.try_clone(alloc)?)),
+        Typed::Truth(flag) => Ok(Value::Bool(*flag)),
+        Typed::Unset(_) => Ok(Value::Nil),
+        Typed::Path(path) => path_value(alloc, path, row, reads),
+        Typed::Prefix(prefix, inner) => prefixed(*prefix, &value_in(alloc, inner, row, reads)?),
+        Typed::Binary(operator, left, right) => {
+            let left = value_in(alloc, left, row, reads)?;
+            if decides(*operator, &left) {
+                return Ok(left);
             }
+            let right = value_in(alloc, right, row, reads)?;
+            operated(*operator, left, right)
+        }
+        Typed::Chosen(which, left, right) => {
+            let left = value_in(alloc, left, row, reads)?;
+            let right = value_in(alloc, right, row, reads)?;
+            Ok(chosen(*which, left, right))
+        }
+        Typed::If(condition, first, second) => {
+            let condition = value_in(alloc, condition, row, reads)?;
+            if is_true(&condition) {
+                value_in(alloc, first, row, reads)
+            } else {
+                value_in(alloc, second, row, reads)
+            }
+        }
+        Typed::Joined(parts) => joined(alloc, &values_of(alloc, parts, row, reads)?),
+        Typed::Digits(inner) => digits(alloc, &value_in(alloc, inner, row, reads)?),
+        Typed::Over(aggregate, path, target, inner) => {
+            let targets = path_value(alloc, path, row, reads)?;
+            let values = values_at(alloc, inner, *target, ids_of(&targets), reads)?;
+            gathered(alloc, *aggregate, inner.kind(), values)
         }
     }
 }
 
-/// The number that an integer holds.
-fn integer(value: Value) -> i64
-    requires { HasKind an_integer value }
-    ensures { integer_of value ≡ result }
+/// The values of parts in a row, in their turn.
+#[cycle(values)]
+fn values_of<R: Reads>(
+    alloc: Global,
+    parts: &[Typed],
+    row: Row,
+    reads: &mut R,
+) -> Result<Vec<Value>, EvalFault<R::Fault>>
+    requires { EachInTurn (λ part. IsOk (meaning (R.held reads.old) row (typed_tree_of part))) (λ part. MayRead (R.held reads.old) (R.can_read reads.old) row (typed_tree_of part)) parts.now }
+    ensures told { TellsRead (R.has_failed reads.new) (λ vs. vs.items) result (each (λ part. meaning (R.held reads.old) row (typed_tree_of part)) parts.now) }
+    ensures kept { R.held reads.new ≡ R.held reads.old }
+    ensures readable { (c : Cell) → R.can_read reads.old c → R.can_read reads.new c }
+{
+    let mut values = Vec::new(alloc);
+    for part in parts {
+        values.push(value_in(alloc, part, row, reads)?)?;
+    }
+    Ok(values)
+}
+
+/// The values of an expression in rows of a model, in their turn.
+#[cycle(values)]
+fn values_at<R: Reads>(
+    alloc: Global,
+    typed: &Typed,
+    model: ModelNo,
+    ids: &[RecId],
+    reads: &mut R,
+) -> Result<Vec<Value>, EvalFault<R::Fault>>
+    requires { EachInTurn (λ id. IsOk (meaning (R.held reads.old) (row_at model id) (typed_tree_of typed.now))) (λ id. MayRead (R.held reads.old) (R.can_read reads.old) (row_at model id) (typed_tree_of typed.now)) ids.now }
+    ensures told { TellsRead (R.has_failed reads.new) (λ vs. vs.items) result (each (λ id. meaning (R.held reads.old) (row_at model id) (typed_tree_of typed.now)) ids.now) }
+    ensures kept { R.held reads.new ≡ R.held reads.old }
+    ensures readable { (c : Cell) → R.can_read reads.old c → R.can_read reads.new c }
+{
+    let mut values = Vec::new(alloc);
+    for id in ids {
+        let row = Row { model, id: *id };
+        values.push(value_in(alloc, typed, row, reads)?)?;
+    }
+    Ok(values)
+}
+
+/// The value at the end of a path; behind an unset step stands nothing.
+fn path_value<R: Reads>(
+    alloc: Global,
+    path: &Path,
+    row: Row,
+    reads: &mut R,
+) -> Result<Value, EvalFault<R::Fault>>
+    requires { MayReadPath (R.held reads.old) (R.can_read reads.old) row path.now.links path.now.field }
+    ensures told { TellsRead (R.has_failed reads.new) (λ v. v) result (path_value (R.held reads.old) row path.now) }
+    ensures kept { R.held reads.new ≡ R.held reads.old }
+    ensures readable { (c : Cell) → R.can_read reads.old c → R.can_read reads.new c }
+{
+    let mut row = row;
+    for link in path.links() {
+        let step = reads.value(row.cell(link.field)).map_err(EvalFault::Read)?;
+        let Value::Ref(id) = step else {
+            return Ok(empty_value(alloc, path.kind()));
+        };
+        row = Row {
+            model: link.target,
+            id,
+        };
+    }
+    reads.value(row.cell(path.field())).map_err(EvalFault::Read)
+}
+
+/// The rows that a list names.
+fn ids_of(value: &Value) -> &[RecId]
+    ensures { result.now ≡ ids_of value.now }
 {
     match value {
-        Value::Int(number) => number,
-        _ => unreachable!(),
+        Value::Refs(ids) => ids.as_slice(),
+        _ => &[],
     }
 }

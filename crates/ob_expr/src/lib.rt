@@ -1,24 +1,32 @@
-//! The expressions of computed fields: read from text, checked in a scope, and
-//! evaluated over cells that are there already. So far the language has names of
-//! one step, joined by `*`. Its contract: `parse` reads exactly the texts of the
-//! language, `check` accepts exactly what has a kind in its scope, and `eval` gives
-//! the value that the expression means over the cells it may read, and ticks once.
+//! The meaning of expressions: checked in a scope, and evaluated over cells that are there
+//! already. Its contract: `check` accepts exactly what has a kind in its scope, and names the
+//! first part that has none; `eval` gives the value that the expression means over the cells
+//! it comes to, and ticks once.
 //!
-//! Rooms: `lexeme` cuts a text into tokens, `syntax` is the tree, `parser` reads a
-//! tree, `checker` resolves its names and kinds over a `Scope`, `evaluator` evaluates
-//! what was checked over `Reads`. A new form of the language goes through all five.
+//! Rooms: `kind` and `function` are what names stand for, `typed` is what was checked, with
+//! its `paths`, `operand` the kinds of operators, `checker` resolves names and kinds over a `Scope`, `evaluator` evaluates what
+//! was checked over `Reads`, with the values of `computing`. A new form of the language, once
+//! it has its syntax, goes through all of them.
 #![tactic(auto)]
 
 mod checker;
+mod computing;
 mod evaluator;
-mod lexeme;
-mod parser;
-mod syntax;
+mod fault;
+mod function;
+mod kind;
+mod operand;
+mod paths;
+mod row;
+mod typed;
 
-pub use checker::{Found, Kind, Scope, TypeFault, Typed, check};
-pub use evaluator::{EvalFault, Fresh, Reads, eval};
-pub use parser::{ExprFault, one_tree, parse};
-pub use syntax::Expr;
+pub use checker::{TypeFault, check};
+pub use evaluator::{Fresh, Reads, eval, reads_along_paths, values_from_cells};
+pub use fault::EvalFault;
+pub use kind::{Found, Kind, Scope};
+pub use ob_syntax::{Expr, ExprFault, one_tree, parse};
+pub use paths::Renumbering;
+pub use typed::{Aggregate, Extreme, Link, Path, Typed};
 
 #[cfg(test)]
 mod tests;

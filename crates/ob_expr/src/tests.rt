@@ -1,14 +1,15 @@
-//! Expressions from the text to the value, over a small model: what is refused, and
-//! where. The offsets are counted by hand.
+//! Expressions from the text to the value, over a small model: that the calls succeed, and what
+//! the faults print. Values and offsets are counted by hand.
 
 ghost use Rattle.std.specs.Prelude.{◌≡◌, ◌≤◌, length};
 ghost use Rattle.ob_base.specs.Limits.{max_expression_bytes};
 
 use crate::{
-    EvalFault, ExprFault, Found, Fresh, Kind, Reads, Scope, TypeFault, check, eval, parse,
+    EvalFault, Found, Fresh, Kind, Path, Reads, Renumbering, Scope, TypeFault, Typed, check, eval,
+    reads_along_paths, values_from_cells,
 };
-use ob_base::limits::MAX_EXPRESSION_BYTES;
-use ob_base::{Cell, Counted, FieldNo, ModelNo, RecId, Steps, Value};
+use ob_base::{Cell, Counted, FieldNo, ModelNo, RecId, RefList, Steps, Value};
+use ob_syntax::parse;
 use std::alloc::Global;
 use std::test::Fail;
 
@@ -17,246 +18,228 @@ const MODEL: ModelNo = ModelNo(1);
 const CELL: Cell = Cell {
     model: MODEL,
     id: RecId(7),
-    field: FieldNo(3),
+    field: FieldNo(9),
 };
 
-/// The fields `qty` and `price`, both of one kind.
+/// The integers `qty` and `price`, and the rows `lines` of the same model.
 #[derive(Drop)]
-struct Fields {
-    kind: Kind,
-    usable: bool,
-    via: Option<(FieldNo, ModelNo)>,
-}
+struct Fields;
 
 impl Scope for Fields {
-    ghost use Rattle.std.specs.Prelude.{codes, Some, None, if◌then◌else◌};
+    ghost use Rattle.std.specs.Prelude.{codes, Some, None, if◌then◌else◌, true};
     ghost use Rattle.std.specs.Str.{bytes_eq};
+    ghost use Rattle.ob_expr.specs.declared.kind.Kind.TheVariants as kind;
 
-    ghost finds = { λ fields _ name.
+    ghost finds = { λ _ _ name.
         if bytes_eq name (codes "qty")
-        then Some (record { via = fields.via; field = record { 0 = 1 }; kind = fields.kind; usable = fields.usable })
-        else (if bytes_eq name (codes "price")
-        then Some (record { via = fields.via; field = record { 0 = 2 }; kind = fields.kind; usable = fields.usable })
-        else None) };
+        then Some (record { via = None; field = record { 0 = 1 }; kind = kind.Int; usable = true })
+        else if bytes_eq name (codes "price")
+        then Some (record { via = None; field = record { 0 = 2 }; kind = kind.Int; usable = true })
+        else if bytes_eq name (codes "lines")
+        then Some (record { via = None; field = record { 0 = 3 }; kind = kind.Refs (record { 0 = 1 }); usable = true })
+        else None };
 
     fn field(&self, _model: ModelNo, name: &str) -> Option<Found> {
-        let field = match name {
-            "qty" => FieldNo(1),
-            "price" => FieldNo(2),
+        let (field, kind) = match name {
+            "qty" => (FieldNo(1), Kind::Int),
+            "price" => (FieldNo(2), Kind::Int),
+            "lines" => (FieldNo(3), Kind::Refs(MODEL)),
             _ => return None,
         };
         Some(Found {
-            via: self.via,
+            via: None,
             field,
-            kind: self.kind,
-            usable: self.usable,
+            kind,
+            usable: true,
         })
     }
 }
 
-/// A row of two integers, of which `price` may be out of reach.
+/// Rows of which each has the same integers; `price` may be out of reach.
 #[derive(Drop)]
-struct Row {
+struct Rows {
+    alloc: Global,
     qty: i64,
-    price: i64,
-    price_is_lost: bool,
+    price: Option<i64>,
 }
 
-impl Reads for Row {
-    ghost use Rattle.std.specs.Prelude.{◌≡◌, ◌==◌, ◌||◌, not, true, if◌then◌else◌};
-    ghost use Rattle.ob_base.specs.declared.value.Value.TheVariants.{Int};
+impl Reads for Rows {
+    ghost use Rattle.std.specs.Prelude.{[], ◌==◌, Some, None, is_none, option_map, if◌then◌else◌, true, ◌≡◌};
+    ghost use Rattle.ob_base.specs.declared.value.Value.TheVariants.{Int, Refs};
 
     type Fault = ();
 
-    ghost value_of = { λ row cell. Int (if cell.field.0 == 1 then row.qty else row.price) };
-
-    ghost has_value = { λ row cell. (cell.field.0 == 1) || not row.price_is_lost };
+    ghost held = { λ rows cell.
+        if cell.field.0 == 1 then Some (Int rows.qty)
+        else if cell.field.0 == 2 then option_map Int rows.price
+        else Some (Refs []) };
 
     ghost can_read = { λ _ _. Unit {0} };
 
-    ghost has_failed = { λ row _. row.price_is_lost ≡ true };
+    ghost has_failed = { λ rows _. is_none rows.price ≡ true };
 
     fn value(&mut self, cell: Cell) -> Result<Value, ()> {
-        if cell.field.0 == 1 {
-            return Ok(Value::Int(self.qty));
+        match (cell.field.0, self.price) {
+            (1, _) => Ok(Value::Int(self.qty)),
+            (2, Some(price)) => Ok(Value::Int(price)),
+            (2, None) => Err(()),
+            _ => Ok(Value::Refs(RefList::new(self.alloc))),
         }
-        if self.price_is_lost {
-            return Err(());
-        }
-        Ok(Value::Int(self.price))
     }
 }
 
-/// What a text of integers comes to over a row, and how many steps that took.
+/// The fields `qty` and `price` change places.
+#[derive(Drop)]
+struct Swapped;
+
+impl Renumbering for Swapped {
+    ghost use Rattle.std.specs.Prelude.{◌==◌, if◌then◌else◌};
+
+    ghost renumbers = { λ _ _ field.
+        if field.0 == 1 then record { 0 = 2 }
+        else if field.0 == 2 then record { 0 = 1 }
+        else field };
+
+    fn number(&self, _model: ModelNo, field: FieldNo) -> FieldNo {
+        match field.0 {
+            1 => FieldNo(2),
+            2 => FieldNo(1),
+            _ => field,
+        }
+    }
+}
+
+/// A text over the fields.
+fn typed_of(alloc: Global, text: &str) -> Result<Typed, Fail>
+    requires { length text.now ≤ max_expression_bytes }
+{
+    let expr = parse(alloc, text)?;
+    Ok(check(alloc, &expr, &Fields, MODEL)?)
+}
+
+/// The fault of a text over the fields, if it has one; want of memory fails the test.
+fn type_fault_of(alloc: Global, text: &str) -> Result<Option<TypeFault>, Fail>
+    requires { length text.now ≤ max_expression_bytes }
+{
+    let expr = parse(alloc, text)?;
+    match check(alloc, &expr, &Fields, MODEL) {
+        Err(TypeFault::NoMemory) => Err(Fail::new("no memory")),
+        checked => Ok(checked.err()),
+    }
+}
+
+/// What a text comes to over rows, and how many steps that took; want of memory fails the test.
 fn outcome(
     alloc: Global,
     text: &str,
-    row: &mut Row,
+    qty: i64,
+    price: Option<i64>,
 ) -> Result<(Result<Fresh, EvalFault<()>>, u64), Fail>
     requires { length text.now ≤ max_expression_bytes }
 {
     let expr = parse(alloc, text)?;
-    let fields = Fields {
-        kind: Kind::Int,
-        usable: true,
-        via: None,
-    };
-    let typed = check(alloc, &expr, &fields, MODEL)?;
+    let typed = check(alloc, &expr, &Fields, MODEL)?;
+    let mut rows = Rows { alloc, qty, price };
     let mut steps = Steps::new(Counted { total: 0 });
-    let fresh = eval(alloc, &typed, CELL, row, &mut steps);
-    Ok((fresh, steps.ledger().total))
-}
-
-/// The fault of a text, if it has one.
-fn fault_of(alloc: Global, text: &str) -> Option<ExprFault> {
-    if text.len() > MAX_EXPRESSION_BYTES {
-        return None;
+    match eval(alloc, &typed, CELL, &mut rows, &mut steps) {
+        Err(EvalFault::NoMemory) => Err(Fail::new("no memory")),
+        fresh => Ok((fresh, steps.ledger().total)),
     }
-    parse(alloc, text).err()
-}
-
-/// The fault of a text over fields, if it has one.
-fn type_fault_of(alloc: Global, text: &str, fields: &Fields) -> Result<Option<TypeFault>, Fail>
-    requires { length text.now ≤ max_expression_bytes }
-{
-    let expr = parse(alloc, text)?;
-    Ok(check(alloc, &expr, fields, MODEL).err())
 }
 
 #[test]
-fn a_product_is_evaluated(rt: HostRuntime) -> Result<(), Fail> {
-    let mut row = Row {
-        qty: 3,
-        price: -7,
-        price_is_lost: false,
-    };
-    let (fresh, steps) = outcome(rt.alloc(), "qty * price", &mut row)?;
+fn a_text_is_evaluated(rt: HostRuntime) -> Result<(), Fail> {
+    let text = "if(count(lines) = 0, -qty div price * 10 + qty mod price, sum(lines, qty))";
+    let (fresh, steps) = outcome(rt.alloc(), text, 7, Some(2))?;
     let fresh = fresh?;
     assert!(rt; fresh.cell() == CELL);
-    assert!(rt; matches!(fresh.value(), Value::Int(-21)));
+    assert!(rt; matches!(fresh.value(), Value::Int(-39)));
     assert_eq!(rt; steps, 1);
-    let (fresh, _) = outcome(rt.alloc(), "\tprice*price\n*qty ", &mut row)?;
-    assert!(rt; matches!(fresh?.into_value(), Value::Int(147)));
     Ok(())
 }
 
 #[test]
-fn products_end_at_64_bits(rt: HostRuntime) -> Result<(), Fail> {
-    let mut row = Row {
-        qty: 1 << 62,
-        price: 4,
-        price_is_lost: false,
-    };
-    let (fresh, steps) = outcome(rt.alloc(), "qty * price", &mut row)?;
-    assert!(rt; matches!(fresh, Err(EvalFault::Overflow)));
-    assert_eq!(rt; steps, 1);
-    row.price = -2;
-    let (fresh, _) = outcome(rt.alloc(), "qty * price", &mut row)?;
-    assert!(rt; matches!(fresh?.into_value(), Value::Int(i64::MIN)));
-    row.price = 2;
-    let (fresh, _) = outcome(rt.alloc(), "qty * price", &mut row)?;
-    assert!(rt; matches!(fresh, Err(EvalFault::Overflow)));
+fn a_text_is_made(rt: HostRuntime) -> Result<(), Fail> {
+    let text = "cat('no. ', text(min2(-qty, price)), unset_of)";
+    assert_eq!(rt; type_fault_of(rt.alloc(), text)?, Some(TypeFault::Name(37)));
+    let (fresh, _) = outcome(
+        rt.alloc(),
+        "cat('no. ', text(min2(-qty, price)))",
+        7,
+        Some(2),
+    )?;
+    let value = fresh?.into_value();
+    assert!(rt; matches!(&value, Value::Word(word) if word.as_str() == "no. -7"));
     Ok(())
 }
 
 #[test]
-fn a_lost_field_is_told(rt: HostRuntime) -> Result<(), Fail> {
-    let mut row = Row {
-        qty: 1 << 62,
-        price: 0,
-        price_is_lost: true,
-    };
-    let (fresh, steps) = outcome(rt.alloc(), "qty * price", &mut row)?;
+fn faults_come_in_their_turn(rt: HostRuntime) -> Result<(), Fail> {
+    let alloc = rt.alloc();
+    let (fresh, _) = outcome(alloc, "qty = 0 and 1 div qty = price", 0, None)?;
+    assert!(rt; matches!(fresh, Err(EvalFault::ZeroDivisor)));
+    let (fresh, _) = outcome(alloc, "qty = 0 or 1 div qty = price", 0, None)?;
+    assert!(rt; matches!(fresh?.into_value(), Value::Bool(true)));
+    let (fresh, _) = outcome(alloc, "qty + price", 1, None)?;
     assert!(rt; matches!(fresh, Err(EvalFault::Read(()))));
-    assert_eq!(rt; steps, 1);
-    let (fresh, _) = outcome(rt.alloc(), "qty * qty * price", &mut row)?;
+    let (fresh, steps) = outcome(alloc, "qty + 9223372036854775807", 1, None)?;
     assert!(rt; matches!(fresh, Err(EvalFault::Overflow)));
+    assert_eq!(rt; steps, 1);
     Ok(())
-}
-
-#[test]
-fn faulty_texts_are_told_where(rt: HostRuntime) {
-    let table = [
-        ("", ExprFault::At(0)),
-        (" \t\n", ExprFault::At(3)),
-        ("qty *", ExprFault::At(5)),
-        ("qty price", ExprFault::At(4)),
-        ("* qty", ExprFault::At(0)),
-        ("qty * * price", ExprFault::At(6)),
-        ("qty * 5", ExprFault::At(6)),
-        ("qty*5th", ExprFault::At(4)),
-        ("Qty", ExprFault::At(0)),
-        ("qTy", ExprFault::At(1)),
-        ("qty*é", ExprFault::At(4)),
-        ("qty*or", ExprFault::At(4)),
-        ("unset", ExprFault::At(0)),
-        ("_qty", ExprFault::At(0)),
-        (
-            "a*a*a*a*a*a*a*a*a*a*a*a*a*a*a*a*a*a*a*a*a*a*a*a*a",
-            ExprFault::TooDeep(47),
-        ),
-        (
-            "a*a*a*a*a*a*a*a*a*a*a*a*a*a*a*a*a*a*a*a*a*a*a*a*",
-            ExprFault::TooDeep(47),
-        ),
-        (
-            "a*a*a*a*a*a*a*a*a*a*a*a*a*a*a*a*a*a*a*a*a*a*a*a a",
-            ExprFault::At(48),
-        ),
-    ];
-    for (text, fault) in table {
-        assert_eq!(rt; fault_of(rt.alloc(), text), Some(fault), "{text}");
-    }
-}
-
-#[test]
-fn texts_are_accepted(rt: HostRuntime) {
-    let table = [
-        "qty",
-        " qty_2*price ",
-        "order*nota*unsets",
-        "a*a*a*a*a*a*a*a*a*a*a*a*a*a*a*a*a*a*a*a*a*a*a*a",
-    ];
-    for text in table {
-        assert_eq!(rt; fault_of(rt.alloc(), text), None, "{text}");
-    }
 }
 
 #[test]
 fn names_and_kinds_are_told_where(rt: HostRuntime) -> Result<(), Fail> {
     let alloc = rt.alloc();
-    let integers = Fields {
-        kind: Kind::Int,
-        usable: true,
-        via: None,
-    };
-    let unknown = type_fault_of(alloc, "qty * cost", &integers)?;
-    assert_eq!(rt; unknown, Some(TypeFault::Name(6)));
-    let words = Fields {
-        kind: Kind::Word,
-        usable: true,
-        via: None,
-    };
-    let product = type_fault_of(alloc, " qty * price * cost", &words)?;
-    assert_eq!(rt; product, Some(TypeFault::Kind(1)));
-    assert_eq!(rt; type_fault_of(alloc, "qty", &words)?, None);
-    let hidden = Fields {
-        kind: Kind::Int,
-        usable: false,
-        via: None,
-    };
     assert_eq!(rt;
-        type_fault_of(alloc, " qty", &hidden)?,
-        Some(TypeFault::Name(1))
+        type_fault_of(alloc, "qty * cost")?,
+        Some(TypeFault::Name(6))
     );
-    let delegated = Fields {
-        kind: Kind::Int,
-        usable: true,
-        via: Some((FieldNo(9), ModelNo(2))),
-    };
     assert_eq!(rt;
-        type_fault_of(alloc, "qty", &delegated)?,
-        Some(TypeFault::Name(0))
+        type_fault_of(alloc, "(qty) + true")?,
+        Some(TypeFault::Kind(0))
+    );
+    assert_eq!(rt; type_fault_of(alloc, "qty * price")?, None);
+    Ok(())
+}
+
+#[test]
+fn fields_get_other_numbers(rt: HostRuntime) -> Result<(), Fail> {
+    let mut typed = typed_of(rt.alloc(), "qty > sum(lines, price)")?;
+    assert!(rt; typed.kind() == Kind::Bool);
+    let before = typed.paths(rt.alloc())?;
+    assert!(rt;
+        matches!(before.as_slice(), [first, lines, at_lines]
+        if is_path(first, 0, 1) && is_path(lines, 0, 3) && is_path(at_lines, 1, 2))
+    );
+    typed.renumber(&Swapped, MODEL);
+    let after = typed.paths(rt.alloc())?;
+    assert!(rt;
+        matches!(after.as_slice(), [first, lines, at_lines]
+        if is_path(first, 0, 2) && is_path(lines, 0, 3) && is_path(at_lines, 1, 1))
     );
     Ok(())
+}
+
+/// Whether a path has so many links before its field.
+fn is_path(path: &Path, links: usize, field: u16) -> bool {
+    path.links().len() == links && path.field() == FieldNo(field)
+}
+
+#[test]
+fn faults_are_printed(rt: HostRuntime) -> Result<(), Fail> {
+    let alloc = rt.alloc();
+    let name = format!(in alloc; "{}", TypeFault::Name(6))?;
+    assert_eq!(rt; name.as_str(), "no such name at byte 6");
+    let kind = format!(in alloc; "{}", TypeFault::Kind(0))?;
+    assert_eq!(rt; kind.as_str(), "wrong kind at byte 0");
+    let too_long = format!(in alloc; "{}", EvalFault::<()>::TooLong)?;
+    assert_eq!(rt; too_long.as_str(), "too long");
+    Ok(())
+}
+
+#[test]
+fn laws_are_called() {
+    reads_along_paths();
+    values_from_cells();
 }

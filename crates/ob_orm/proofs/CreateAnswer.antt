@@ -70,7 +70,8 @@ RefusedAt models call rose why next = IfSome (model_at models call.model) (λ in
 
 -- an id past its limit
 pub past_refused : (models : List ModelInfo) (call : Call) (rose : Type 0) (why : Refusal) (next : ℕ) (values : List Value) → RowIs models call values → 4294967295 < next
-    → IfSome (model_at models call.model) (λ info. (column : Column) × IsIdColumn info column × (why ≡ refusal.Constraint (record { kind = broken.Limit; cell = cell_of call.model next column.0 }))) → RefusedAt models call rose why next
+    → IfSome (model_at models call.model) (λ info. (column : Column) × IsIdColumn info column × (why ≡ refusal.Constraint (record { kind = broken.Limit; cell = cell_of call.model next column.0 })))
+    → RefusedAt models call rose why next
 past_refused models call rose why next values row past named = by (model_at models call.model) row named where
   by : (o : Option ModelInfo) → IfSome o (λ info. created_row info call.now (view call.args.now) (view call.kw.now) ≡ Ok (gathered info values))
       → IfSome o (λ info. (column : Column) × IsIdColumn info column × (why ≡ refusal.Constraint (record { kind = broken.Limit; cell = cell_of call.model next column.0 })))
@@ -121,7 +122,8 @@ refused_cause models call rose why next there refused = by (model_at models call
 
 -- the machine's answer over a keeper that tells its rows
 abbrev pub AnsweredSo : Option Store → List ModelInfo → Call → Type 0 → Result Created Refusal → Type 0
-AnsweredSo kept models call rose r = IfSome kept (λ store. (tables : Tables) → Kept models store tables → IsSound models tables → IfSome (model_at models call.model) (λ info. CreateAnswers models store tables (called_by call info) rose r))
+AnsweredSo kept models call rose r = IfSome kept (λ store. (tables : Tables) → Kept models store tables → IsSound models tables → IfSome (model_at models call.model)
+    (λ info. CreateAnswers models store tables (called_by call info) rose r))
 
 -- the next id of the tables
 next_told : (models : List ModelInfo) (model : ModelNo) (info : ModelInfo) (store : Store) (tables : Tables) (next : ℕ) → model_at models model ≡ Some info → next ≡ next_of store model
@@ -146,13 +148,14 @@ refused_answer (Some store) models call rose why next is refused = λ tables kep
 -- a create that is carried out is the machine's
 made_here : (models : List ModelInfo) (call : Call) (info : ModelInfo) (store : Store) (tables : Tables) (rose : Type 0) (next : ℕ) (values kept : List Value) (created : Created)
     → model_at models call.model ≡ Some info → IsServed info → ArePlain info values
-    → created_row info call.now (view call.args.now) (view call.kw.now) ≡ Ok (gathered info values) → next ≡ next_id tables call.model → next ≤ max_id → AreKept info next (gathered info values) kept
-    → view created.json ≡ number (unsigned next) → created.changes ≡ changes_of models call.model next kept → Kept models store tables → IsSound models tables → CreateAnswers models store tables (called_by call info) rose (Ok created)
+    → created_row info call.now (view call.args.now) (view call.kw.now) ≡ Ok (gathered info values) → next ≡ next_id tables call.model → next ≤ max_id → AreKept call.model info next (gathered info values) kept
+    → view created.json ≡ number (unsigned next) → created.changes ≡ changes_of models call.model next kept → Kept models store tables → IsSound models tables
+    → CreateAnswers models store tables (called_by call info) rose (Ok created)
 made_here models call info store tables rose next values kept created at served known given same low are json changes stands sound =
     let row = gathered info values in
     let id = next_id tables call.model in
-    let are' : AreKept info id row kept = subst (λ (n : ℕ). AreKept info n row kept) same are in
-    let here = kept_sound info id values kept known are' in
+    let are' : AreKept call.model info id row kept = subst (λ (n : ℕ). AreKept call.model info n row kept) same are in
+    let here = kept_sound call.model info id values kept known are' in
     let below : id ≤ max_id = omega arith in (
       made call.model row tables,
       record {
@@ -170,12 +173,12 @@ made_here models call info store tables rose next values kept created at served 
 -- over any keeper that tells its rows
 pub made_answer : (stored : Option Store) (models : List ModelInfo) (call : Call) (rose : Type 0) (next : ℕ) (values kept : List Value) (created : Created)
     → IfSome stored (λ store. next ≡ next_of store call.model) → IfSome (model_at models call.model) IsServed → IfSome (model_at models call.model) (λ info. ArePlain info values)
-    → RowIs models call values → next ≤ max_id → IfSome (model_at models call.model) (λ info. AreKept info next (gathered info values) kept)
+    → RowIs models call values → next ≤ max_id → IfSome (model_at models call.model) (λ info. AreKept call.model info next (gathered info values) kept)
     → view created.json ≡ number (unsigned next) → created.changes ≡ changes_of models call.model next kept → AnsweredSo stored models call rose (Ok created)
 made_answer None models call rose next values kept created is served known row low are json changes = tt
 made_answer (Some store) models call rose next values kept created is served known row low are json changes = λ tables stands sound. by tables stands sound (model_at models call.model) refl served known row are where
   by : (tables : Tables) → Kept models store tables → IsSound models tables → (o : Option ModelInfo) → model_at models call.model ≡ o → IfSome o IsServed → IfSome o (λ info. ArePlain info values)
-      → IfSome o (λ info. created_row info call.now (view call.args.now) (view call.kw.now) ≡ Ok (gathered info values)) → IfSome o (λ info. AreKept info next (gathered info values) kept)
+      → IfSome o (λ info. created_row info call.now (view call.args.now) (view call.kw.now) ≡ Ok (gathered info values)) → IfSome o (λ info. AreKept call.model info next (gathered info values) kept)
       → IfSome o (λ info. CreateAnswers models store tables (called_by call info) rose (Ok created))
   by tables stands sound None at served known row are = tt
   by tables stands sound (Some info) at served known row are =
@@ -224,11 +227,13 @@ pub denied_answer : {A : Type 0} (of : A → List (Option arguments.Given)) (kep
 denied_answer of None models call rose why e = tt
 denied_answer of (Some store) models call rose (refusal.Request place) e = λ tables stands sound.
     known_of (model_at models call.model) (IsWrongAt call place) (λ info. CreateAnswers models store tables (called_by call info) rose (Err (refusal.Request place))) (λ info is. (is, refl)) (wrong_at models call place e)
-denied_answer of (Some store) models call rose refusal.NoMemory e = λ tables stands sound. everywhere (model_at models call.model) (λ info. CreateAnswers models store tables (called_by call info) rose (Err refusal.NoMemory)) (λ info. tt)
+denied_answer of (Some store) models call rose refusal.NoMemory e = λ tables stands sound. everywhere (model_at models call.model)
+    (λ info. CreateAnswers models store tables (called_by call info) rose (Err refusal.NoMemory)) (λ info. tt)
 denied_answer of (Some store) models call rose _ e = absurd e
 
 -- values that are refused
-plain_wrong : {A : Type 0} (of : ModelInfo → A → Row) (models : List ModelInfo) (call : Call) (items slice : List (Option Given)) (passed : ℤ) (why : Refusal) → passed ≡ call.now → slice ≡ items → CreateGives models call items
+plain_wrong : {A : Type 0} (of : ModelInfo → A → Row) (models : List ModelInfo) (call : Call) (items slice : List (Option Given)) (passed : ℤ) (why : Refusal) → passed ≡ call.now → slice ≡ items
+    → CreateGives models call items
     → IfSome (model_at models call.model) (λ info. IsResultOf (of info) (Err why) (row_from info passed (all_given_of slice)))
     → IfSome (model_at models call.model) (λ info. IsResultOf (of info) (Err why) (created_row info call.now (view call.args.now) (view call.kw.now)))
 plain_wrong {A = A} of models call items slice passed why is same given wrong =

@@ -74,7 +74,8 @@ row_of_one info now gs given ms one same =
     ∙ ap (λ (d : Data). new_row now (spot_place given.spot) (members_of d) (plain_columns info)) one.json
     ∙ ap (λ (m : Members). new_row now (spot_place given.spot) m (plain_columns info)) (sym same)
 
-pub row_given : {Of : Type 0} (o : Option ModelInfo) (passed now : ℤ) → passed ≡ now → (gs : List (Option Given)) (given : Given) (ms : Members) (of : ModelInfo → Of → Row) (r : Result Of Refusal) (one : IsOne gs given) → ms ≡ one.held
+pub row_given : {Of : Type 0} (o : Option ModelInfo) (passed now : ℤ) → passed ≡ now
+    → (gs : List (Option Given)) (given : Given) (ms : Members) (of : ModelInfo → Of → Row) (r : Result Of Refusal) (one : IsOne gs given) → ms ≡ one.held
     → IfSome o (λ info. IsResultOf (of info) r (new_row passed (spot_place given.spot) ms (plain_columns info))) → IfSome o (λ info. IsResultOf (of info) r (row_from info now (map (option_map given_of) gs)))
 row_given None passed now is gs given ms of r one same h = tt
 row_given (Some info) passed now is gs given ms of r one same h =

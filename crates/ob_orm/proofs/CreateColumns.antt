@@ -1,14 +1,17 @@
 -- The columns of a model, and the plain values that stand for them among values by number.
-use Rattle.std.proofs.Common.{◌≡◌, ℕ, zero, suc, ◌+◌, ◌<◌, Bool, true, false, cond, eqb, List, [], ◌∷◌, length, get_or, map, Some, refl, sym, ap, subst, ◌∙◌, arith}
-use Rattle.std.specs.Prelude.{Contains, filter, slice_get}
+use Rattle.std.proofs.Common.{◌≡◌, ℕ, zero, suc, ◌+◌, ◌<◌, Bool, true, false, cond, eqb, List, [], ◌∷◌, length, get_or, map, Some, refl, sym, ap, subst, ◌∙◌, ◌&&◌, ◌||◌, arith}
+use Rattle.std.specs.Prelude.{All, Contains, filter, slice_get}
 use Rattle.std.proofs.lemmas.Bool.{eqb-true, eq-eqb}
 use Rattle.std.proofs.lemmas.List.FromFn.{get_or-enumerate_from, length-enumerate_from}
 use Rattle.std.proofs.lemmas.Option.{get_or_from_slice_get, slice_get_within}
 use Rattle.ob_base.specs.declared.value.Value.{Value}
-use Rattle.ob_schema.specs.Fields.{Column, Holds, columns, is_plain_kept, plain_columns}
+use Rattle.ob_schema.specs.Fields.{Column, Holds, columns, is_kept, is_kept_from, is_own, is_plain_from, is_plain_kept, plain_columns}
 use Rattle.ob_schema.specs.declared.info.FieldInfo.{FieldInfo}
 use Rattle.ob_schema.specs.declared.info.ModelInfo.{ModelInfo}
+use Rattle.ob_schema.specs.declared.info.Origin.{Origin}
+use Rattle.ob_schema.specs.declared.info.Origin.TheVariants as origin
 use Rattle.ob_orm.specs.CreateSteps.{ArePlain, gathered, held_at}
+use Rattle.ob_orm.specs.Served.{is_id}
 use Rattle.ob_orm.specs.Sound.{HasForms}
 use Rattle.ob_orm.specs.Tables.{Row, plain}
 
@@ -78,3 +81,15 @@ holds-at (x ∷ cs) values c (suc k) lt is forms = holds-at cs values c k (omega
 -- and its field may hold it
 pub Holds-gathered : (info : ModelInfo) (values : List Value) (c : Column) → ArePlain info values → Contains (plain_columns info) c → Holds c.1 (held_at values c.0)
 Holds-gathered info values c known (k, lt, is) = holds-at (plain_columns info) values c k lt is known.forms
+
+-- ---- fields that rows keep
+
+-- what holds of each field holds of one at a place
+pub All-at : (P : FieldInfo → Type 0) (fields : List FieldInfo) (i : ℕ) (f : FieldInfo) → slice_get fields i ≡ Some f → All P fields → P f
+All-at P fields i f at all = subst P (get_or_from_slice_get fields i f f at) (all i f (slice_get_within fields i f at))
+
+-- a served model keeps each plain field
+pub plain_is_kept : (f : FieldInfo) → f.origin ≡ origin.Plain → (is_id f.origin || is_kept f) ≡ true → (is_kept f ≡ true) × (is_plain_kept f ≡ true)
+plain_is_kept f is kept =
+    let own : is_kept f ≡ true = subst (λ (o : Origin). (is_id o || is_kept f) ≡ true) is kept in
+    (own, ap (λ (o : Origin). is_plain_from o && is_own f) is ∙ sym (ap (λ (o : Origin). is_kept_from o f) is) ∙ own)

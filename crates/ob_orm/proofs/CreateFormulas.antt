@@ -1,36 +1,46 @@
 -- The formulas of a model over plain values by number: what they read, and that their fields may hold what they give.
-use Rattle.std.proofs.Common.{◌≡◌, ℕ, ℤ, zero, suc, ◌-◌, ◌^◌, ◌≤◌, ◌*ℤ◌, ◌&&◌, pos, negsuc, option_map, Bool, true, false, cond, leb, List, length, Option, Some, None, Result, Ok, Err, w64, refl, sym, ap, subst, ◌∙◌, arith}
-use Rattle.std.specs.Prelude.{FitsSigned, IsSomeAnd, int_le, slice_get}
+use Rattle.std.proofs.Common.{◌≡◌, ℕ, zero, suc, ◌||◌, inl, inr, option_map, Bool, true, false, cond, eqb, leb, List, [], ◌∷◌, length, Option, Some, None, Result, Ok, Err, w64, refl, sym, ap, subst, ◌∙◌, arith}
+use Rattle.std.specs.Prelude.{All, FitsSigned, IsSomeAnd, slice_get}
 use Rattle.std.proofs.lemmas.Bool.{leb-true, false≢true}
-use Rattle.std.proofs.lemmas.Int.{ints}
+use Rattle.std.proofs.lemmas.List.Elements.{All-weaker}
 use Rattle.std.proofs.lemmas.Option.{slice_get_within}
 use Rattle.ob_base.specs.Ids.{IsId}
 use Rattle.ob_base.specs.Times.{IsDay, IsMoment}
-use Rattle.ob_base.specs.ValueOrder.{integer_of}
+use Rattle.ob_base.specs.declared.id.Cell.{Cell}
 use Rattle.ob_base.specs.declared.id.FieldNo.{FieldNo}
 use Rattle.ob_base.specs.declared.id.ModelNo.{ModelNo}
 use Rattle.ob_base.specs.declared.value.Value.{Value}
 use Rattle.ob_base.specs.declared.value.Value.TheVariants as value
-use Rattle.ob_expr.specs.Checking.{EachField, TypedTree, field, times, kind_of, typed_tree_of}
-use Rattle.ob_expr.specs.Meaning.{HasKind, ValueFault, fitted, meaning, overflow, product_value, too_long}
-use Rattle.ob_expr.specs.declared.checker.Kind.{Kind}
-use Rattle.ob_expr.specs.declared.checker.Kind.TheVariants as kind
-use Rattle.ob_schema.specs.Fields.{Holds, is_plain_kept}
+use Rattle.ob_expr.specs.Computing.{Lack, too_long}
+use Rattle.ob_expr.specs.Kinds.{HasKind}
+use Rattle.ob_expr.specs.Meaning.{meaning}
+use Rattle.ob_expr.specs.Reads.{GivesCellsValues, IsMade, ReadsAlongPaths}
+use Rattle.ob_expr.specs.Route.{Route}
+use Rattle.ob_expr.specs.TypedTree.{TypedTree, kind_of, paths_of, typed_tree_of}
+use Rattle.ob_expr.specs.declared.kind.Kind.{Kind}
+use Rattle.ob_expr.specs.declared.kind.Kind.TheVariants as kind
+use Rattle.ob_expr.specs.declared.row.Row.{Row as Place}
+use Rattle.ob_schema.specs.Fields.{Column, Holds, is_kept, is_plain_from, is_plain_kept, plain_columns}
 use Rattle.ob_schema.specs.Formulas.{kind_of_type}
 use Rattle.ob_schema.specs.Keys.{is_selection}
 use Rattle.ob_schema.specs.Types.{is_list}
-use Rattle.ob_schema.specs.Values.{IsText, IsValueOf}
+use Rattle.ob_schema.specs.Values.{IsNative, IsText, IsValueOf}
 use Rattle.ob_schema.specs.declared.field_type.Choice.{Choice}
 use Rattle.ob_schema.specs.declared.field_type.FieldType.{FieldType}
 use Rattle.ob_schema.specs.declared.field_type.FieldType.TheVariants as type
 use Rattle.ob_schema.specs.declared.info.FieldInfo.{FieldInfo}
 use Rattle.ob_schema.specs.declared.info.Formula.{Formula}
 use Rattle.ob_schema.specs.declared.info.ModelInfo.{ModelInfo}
+use Rattle.ob_schema.specs.declared.info.Origin.{Origin}
+use Rattle.ob_schema.specs.declared.info.Origin.TheVariants as origin
 use Rattle.ob_schema.specs.Models.{IsFormulaIn, IsOperand, kind_of_info, numbered}
-use Rattle.ob_orm.specs.CreateSteps.{ArePlain, HoldsOperands, IsTextual, gathered, held_at}
+use Rattle.ob_orm.specs.CreateSteps.{ArePlain, HoldsOperands, IsHeldIn, gathered, held_at}
 use Rattle.ob_orm.specs.Scratch.{is_short, limited, text_limit}
+use Rattle.ob_orm.specs.Served.{IsServed, is_id}
+use Rattle.ob_orm.specs.Sound.{HasForms}
 use Rattle.ob_orm.specs.Tables.{plain}
-use Rattle.ob_orm.proofs.CreateColumns.{Contains-plain_columns, Holds-gathered, plain-gathered}
+use Rattle.ob_orm.proofs.CreateColumns.{All-at, Contains-plain_columns, Holds-gathered, plain-gathered, plain_is_kept, taken}
+use Rattle.ob_orm.proofs.PlainReads.{along_fields, held_by}
 
 -- ---- values and kinds
 
@@ -119,12 +129,12 @@ HasKind-from_IsValueOf type.Many2many r choices k _ e h = absurd h
 back_kind : (k l : Kind) (v : Value) → Some k ≡ Some l → HasKind l v → HasKind k v
 back_kind k l v e h = subst (λ (m : Kind). HasKind m v) (let same : l ≡ k = cc in same) h
 
-text_held : (limit : ℕ) (text : List ℕ) → leb (length text) limit ≡ true → IsTextual (value.Word text) → IsText limit text
+text_held : (limit : ℕ) (text : List ℕ) → leb (length text) limit ≡ true → IsNative (value.Word text) → IsText limit text
 text_held limit text short textual = record { utf8 = textual; short = leb-true (length text) limit short }
 
 -- a short value of its kind is one that a field may hold that is no list and no selection
 of_kind : (t : FieldType) (relation : Option ModelNo) (choices : List Choice) (k : Kind) (v : Value) → kind_of_type t relation ≡ Some k → is_list t ≡ false → is_selection t ≡ false
-    → HasKind k v → IsWithin v → is_short (text_limit t) v ≡ true → IsTextual v → IsValueOf t choices v
+    → HasKind k v → IsWithin v → is_short (text_limit t) v ≡ true → IsNative v → IsValueOf t choices v
 of_kind type.Boolean r choices k v e n m h w s u = boolean v (back_kind kind.Bool k v e h) where
   boolean : (v : Value) → HasKind kind.Bool v → IsValueOf type.Boolean choices v
   boolean (value.Bool b) h = tt
@@ -134,12 +144,12 @@ of_kind type.Integer r choices k v e n m h w s u = integer v (back_kind kind.Int
   integer (value.Int z) h w = w
   integer _ h w = absurd h
 of_kind type.Char r choices k v e n m h w s u = char v (back_kind kind.Word k v e h) s u where
-  char : (v : Value) → HasKind kind.Word v → is_short 8192 v ≡ true → IsTextual v → IsValueOf type.Char choices v
+  char : (v : Value) → HasKind kind.Word v → is_short 8192 v ≡ true → IsNative v → IsValueOf type.Char choices v
   char value.Nil h s u = tt
   char (value.Word text) h s u = text_held 8192 text s u
   char _ h s u = absurd h
 of_kind type.Text r choices k v e n m h w s u = text v (back_kind kind.Word k v e h) s u where
-  text : (v : Value) → HasKind kind.Word v → is_short 65536 v ≡ true → IsTextual v → IsValueOf type.Text choices v
+  text : (v : Value) → HasKind kind.Word v → is_short 65536 v ≡ true → IsNative v → IsValueOf type.Text choices v
   text value.Nil h s u = tt
   text (value.Word bytes) h s u = text_held 65536 bytes s u
   text _ h s u = absurd h
@@ -169,91 +179,106 @@ of_kind type.Many2many r choices k v e n m h w s u = absurd (false≢true (sym n
 -- ---- operands
 
 -- what is known of an operand's value
-pub record IsHeld (info : ModelInfo) (values : List Value) (number : FieldNo) (k : Kind) : Type 0 where
-  pub low : 1 ≤ number.0
-  pub high : number.0 ≤ length values
-  pub of_kind : HasKind k (held_at values number.0)
-  pub within : IsWithin (held_at values number.0)
-  pub plain_is : plain (gathered info values) number.0 ≡ held_at values number.0
+pub record IsHeld (info : ModelInfo) (values : List Value) (route : Route) : Type 0 where
+  pub held : IsHeldIn values route
+  pub plain_is : plain (gathered info values) route.field.0 ≡ held_at values route.field.0
 
-held_operand : (info : ModelInfo) (values : List Value) (number : FieldNo) (k : Kind) → ArePlain info values → IsOperand info.fields number k → IsHeld info values number k
-held_operand info values number k known operand = by number.0 refl operand where
-  found : (i : ℕ) (f : FieldInfo) → number.0 ≡ suc i → slice_get info.fields i ≡ Some f → is_plain_kept f ≡ true → kind_of_info f ≡ Some k → IsHeld info values number k
-  found i f at is kept kinded =
+-- a plain field of a served model is kept
+kept_plain : (f : FieldInfo) → is_plain_from f.origin ≡ true → (is_id f.origin || is_kept f) ≡ true → is_plain_kept f ≡ true
+kept_plain f from served = by f.origin refl from where
+  by : (o : Origin) → f.origin ≡ o → is_plain_from o ≡ true → is_plain_kept f ≡ true
+  by origin.Id is from = absurd cc
+  by origin.Plain is from = (plain_is_kept f is served).1
+  by (origin.Computed formula) is from = absurd cc
+
+-- an operand of a formula has its value among the values
+held_operand : (info : ModelInfo) (values : List Value) (route : Route) → ArePlain info values → IsServed info → IsOperand info.fields route → IsHeld info values route
+held_operand info values route known served operand = by route.field.0 refl operand.1 where
+  found : (i : ℕ) (f : FieldInfo) → route.field.0 ≡ suc i → slice_get info.fields i ≡ Some f → is_plain_from f.origin ≡ true → kind_of_info f ≡ Some route.kind → IsHeld info values route
+  found i f at is from kinded =
       let lt = slice_get_within info.fields i f is in
       let count : length values ≡ length info.fields = known.count in
+      let kept = kept_plain f from (All-at (λ g. (is_id g.origin || is_kept g) ≡ true) info.fields i f is served.kept) in
       let contains = Contains-plain_columns info i f is kept in
       let holds : Holds f (held_at values (suc i)) = Holds-gathered info values (suc i, f) known contains in
       record {
-        low = omega arith;
-        high = omega arith;
-        of_kind = subst (λ (n : ℕ). HasKind k (held_at values n)) (sym at) (HasKind-from_IsValueOf f.field_type f.relation f.selection k (held_at values (suc i)) kinded holds);
-        within = subst (λ (n : ℕ). IsWithin (held_at values n)) (sym at) (IsWithin-from_IsValueOf f.field_type f.selection (held_at values (suc i)) holds);
+        held = record {
+          own = operand.0;
+          low = omega arith;
+          high = omega arith;
+          of_kind = subst (λ (n : ℕ). HasKind route.kind (held_at values n)) (sym at) (HasKind-from_IsValueOf f.field_type f.relation f.selection route.kind (held_at values (suc i)) kinded holds);
+        };
         plain_is = subst (λ (n : ℕ). plain (gathered info values) n ≡ held_at values n) (sym at) (plain-gathered info values (suc i, f) contains);
       }
 
-  at : (i : ℕ) (o : Option FieldInfo) → number.0 ≡ suc i → slice_get info.fields i ≡ o → IsSomeAnd o (λ f. (is_plain_kept f ≡ true) × (kind_of_info f ≡ Some k)) → IsHeld info values number k
+  at : (i : ℕ) (o : Option FieldInfo) → route.field.0 ≡ suc i → slice_get info.fields i ≡ o → IsSomeAnd o (λ f. (is_plain_from f.origin ≡ true) × (kind_of_info f ≡ Some route.kind)) → IsHeld info values route
   at i None e is h = absurd h
   at i (Some f) e is h = found i f e is h.0 h.1
 
-  by : (n : ℕ) → number.0 ≡ n → IsSomeAnd (numbered info.fields n) (λ f. (is_plain_kept f ≡ true) × (kind_of_info f ≡ Some k)) → IsHeld info values number k
+  by : (n : ℕ) → route.field.0 ≡ n → IsSomeAnd (numbered info.fields n) (λ f. (is_plain_from f.origin ≡ true) × (kind_of_info f ≡ Some route.kind)) → IsHeld info values route
   by zero e h = absurd h
   by (suc i) e h = at i (slice_get info.fields i) e refl h
 
--- each operand is among the values
-pub held_operands : (info : ModelInfo) (values : List Value) (tree : TypedTree) → ArePlain info values → EachField (IsOperand info.fields) tree → EachField (IsHeld info values) tree
-held_operands info values (field number k) known operand = held_operand info values number k known operand
-held_operands info values (times left right) known operands = (held_operands info values left known operands.0, held_operands info values right known operands.1)
+-- so has each
+pub held_operands : (info : ModelInfo) (values : List Value) (routes : List Route) → ArePlain info values → IsServed info → All (IsOperand info.fields) routes → All (IsHeld info values) routes
+held_operands info values routes known served operands = All-weaker (IsOperand info.fields) (IsHeld info values) (λ route operand. held_operand info values route known served operand) routes operands
 
 -- and may be read
-pub HoldsOperands-from_held : (info : ModelInfo) (values : List Value) (tree : TypedTree) → EachField (IsHeld info values) tree → HoldsOperands values tree
-HoldsOperands-from_held info values (field number k) held = (held.low, held.high, held.of_kind)
-HoldsOperands-from_held info values (times left right) held = (HoldsOperands-from_held info values left held.0, HoldsOperands-from_held info values right held.1)
+pub HoldsOperands-from_held : (info : ModelInfo) (values : List Value) (tree : TypedTree) → All (IsHeld info values) (paths_of tree) → HoldsOperands values tree
+HoldsOperands-from_held info values tree held = All-weaker (IsHeld info values) (IsHeldIn values) (λ route is. is.held) (paths_of tree) held
 
 -- ---- the value of a formula
 
+-- what cells hold by the plain values of a row
+abbrev pub held_in : ModelInfo → List Value → Cell → Option Value
+held_in info values cell = Some (plain (gathered info values) cell.field.0)
+
 -- it is the same over the values as over the row of them
-pub meaning-gathered : (info : ModelInfo) (values : List Value) (tree : TypedTree) → EachField (IsHeld info values) tree
-    → meaning tree (λ number. plain (gathered info values) number.0) ≡ meaning tree (λ number. held_at values number.0)
-meaning-gathered info values (field number k) held = ap Ok held.plain_is
-meaning-gathered info values (times left right) held =
-    ap (λ (r : Result Value ValueFault). product_value r (meaning right (λ number. plain (gathered info values) number.0))) (meaning-gathered info values left held.0)
-    ∙ ap (λ (r : Result Value ValueFault). product_value (meaning left (λ number. held_at values number.0)) r) (meaning-gathered info values right held.1)
+pub meaning-gathered : (info : ModelInfo) (values : List Value) (place : Place) (tree : TypedTree) → ReadsAlongPaths tree → All (IsHeld info values) (paths_of tree)
+    → meaning (held_in info values) place tree ≡ meaning (held_by values) place tree
+meaning-gathered info values place tree along held =
+    let Same : FieldNo → Type 0 = λ field. plain (gathered info values) field.0 ≡ held_at values field.0 in
+    let each = All-weaker (IsHeld info values) (λ (route : Route). (route.links ≡ []) × Same route.field) (λ route is. (is.held.own, is.plain_is)) (paths_of tree) held in
+    along (held_by values) (held_in info values) place (λ cell lies. ap Some (along_fields (held_by values) place Same (paths_of tree) cell each lies))
 
--- a product that has a value is an integer of 64 bits
-fitted-is : (z : ℤ) (v : Value) → fitted z ≡ Ok v → (v ≡ value.Int z) × FitsSigned w64 z
-fitted-is z v e = by _ refl e where
-  by : (b : Bool) → (int_le (negsuc (2 ^ 63 - 1)) z && int_le z (pos (2 ^ 63 - 1))) ≡ b → cond b (Ok (value.Int z)) (Err overflow) ≡ Ok v → (v ≡ value.Int z) × FitsSigned w64 z
-  by true bounded e = ((let same : v ≡ value.Int z = cc in same), grind (arith, ints))
-  by false bounded e = absurd cc
+-- a plain value of a row is unset, or one that its field may hold
+within-taken : (cs : List Column) (values : List Value) (n : ℕ) → HasForms cs (taken cs values) → IsWithin (plain (taken cs values) n)
+within-taken [] values n forms = tt
+within-taken (c ∷ cs) values n forms = by (eqb c.0 n) (within-taken cs values n forms.2) where
+  by : (b : Bool) → IsWithin (plain (taken cs values) n) → IsWithin (cond b (held_at values c.0) (plain (taken cs values) n))
+  by true rest = IsWithin-from_IsValueOf c.1.field_type c.1.selection (held_at values c.0) forms.1
+  by false rest = rest
 
-product-is : (left right : Result Value ValueFault) (v : Value) → product_value left right ≡ Ok v → HasKind kind.Int v × IsWithin v
-product-is (Err f) right v e = absurd cc
-product-is (Ok a) (Err f) v e = absurd cc
-product-is (Ok a) (Ok b) v e =
-    let z : ℤ = integer_of a *ℤ integer_of b in
-    let made = fitted-is z v e in
-    subst (λ (w : Value). HasKind kind.Int w × IsWithin w) (sym made.0) (tt, made.1)
+-- what operators make is within its limits, as the code holds it
+within-made : (v : Value) → IsMade v → IsNative v → IsWithin v
+within-made value.Nil made native = tt
+within-made (value.Bool b) made native = tt
+within-made (value.Int n) made native = native
+within-made (value.Word text) made native = tt
+within-made (value.Day n) made native = absurd made
+within-made (value.Moment n) made native = absurd made
+within-made (value.Ref id) made native = absurd made
+within-made (value.Refs ids) made native = tt
 
--- the value of a tree is of its kind, and within its limits
-value-is : (info : ModelInfo) (values : List Value) (tree : TypedTree) (v : Value) → EachField (IsHeld info values) tree → meaning tree (λ number. held_at values number.0) ≡ Ok v → HasKind (kind_of tree) v × IsWithin v
-value-is info values (field number k) v held e = subst (λ (w : Value). HasKind k w × IsWithin w) (let same : held_at values number.0 ≡ v = cc in same) (held.of_kind, held.within)
-value-is info values (times left right) v held e = product-is (meaning left (λ number. held_at values number.0)) (meaning right (λ number. held_at values number.0)) v e
+-- and so is each value of a formula
+value-within : (info : ModelInfo) (values : List Value) (place : Place) (tree : TypedTree) (v : Value) → GivesCellsValues tree → ArePlain info values → meaning (held_in info values) place tree ≡ Ok v → IsNative v → IsWithin v
+value-within info values place tree v gives known is native = elim (gives (held_in info values) place v is) [
+  | inl made ↦ within-made v made native
+  | inr cell ↦ let same : plain (gathered info values) cell.0.field.0 ≡ v = cc in subst IsWithin same (within-taken (plain_columns info) values cell.0.field.0 known.forms)
+]
 
 -- a value that isn't too long is short
-limited-is : (t : FieldType) (r : Result Value ValueFault) (v : Value) → limited t r ≡ Ok v → (r ≡ Ok v) × (is_short (text_limit t) v ≡ true)
+limited-is : (t : FieldType) (r : Result Value Lack) (v : Value) → limited t r ≡ Ok v → (r ≡ Ok v) × (is_short (text_limit t) v ≡ true)
 limited-is t (Err f) v e = absurd cc
 limited-is t (Ok w) v e = by (is_short (text_limit t) w) refl e where
-  by : (b : Bool) → is_short (text_limit t) w ≡ b → cond b (Ok w) (Err too_long) ≡ Ok v → (◌≡◌ {A = Result Value ValueFault} (Ok w) (Ok v)) × (is_short (text_limit t) v ≡ true)
+  by : (b : Bool) → is_short (text_limit t) w ≡ b → cond b (Ok w) (Err too_long) ≡ Ok v → (◌≡◌ {A = Result Value Lack} (Ok w) (Ok v)) × (is_short (text_limit t) v ≡ true)
   by true short e = (e, ap (is_short (text_limit t)) (let same : v ≡ w = cc in same) ∙ short)
   by false short e = absurd cc
 
 -- its field may hold it
-pub Holds-formula : (info : ModelInfo) (values : List Value) (f : FieldInfo) (formula : Formula) (v : Value) → ArePlain info values → IsFormulaIn info.fields f formula
-    → limited f.field_type (meaning (typed_tree_of formula.typed) (λ number. held_at values number.0)) ≡ Ok v → IsTextual v → Holds f v
-Holds-formula info values f formula v known is e textual =
+pub Holds-formula : (info : ModelInfo) (values : List Value) (f : FieldInfo) (formula : Formula) (place : Place) (v : Value) → GivesCellsValues (typed_tree_of formula.typed) → ArePlain info values
+    → IsFormulaIn info.fields f formula → limited f.field_type (meaning (held_in info values) place (typed_tree_of formula.typed)) ≡ Ok v → HasKind (kind_of (typed_tree_of formula.typed)) v → IsNative v → Holds f v
+Holds-formula info values f formula place v gives known is e kinded native =
     let tree : TypedTree = typed_tree_of formula.typed in
-    let held = held_operands info values tree known is.operands in
-    let short = limited-is f.field_type (meaning tree (λ number. held_at values number.0)) v e in
-    let kinded = value-is info values tree v held short.0 in
-    of_kind f.field_type f.relation f.selection (kind_of tree) v is.kind is.no_list is.no_selection kinded.0 kinded.1 short.1 textual
+    let short = limited-is f.field_type (meaning (held_in info values) place tree) v e in
+    of_kind f.field_type f.relation f.selection (kind_of tree) v is.kind is.no_list is.no_selection kinded (value-within info values place tree v gives known short.0 native) short.1 native

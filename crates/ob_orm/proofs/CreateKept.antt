@@ -16,13 +16,13 @@ use Rattle.ob_base.specs.declared.refusal.Refusal.TheVariants as refusal
 use Rattle.ob_base.specs.declared.value.Value.{Value}
 use Rattle.ob_base.specs.declared.value.Value.TheVariants as value
 use Rattle.ob_codec.specs.RowForm.{HoldAll}
-use Rattle.ob_expr.specs.Meaning.{ValueFault}
+use Rattle.ob_expr.specs.Computing.{Lack}
 use Rattle.ob_schema.specs.Built.{id_info}
 use Rattle.ob_schema.specs.Fields.{Column, columns, is_kept, kept_fields}
 use Rattle.ob_schema.specs.Models.{HasField, field_at, model_at, numbered}
 use Rattle.ob_schema.specs.declared.info.FieldInfo.{FieldInfo}
 use Rattle.ob_schema.specs.declared.info.ModelInfo.{ModelInfo}
-use Rattle.ob_orm.specs.Create.{cell_of, broken_kind}
+use Rattle.ob_orm.specs.Create.{cell_of}
 use Rattle.ob_orm.specs.CreateSteps.{AreKept, BreaksCell, BreaksRow, GivesField, KeepsField, evaluations_of, gathered}
 use Rattle.ob_orm.specs.Evaluations.{HasTicked, computed_count, has_formula}
 use Rattle.ob_orm.specs.Kept.{kept_values}
@@ -39,8 +39,8 @@ abbrev pub left_columns : ModelInfo → ℕ → List Column
 left_columns info i = enumerate_from (suc i) (drop i info.fields)
 
 -- the values that these columns keep
-abbrev pub values_of : ℕ → Row → List Column → List Value
-values_of id row cs = map (λ column. val_or_unset column id row) (filter (λ column. is_kept column.1) cs)
+abbrev pub values_of : ModelNo → ℕ → Row → List Column → List Value
+values_of model id row cs = map (λ column. val_or_unset model column id row) (filter (λ column. is_kept column.1) cs)
 
 -- how many of these fields are computed
 abbrev pub computed_in : List FieldInfo → ℕ
@@ -57,85 +57,86 @@ columns_more info i f at =
     ∙ ap (λ (n : ℕ). (suc i, f) ∷ enumerate_from n (drop (i + 1) info.fields)) (let e : suc i + 1 ≡ suc (i + 1) = omega arith in e)
 
 -- a kept column has its value
-values_kept : (id : ℕ) (row : Row) (c : Column) (cs : List Column) (v : Value) → is_kept c.1 ≡ true → val c id row ≡ Ok v → values_of id row (c ∷ cs) ≡ v ∷ values_of id row cs
-values_kept id row c cs v kept worth =
-    ap (λ (b : Bool). map (λ column. val_or_unset column id row) (cond b (c ∷ filter (λ column. is_kept column.1) cs) (filter (λ column. is_kept column.1) cs))) kept
-    ∙ ap (λ (r : Result Value ValueFault). result_unwrap_or r value.Nil ∷ values_of id row cs) worth
+values_kept : (model : ModelNo) (id : ℕ) (row : Row) (c : Column) (cs : List Column) (v : Value) → is_kept c.1 ≡ true → val model c id row ≡ Ok v → values_of model id row (c ∷ cs) ≡ v ∷ values_of model id row cs
+values_kept model id row c cs v kept worth =
+    ap (λ (b : Bool). map (λ column. val_or_unset model column id row) (cond b (c ∷ filter (λ column. is_kept column.1) cs) (filter (λ column. is_kept column.1) cs))) kept
+    ∙ ap (λ (r : Result Value Lack). result_unwrap_or r value.Nil ∷ values_of model id row cs) worth
 
 -- another has none
-values_passed : (id : ℕ) (row : Row) (c : Column) (cs : List Column) → is_kept c.1 ≡ false → values_of id row (c ∷ cs) ≡ values_of id row cs
-values_passed id row c cs kept =
-    ap (λ (b : Bool). map (λ column. val_or_unset column id row) (cond b (c ∷ filter (λ column. is_kept column.1) cs) (filter (λ column. is_kept column.1) cs))) kept
+values_passed : (model : ModelNo) (id : ℕ) (row : Row) (c : Column) (cs : List Column) → is_kept c.1 ≡ false → values_of model id row (c ∷ cs) ≡ values_of model id row cs
+values_passed model id row c cs kept =
+    ap (λ (b : Bool). map (λ column. val_or_unset model column id row) (cond b (c ∷ filter (λ column. is_kept column.1) cs) (filter (λ column. is_kept column.1) cs))) kept
 
 -- ---- what is kept so far
 
 -- with what is left to keep it is all
-pub record KeptSoFar (info : ModelInfo) (id : ℕ) (row : Row) (i : ℕ) (kept : List Value) : Type 0 where
-  pub same : kept ++ values_of id row (left_columns info i) ≡ kept_values info id row
-  pub whole : All (HasValue id row) (left_columns info i) → All (HasValue id row) (columns info)
+pub record KeptSoFar (model : ModelNo) (info : ModelInfo) (id : ℕ) (row : Row) (i : ℕ) (kept : List Value) : Type 0 where
+  pub same : kept ++ values_of model id row (left_columns info i) ≡ kept_values model info id row
+  pub whole : All (HasValue model id row) (left_columns info i) → All (HasValue model id row) (columns info)
   pub hold : (values : List Value) → HoldAll (filter is_kept (drop i info.fields)) values → HoldAll (kept_fields info) (kept ++ values)
 
 -- at first it is nothing
-pub kept_none : (info : ModelInfo) (id : ℕ) (row : Row) → KeptSoFar info id row 0 []
-kept_none info id row = record { same = refl; whole = λ h. h; hold = λ values h. h }
+pub kept_none : (model : ModelNo) (info : ModelInfo) (id : ℕ) (row : Row) → KeptSoFar model info id row 0 []
+kept_none model info id row = record { same = refl; whole = λ h. h; hold = λ values h. h }
 
 -- a field with a value before fields with values
-value_more : (info : ModelInfo) (id : ℕ) (row : Row) (i : ℕ) (f : FieldInfo) → slice_get info.fields i ≡ Some f → HasValue id row (suc i, f)
-    → All (HasValue id row) (left_columns info (i + 1)) → All (HasValue id row) (left_columns info i)
-value_more info id row i f at here rest =
-    subst (All (HasValue id row)) (sym (columns_more info i f at)) (All-cons (HasValue id row) (suc i, f) (left_columns info (i + 1)) here rest)
+value_more : (model : ModelNo) (info : ModelInfo) (id : ℕ) (row : Row) (i : ℕ) (f : FieldInfo) → slice_get info.fields i ≡ Some f → HasValue model id row (suc i, f)
+    → All (HasValue model id row) (left_columns info (i + 1)) → All (HasValue model id row) (left_columns info i)
+value_more model info id row i f at here rest =
+    subst (All (HasValue model id row)) (sym (columns_more info i f at)) (All-cons (HasValue model id row) (suc i, f) (left_columns info (i + 1)) here rest)
 
 -- one more value
-pub kept_more : (info : ModelInfo) (id : ℕ) (row : Row) (i : ℕ) (f : FieldInfo) (kept : List Value) (v : Value) → slice_get info.fields i ≡ Some f → KeepsField (suc i, f) id row (Some v) → KeptSoFar info id row i kept
-    → KeptSoFar info id row (i + 1) (kept ++ v ∷ [])
-kept_more info id row i f kept v at (is, worth, holds) far =
+pub kept_more : (model : ModelNo) (info : ModelInfo) (id : ℕ) (row : Row) (i : ℕ) (f : FieldInfo) (kept : List Value) (v : Value) → slice_get info.fields i ≡ Some f
+    → KeepsField model (suc i, f) id row (Some v) → KeptSoFar model info id row i kept
+    → KeptSoFar model info id row (i + 1) (kept ++ v ∷ [])
+kept_more model info id row i f kept v at (is, worth, holds) far =
     let rest = left_columns info (i + 1) in
     let fields = filter is_kept (drop (i + 1) info.fields) in
     record {
-      same = append_assoc kept (v ∷ []) (values_of id row rest)
-          ∙ ap (λ (vs : List Value). kept ++ vs) (sym (ap (values_of id row) (columns_more info i f at) ∙ values_kept id row (suc i, f) rest v is worth))
+      same = append_assoc kept (v ∷ []) (values_of model id row rest)
+          ∙ ap (λ (vs : List Value). kept ++ vs) (sym (ap (values_of model id row) (columns_more info i f at) ∙ values_kept model id row (suc i, f) rest v is worth))
           ∙ far.same;
-      whole = λ h. far.whole (value_more info id row i f at (v, worth, holds) h);
+      whole = λ h. far.whole (value_more model info id row i f at (v, worth, holds) h);
       hold = λ values h.
           let more : filter is_kept (drop i info.fields) ≡ f ∷ fields = ap (filter is_kept) (left_more info i f at) ∙ ap (λ (b : Bool). cond b (f ∷ fields) fields) is in
           subst (HoldAll (kept_fields info)) (sym (append_assoc kept (v ∷ []) values)) (far.hold (v ∷ values) (subst (λ (fs : List FieldInfo). HoldAll fs (v ∷ values)) (sym more) (holds, h)));
     }
 
 -- a field that isn't kept
-pub kept_passed : (info : ModelInfo) (id : ℕ) (row : Row) (i : ℕ) (f : FieldInfo) (kept : List Value) → slice_get info.fields i ≡ Some f → KeepsField (suc i, f) id row None → KeptSoFar info id row i kept
-    → KeptSoFar info id row (i + 1) kept
-kept_passed info id row i f kept at (is, worth) far =
+pub kept_passed : (model : ModelNo) (info : ModelInfo) (id : ℕ) (row : Row) (i : ℕ) (f : FieldInfo) (kept : List Value) → slice_get info.fields i ≡ Some f → KeepsField model (suc i, f) id row None
+    → KeptSoFar model info id row i kept
+    → KeptSoFar model info id row (i + 1) kept
+kept_passed model info id row i f kept at (is, worth) far =
     let rest = left_columns info (i + 1) in
     let fields = filter is_kept (drop (i + 1) info.fields) in
     record {
-      same = ap (λ (vs : List Value). kept ++ vs) (sym (ap (values_of id row) (columns_more info i f at) ∙ values_passed id row (suc i, f) rest is)) ∙ far.same;
-      whole = λ h. far.whole (value_more info id row i f at worth h);
+      same = ap (λ (vs : List Value). kept ++ vs) (sym (ap (values_of model id row) (columns_more info i f at) ∙ values_passed model id row (suc i, f) rest is)) ∙ far.same;
+      whole = λ h. far.whole (value_more model info id row i f at worth h);
       hold = λ values h.
           let more : filter is_kept (drop i info.fields) ≡ fields = ap (filter is_kept) (left_more info i f at) ∙ ap (λ (b : Bool). cond b (f ∷ fields) fields) is in
           far.hold values (subst (λ (fs : List FieldInfo). HoldAll fs values) (sym more) h);
     }
 
 -- at last it is all
-pub kept_all : (info : ModelInfo) (id : ℕ) (row : Row) (i : ℕ) (kept : List Value) → length info.fields ≤ i → KeptSoFar info id row i kept → AreKept info id row kept
-kept_all info id row i kept past far =
+pub kept_all : (model : ModelNo) (info : ModelInfo) (id : ℕ) (row : Row) (i : ℕ) (kept : List Value) → length info.fields ≤ i → KeptSoFar model info id row i kept → AreKept model info id row kept
+kept_all model info id row i kept past far =
     let none : drop i info.fields ≡ [] = drop_all i info.fields past in
     let no_column : left_columns info i ≡ [] = ap (enumerate_from (suc i)) none in
     record {
-      same = sym (append-nil kept) ∙ ap (λ (vs : List Value). kept ++ vs) (sym (ap (values_of id row) no_column)) ∙ far.same;
-      whole = far.whole (subst (All (HasValue id row)) (sym no_column) (All-nil (HasValue id row)));
+      same = sym (append-nil kept) ∙ ap (λ (vs : List Value). kept ++ vs) (sym (ap (values_of model id row) no_column)) ∙ far.same;
+      whole = far.whole (subst (All (HasValue model id row)) (sym no_column) (All-nil (HasValue model id row)));
       hold = subst (HoldAll (kept_fields info)) (append-nil kept) (far.hold [] (subst (λ (fs : List FieldInfo). HoldAll (filter is_kept fs) []) (sym none) tt));
     }
 
 -- a field without a value breaks the row
 pub row_broken : (model : ModelNo) (info : ModelInfo) (id : ℕ) (row : Row) (i : ℕ) (f : FieldInfo) (cell : Cell) (why : Refusal) → slice_get info.fields i ≡ Some f → cell ≡ cell_of model id (suc i)
-    → BreaksCell cell (val (suc i, f) id row) why → BreaksRow model info id row why
+    → BreaksCell cell (val model (suc i, f) id row) why → BreaksRow model info id row why
 row_broken model info id row i f cell (refusal.Request place) at is broken = absurd broken
 row_broken model info id row i f cell (refusal.Right m op) at is broken = absurd broken
 row_broken model info id row i f cell (refusal.FieldRight m field) at is broken = absurd broken
 row_broken model info id row i f cell (refusal.Missing m id') at is broken = absurd broken
 row_broken model info id row i f cell (refusal.Rule m op id' name) at is broken = absurd broken
-row_broken model info id row i f cell (refusal.Constraint b) at is (fault, faults, b_is) =
-    ((suc i, f), fault, record { column_of = Contains-columns info i f at; faults = faults }, b_is ∙ ap (λ (c : Cell). record { kind = broken_kind fault; cell = c }) is)
+row_broken model info id row i f cell (refusal.Constraint b) at is (faults, own) = ((suc i, f), record { column_of = Contains-columns info i f at; faults = faults }, own ∙ is)
 row_broken model info id row i f cell refusal.Keeper at is broken = absurd broken
 row_broken model info id row i f cell refusal.NoMemory at is broken = tt
 
@@ -144,7 +145,8 @@ row_broken model info id row i f cell refusal.NoMemory at is broken = tt
 -- the field at a place, and those after it
 pub computed_more : (info : ModelInfo) (i : ℕ) (f : FieldInfo) → slice_get info.fields i ≡ Some f → computed_in (drop i info.fields) ≡ evaluations_of f + computed_in (drop (i + 1) info.fields)
 computed_more info i f at = ap computed_in (left_more info i f at) ∙ by (has_formula f.origin) where
-  by : (b : Bool) → length (cond b (f ∷ filter (λ field. has_formula field.origin) (drop (i + 1) info.fields)) (filter (λ field. has_formula field.origin) (drop (i + 1) info.fields))) ≡ cond b 1 0 + computed_in (drop (i + 1) info.fields)
+  by : (b : Bool) → length (cond b (f ∷ filter (λ field. has_formula field.origin) (drop (i + 1) info.fields)) (filter (λ field. has_formula field.origin) (drop (i + 1) info.fields))) ≡ cond b 1 0 + computed_in
+      (drop (i + 1) info.fields)
   by true = omega arith
   by false = omega arith
 
@@ -188,7 +190,8 @@ step_in models model fields i same lt = by (model_at models model) refl same whe
       }
 
 -- so there is the field
-pub field_there : (models : List ModelInfo) (model : ModelNo) (fields : List FieldInfo) (i : ℕ) → option_map (λ info. info.fields) (model_at models model) ≡ Some fields → i < length fields → HasField models model (record { 0 = i + 1 })
+pub field_there : (models : List ModelInfo) (model : ModelNo) (fields : List FieldInfo) (i : ℕ) → option_map (λ info. info.fields) (model_at models model) ≡ Some fields → i < length fields
+    → HasField models model (record { 0 = i + 1 })
 field_there models model fields i same lt = ap is_some (step_in models model fields i same lt).at
 
 -- the fields of a model that is there
@@ -221,28 +224,29 @@ step_refused models model fields i id values why same lt given =
     (step_gives models model fields i id values (Err why) there given))
 
 -- a step that the row keeps a value of
-pub step_kept : (models : List ModelInfo) (model : ModelNo) (fields : List FieldInfo) (i id : ℕ) (values kept now : List Value) (v : Value) → option_map (λ info. info.fields) (model_at models model) ≡ Some fields → i < length fields
-    → GivesAt models (cell_at model id i) values (Ok (Some v)) → now ≡ kept ++ v ∷ [] → IfSome (model_at models model) (λ info. KeptSoFar info id (gathered info values) i kept)
-    → IfSome (model_at models model) (λ info. KeptSoFar info id (gathered info values) (i + 1) now)
+pub step_kept : (models : List ModelInfo) (model : ModelNo) (fields : List FieldInfo) (i id : ℕ) (values kept now : List Value) (v : Value) → option_map (λ info. info.fields) (model_at models model) ≡ Some fields
+    → i < length fields
+    → GivesAt models (cell_at model id i) values (Ok (Some v)) → now ≡ kept ++ v ∷ [] → IfSome (model_at models model) (λ info. KeptSoFar model info id (gathered info values) i kept)
+    → IfSome (model_at models model) (λ info. KeptSoFar model info id (gathered info values) (i + 1) now)
 step_kept models model fields i id values kept now v same lt given pushed far =
     let there = step_in models model fields i same lt in
     let o = model_at models model in
-    tell o there.info (λ info. KeptSoFar info id (gathered info values) (i + 1) now) there.model_is
-    (subst (KeptSoFar there.info id (gathered there.info values) (i + 1)) (sym pushed)
-    (kept_more there.info id (gathered there.info values) i there.f kept v there.field_is (step_gives models model fields i id values (Ok (Some v)) there given) (told o there.info
-    (λ info. KeptSoFar info id (gathered info values) i kept) there.model_is far)))
+    tell o there.info (λ info. KeptSoFar model info id (gathered info values) (i + 1) now) there.model_is
+    (subst (KeptSoFar model there.info id (gathered there.info values) (i + 1)) (sym pushed)
+    (kept_more model there.info id (gathered there.info values) i there.f kept v there.field_is (step_gives models model fields i id values (Ok (Some v)) there given) (told o there.info
+    (λ info. KeptSoFar model info id (gathered info values) i kept) there.model_is far)))
 
 -- a step that it keeps nothing of
 pub step_passed : (models : List ModelInfo) (model : ModelNo) (fields : List FieldInfo) (i id : ℕ) (values kept now : List Value) → option_map (λ info. info.fields) (model_at models model) ≡ Some fields → i < length fields
-    → GivesAt models (cell_at model id i) values (Ok None) → now ≡ kept → IfSome (model_at models model) (λ info. KeptSoFar info id (gathered info values) i kept)
-    → IfSome (model_at models model) (λ info. KeptSoFar info id (gathered info values) (i + 1) now)
+    → GivesAt models (cell_at model id i) values (Ok None) → now ≡ kept → IfSome (model_at models model) (λ info. KeptSoFar model info id (gathered info values) i kept)
+    → IfSome (model_at models model) (λ info. KeptSoFar model info id (gathered info values) (i + 1) now)
 step_passed models model fields i id values kept now same lt given stays far =
     let there = step_in models model fields i same lt in
     let o = model_at models model in
-    tell o there.info (λ info. KeptSoFar info id (gathered info values) (i + 1) now) there.model_is
-    (subst (KeptSoFar there.info id (gathered there.info values) (i + 1)) (sym stays)
-    (kept_passed there.info id (gathered there.info values) i there.f kept there.field_is (step_gives models model fields i id values (Ok None) there given) (told o there.info
-    (λ info. KeptSoFar info id (gathered info values) i kept) there.model_is far)))
+    tell o there.info (λ info. KeptSoFar model info id (gathered info values) (i + 1) now) there.model_is
+    (subst (KeptSoFar model there.info id (gathered there.info values) (i + 1)) (sym stays)
+    (kept_passed model there.info id (gathered there.info values) i there.f kept there.field_is (step_gives models model fields i id values (Ok None) there given) (told o there.info
+    (λ info. KeptSoFar model info id (gathered info values) i kept) there.model_is far)))
 
 -- so many evaluations so far, which with those that are left are all
 pub record TickedIn {L : Type 0} (info : ModelInfo) (noted : L → L) (i : ℕ) (now start : Tally L) : Type 0 where
@@ -284,14 +288,15 @@ few_ticks {L = L} models model i noted start now far = by (model_at models model
 
 -- all is kept
 pub all_kept : (models : List ModelInfo) (model : ModelNo) (fields : List FieldInfo) (i id : ℕ) (values kept : List Value) → option_map (λ info. info.fields) (model_at models model) ≡ Some fields → length fields ≤ i
-    → IfSome (model_at models model) (λ info. KeptSoFar info id (gathered info values) i kept) → IfSome (model_at models model) (λ info. AreKept info id (gathered info values) kept)
+    → IfSome (model_at models model) (λ info. KeptSoFar model info id (gathered info values) i kept) → IfSome (model_at models model) (λ info. AreKept model info id (gathered info values) kept)
 all_kept models model fields i id values kept same past far = by (model_at models model) same far where
-  by : (o : Option ModelInfo) → option_map (λ info. info.fields) o ≡ Some fields → IfSome o (λ info. KeptSoFar info id (gathered info values) i kept) → IfSome o (λ info. AreKept info id (gathered info values) kept)
+  by : (o : Option ModelInfo) → option_map (λ info. info.fields) o ≡ Some fields → IfSome o (λ info. KeptSoFar model info id (gathered info values) i kept) → IfSome o (λ info. AreKept model info id (gathered info values) kept)
   by None same far = tt
-  by (Some info) same far = kept_all info id (gathered info values) i kept (let e : info.fields ≡ fields = cc in omega (arith, ap length e)) far
+  by (Some info) same far = kept_all model info id (gathered info values) i kept (let e : info.fields ≡ fields = cc in omega (arith, ap length e)) far
 
 -- and evaluated
-pub all_ticked : {L : Type 0} (models : List ModelInfo) (model : ModelNo) (fields : List FieldInfo) (i : ℕ) (noted : L → L) (start now : Tally L) → option_map (λ info. info.fields) (model_at models model) ≡ Some fields → length fields ≤ i
+pub all_ticked : {L : Type 0} (models : List ModelInfo) (model : ModelNo) (fields : List FieldInfo) (i : ℕ) (noted : L → L) (start now : Tally L)
+    → option_map (λ info. info.fields) (model_at models model) ≡ Some fields → length fields ≤ i
     → Ticked models model noted i now start → IfSome (model_at models model) (λ info. now ≡ ticked_times (computed_count info) noted start)
 all_ticked {L = L} models model fields i noted start now same past far = by (model_at models model) same far where
   by : (o : Option ModelInfo) → option_map (λ info. info.fields) o ≡ Some fields → IfSome o (λ info. TickedIn info noted i now start) → IfSome o (λ info. now ≡ ticked_times (computed_count info) noted start)
@@ -310,11 +315,11 @@ start_ticked {L = L} models model noted start = by (model_at models model) where
   by (Some info) = record { times = 0; all = omega arith; is = refl }
 
 -- nor kept
-pub none_kept : (models : List ModelInfo) (model : ModelNo) (id : ℕ) (values kept : List Value) → kept ≡ [] → IfSome (model_at models model) (λ info. KeptSoFar info id (gathered info values) 0 kept)
+pub none_kept : (models : List ModelInfo) (model : ModelNo) (id : ℕ) (values kept : List Value) → kept ≡ [] → IfSome (model_at models model) (λ info. KeptSoFar model info id (gathered info values) 0 kept)
 none_kept models model id values kept is = by (model_at models model) where
-  by : (o : Option ModelInfo) → IfSome o (λ info. KeptSoFar info id (gathered info values) 0 kept)
+  by : (o : Option ModelInfo) → IfSome o (λ info. KeptSoFar model info id (gathered info values) 0 kept)
   by None = tt
-  by (Some info) = subst (KeptSoFar info id (gathered info values) 0) (sym is) (kept_none info id (gathered info values))
+  by (Some info) = subst (KeptSoFar model info id (gathered info values) 0) (sym is) (kept_none model info id (gathered info values))
 
 -- what is known where an answer was handed on
 pub handed_on_ok : {X E : Type 0} (F : Type 0) (r : Result X E) (x : X) (P : Type 0) → MatchResult r (λ y. ◌≡◌ {A = Result X F} (Ok x) (Ok y)) (λ _. ⊥) → OnOk r P → P

@@ -36,7 +36,8 @@ use Rattle.ob_orm.specs.Served.{IsServed}
 use Rattle.ob_orm.specs.Sound.{HasForms}
 use Rattle.ob_orm.specs.Tables.{Row}
 use Rattle.ob_orm.proofs.CreateColumns.{taken}
-use Rattle.ob_orm.proofs.CreateFields.{All-at, tell, told}
+use Rattle.ob_orm.proofs.CreateColumns.{All-at}
+use Rattle.ob_orm.proofs.CreateFields.{tell, told}
 use Rattle.ob_orm.proofs.CreateKept.{StepIn, step_in}
 
 -- ---- fields to which a create gives values
@@ -158,7 +159,8 @@ row_refused now place ms n (suc i) (g ∷ fields) f e before at is wrong =
 
 -- each plain field before a place has what it takes
 abbrev pub TakenSoFar : ℤ → List PathStep → Members → ModelInfo → ℕ → List Value → Type 0
-TakenSoFar now place ms info i values = (k : ℕ) (f : FieldInfo) → k < i → slice_get info.fields k ≡ Some f → is_plain_kept f ≡ true → (new_value now place ms f ≡ Ok (get_or values k value.Nil)) × Holds f (get_or values k value.Nil)
+TakenSoFar now place ms info i values = (k : ℕ) (f : FieldInfo) → k < i → slice_get info.fields k ≡ Some f → is_plain_kept f ≡ true
+    → (new_value now place ms f ≡ Ok (get_or values k value.Nil)) × Holds f (get_or values k value.Nil)
 
 -- what a step gave
 abbrev pub TakesAt : List ModelInfo → ModelNo → ℕ → ℤ → List PathStep → Members → Result Value Refusal → Type 0

@@ -1,5 +1,5 @@
 -- What the changes of a create make of the kept rows and of the tables.
-use Rattle.std.proofs.Common.{◌≡◌, ◌≢◌, ℕ, ◌+◌, ◌<◌, ◌≤◌, Bool, true, false, cond, List, [], ◌∷◌, ◌++◌, Option, Some, None, Ok, Err, Result, option_map, unwrap_or, inl, inr, map, refl, sym, ap, subst, ◌∙◌, true≢false, arith, length}
+use Rattle.std.proofs.Common.{◌≡◌, ◌≢◌, ℕ, ◌+◌, ◌<◌, ◌≤◌, Bool, true, false, cond, List, [], ◌∷◌, ◌++◌, Option, Some, None, Ok, option_map, unwrap_or, inl, inr, map, refl, sym, ap, subst, ◌∙◌, true≢false, arith, length}
 use Rattle.std.specs.Prelude.{All, Contains, IfSome}
 use Rattle.std.specs.Cmp.{IsTotalOrder, Equal-is}
 use Rattle.std.specs.FinMap as finite
@@ -15,10 +15,11 @@ use Rattle.ob_base.specs.Limits.{max_id}
 use Rattle.ob_base.specs.declared.id.ModelNo.{ModelNo}
 use Rattle.ob_base.specs.declared.id.RecId.{RecId}
 use Rattle.ob_base.specs.declared.refusal.Broken.{Broken}
+use Rattle.ob_base.specs.declared.refusal.BrokenKind.{BrokenKind}
+use Rattle.ob_base.specs.declared.refusal.BrokenKind.TheVariants as broken
 use Rattle.ob_base.specs.declared.value.Value.{Value}
 use Rattle.ob_base.specs.declared.value.Value.TheVariants as value
 use Rattle.ob_codec.specs.RowForm.{row_form}
-use Rattle.ob_expr.specs.Meaning.{ValueFault}
 use Rattle.ob_io.specs.declared.store.Change.{Change}
 use Rattle.ob_io.specs.declared.store.KeptRow.{KeptRow}
 use Rattle.ob_io.specs.declared.store.Link.{Link}
@@ -36,6 +37,7 @@ use Rattle.ob_schema.specs.declared.info.ModelInfo.{ModelInfo}
 use Rattle.ob_orm.specs.Create.{Breaks}
 use Rattle.ob_orm.specs.CreateSteps.{AreKept, ArePlain, changes_of, gathered, held_at}
 use Rattle.ob_orm.specs.Kept.{Kept, KeepsModel, OthersStay, kept_row, kept_values, links_of, targets_of}
+use Rattle.ob_orm.specs.Scratch.{IsBrokenAs}
 use Rattle.ob_orm.specs.Served.{IsServed}
 use Rattle.ob_orm.specs.Sound.{HasValue, IsSound, IsSoundModel, IsSoundRow}
 use Rattle.ob_orm.specs.Tables.{Row, Tables, made, next_id, plain, row_of}
@@ -142,15 +144,16 @@ abbrev put_row : List FieldInfo → ℕ → List Value → KeptRow
 put_row fields id values = record { id = record { 0 = id }; body = row_form fields values; links = [] }
 
 -- it is the machine's
-put_is_kept : (info : ModelInfo) (fields : List FieldInfo) (id : ℕ) (row : Row) (values : List Value) → fields ≡ kept_fields info → links_of info row ≡ [] → values ≡ kept_values info id row
-    → in_order (put_row fields id values) ≡ kept_row info id row
-put_is_kept info fields id row values same none are =
+put_is_kept : (model : ModelNo) (info : ModelInfo) (fields : List FieldInfo) (id : ℕ) (row : Row) (values : List Value) → fields ≡ kept_fields info → links_of info row ≡ [] → values ≡ kept_values model info id row
+    → in_order (put_row fields id values) ≡ kept_row model info id row
+put_is_kept model info fields id row values same none are =
     ap (λ (links : List Link). let r : KeptRow = record { id = record { 0 = id }; body = row_form fields values; links = links } in r) (no_items ∙ sym none)
     ∙ ap (λ (body : List ℕ). let r : KeptRow = record { id = record { 0 = id }; body = body; links = links_of info row } in r)
     (ap (λ (fs : List FieldInfo). row_form fs values) same ∙ ap (row_form (kept_fields info)) are)
 
 -- what is found where a row was put, in the keeper and in the tables
-both : (b : Bool) (put : KeptRow) (row : Row) (old : Option KeptRow) (found : Option Row) (form : Row → KeptRow) → (b ≡ true → put ≡ form row) → old ≡ option_map form found → cond b (Some put) old ≡ option_map form (cond b (Some row) found)
+both : (b : Bool) (put : KeptRow) (row : Row) (old : Option KeptRow) (found : Option Row) (form : Row → KeptRow) → (b ≡ true → put ≡ form row) → old ≡ option_map form found
+    → cond b (Some put) old ≡ option_map form (cond b (Some row) found)
 both true put row old found form here there = ap Some (here refl)
 both false put row old found form here there = there
 
@@ -191,7 +194,7 @@ kept_at_is models model info at = ap (λ (o : Option ModelInfo). option_map_or k
 
 -- the keeper goes on to have the rows of the tables
 pub made_kept : (models : List ModelInfo) (model : ModelNo) (info : ModelInfo) (store : Store) (tables : Tables) (row : Row) (values : List Value) → model_at models model ≡ Some info → Kept models store tables
-    → links_of info row ≡ [] → values ≡ kept_values info (next_id tables model) row → Kept models (all_changed (changes_of models model (next_id tables model) values) store) (made model row tables)
+    → links_of info row ≡ [] → values ≡ kept_values model info (next_id tables model) row → Kept models (all_changed (changes_of models model (next_id tables model) values) store) (made model row tables)
 made_kept models model info store tables row values at kept none are = λ other. by other (model_at models other) refl where
   there : (other : ModelNo) (found : ModelInfo) → model_at models other ≡ Some found → KeepsModel other found store tables
       → KeepsModel other found (all_changed (changes_of models model (next_id tables model) values) store) (made model row tables)
@@ -202,13 +205,14 @@ made_kept models model info store tables row values at kept none are = λ other.
             let same = is_key (key other id) (key model next) in
             let put = put_row (kept_at models model) next values in
             finite.get-insert rows_total store.rows (key model next) (in_order put) (key other id)
-            ∙ both same (in_order put) row (row_at store other (record { 0 = id })) (row_of tables other id) (kept_row found id) (λ h.
+            ∙ both same (in_order put) row (row_at store other (record { 0 = id })) (row_of tables other id) (kept_row other found id) (λ h.
             let keys = same_key (key other id) (key model next) h in
             let own = one_model models model other info found (ap (λ (k : RowKey). k.model) keys) at is in
-            put_is_kept info (kept_at models model) next row values (kept_at_is models model info at) none are
-            ∙ ap (λ (n : ℕ). kept_row info n row) (sym (ap (λ (k : RowKey). k.id.0) keys))
-            ∙ ap (λ (m : ModelInfo). kept_row m id row) own) (before.rows id)
-            ∙ ap (λ (o : Option Row). option_map (kept_row found id) o) (sym (row_put tables model other row id));
+            put_is_kept model info (kept_at models model) next row values (kept_at_is models model info at) none are
+            ∙ ap (λ (n : ℕ). kept_row model info n row) (sym (ap (λ (k : RowKey). k.id.0) keys))
+            ∙ ap (λ (m : ModelInfo). kept_row model m id row) own
+            ∙ ap (λ (m : ModelNo). kept_row m found id row) (sym (ap (λ (k : RowKey). k.model) keys))) (before.rows id)
+            ∙ ap (λ (o : Option Row). option_map (kept_row other found id) o) (sym (row_put tables model other row id));
         next = next_put store.next_ids model other (next + 1)
             ∙ next_both (is_number other.0 model.0) (next + 1) (finite.get store.next_ids other.0) (finite.get tables.next_ids other.0) before.next
             ∙ sym (next_put tables.next_ids model other (next + 1));
@@ -220,7 +224,7 @@ made_kept models model info store tables row values at kept none are = λ other.
 
 -- the tables go on to be sound
 pub made_sound : (models : List ModelInfo) (model : ModelNo) (info : ModelInfo) (tables : Tables) (row : Row) → model_at models model ≡ Some info → IsSound models tables
-    → IsSoundRow info (next_id tables model) row → next_id tables model ≤ max_id
+    → IsSoundRow model info (next_id tables model) row → next_id tables model ≤ max_id
     → IsSound models (made model row tables)
 made_sound models model info tables row at sound here low = λ other. by other (model_at models other) refl where
   own : IsSoundModel model info tables
@@ -247,11 +251,12 @@ made_sound models model info tables row at sound here low = λ other. by other (
       let up = rises other found before in
       let old_low = before.next_low in
       record {
-        rows = λ id. subst (λ (o : Option Row). IfSome o (IsSoundRow found id)) (sym (row_put tables model other row id)) (each _ row (row_of tables other id) (IsSoundRow found id)
+        rows = λ id. subst (λ (o : Option Row). IfSome o (IsSoundRow other found id)) (sym (row_put tables model other row id)) (each _ row (row_of tables other id) (IsSoundRow other found id)
             (λ h.
             let keys = same_key (key other id) (key model next) h in
             let same = one_model models model other info found (ap (λ (k : RowKey). k.model) keys) at is in
-            subst (λ (m : ModelInfo). IsSoundRow m id row) same (subst (λ (n : ℕ). IsSoundRow info n row) (sym (ap (λ (k : RowKey). k.id.0) keys)) here))
+            subst (λ (m : ModelNo). IsSoundRow m found id row) (sym (ap (λ (k : RowKey). k.model) keys))
+            (subst (λ (m : ModelInfo). IsSoundRow model m id row) same (subst (λ (n : ℕ). IsSoundRow model info n row) (sym (ap (λ (k : RowKey). k.id.0) keys)) here)))
             (λ _. before.rows id));
         ids = λ id. subst (λ (o : Option Row). IfSome o (λ _. (1 ≤ id) × (id < now))) (sym (row_put tables model other row id)) (each _ row (row_of tables other id) (λ _. (1 ≤ id) × (id < now))
             (λ h.
@@ -273,16 +278,22 @@ made_sound models model info tables row at sound here low = λ other. by other (
 -- ---- a row that is made
 
 -- it is sound
-pub kept_sound : (info : ModelInfo) (id : ℕ) (values kept : List Value) → ArePlain info values → AreKept info id (gathered info values) kept → IsSoundRow info id (gathered info values)
-kept_sound info id values kept known are = record { forms = known.forms; values = are.whole }
+pub kept_sound : (model : ModelNo) (info : ModelInfo) (id : ℕ) (values kept : List Value) → ArePlain info values → AreKept model info id (gathered info values) kept → IsSoundRow model info id (gathered info values)
+kept_sound model info id values kept known are = record { forms = known.forms; values = are.whole }
+
+-- what has a value is not broken
+not_broken : (kind : BrokenKind) (v : Value) → IsBrokenAs kind (Ok v) → ⊥
+not_broken broken.Overflow v is = cc
+not_broken broken.TooLong v is = cc
+not_broken broken.ZeroDivisor v is = cc
+not_broken _ v is = is
 
 -- nothing of it is broken
-pub none_broken : (model : ModelNo) (info : ModelInfo) (row : Row) (next : ℕ) (b : Broken) → IsSoundRow info next row → next ≤ max_id → Breaks model info next row b → ⊥
+pub none_broken : (model : ModelNo) (info : ModelInfo) (row : Row) (next : ℕ) (b : Broken) → IsSoundRow model info next row → next ≤ max_id → Breaks model info next row b → ⊥
 none_broken model info row next b sound low (inl high) = omega (arith, high.0)
-none_broken model info row next b sound low (inr (column, fault, has, is)) =
-    let (v, worth, holds) : HasValue next row column = All-contains (HasValue next row) (columns info) column sound.values has.column_of in
-    let wrong : ◌≡◌ {A = Result Value ValueFault} (Ok v) (Err fault) = sym worth ∙ has.faults in
-    cc
+none_broken model info row next b sound low (inr (column, has, is)) =
+    let (v, worth, holds) : HasValue model next row column = All-contains (HasValue model next row) (columns info) column sound.values has.column_of in
+    not_broken b.kind v (subst (IsBrokenAs b.kind) worth has.faults)
 
 -- ---- other models
 

@@ -4,10 +4,11 @@ use Rattle.std.specs.Prelude.{All}
 use Rattle.std.specs.List.{enumerate_from}
 use Rattle.std.specs.Result.{result_unwrap_or}
 use Rattle.std.proofs.lemmas.List.Elements.{All-head, All-tail, All-weaker}
+use Rattle.ob_base.specs.declared.id.ModelNo.{ModelNo}
 use Rattle.ob_base.specs.declared.value.Value.{Value}
 use Rattle.ob_base.specs.declared.value.Value.TheVariants.{Nil}
 use Rattle.ob_codec.specs.RowForm.{HoldAll}
-use Rattle.ob_expr.specs.Meaning.{ValueFault}
+use Rattle.ob_expr.specs.Computing.{Lack}
 use Rattle.ob_schema.specs.Fields.{Column, Holds, columns, is_kept, kept_fields}
 use Rattle.ob_schema.specs.declared.info.FieldInfo.{FieldInfo}
 use Rattle.ob_schema.specs.declared.info.ModelInfo.{ModelInfo}
@@ -34,13 +35,13 @@ hold_all f (x ∷ fields) n each =
     one false here more = more
 
 -- a value from scratch that its field may hold
-value_holds : (id : ℕ) (row : Row) (column : Column) → HasValue id row column → Holds column.1 (val_or_unset column id row)
-value_holds id row column has =
-    let is : has.0 ≡ val_or_unset column id row = sym (ap (λ (r : Result Value ValueFault). result_unwrap_or r Nil) has.1) in
+value_holds : (model : ModelNo) (id : ℕ) (row : Row) (column : Column) → HasValue model id row column → Holds column.1 (val_or_unset model column id row)
+value_holds model id row column has =
+    let is : has.0 ≡ val_or_unset model column id row = sym (ap (λ (r : Result Value Lack). result_unwrap_or r Nil) has.1) in
     subst (λ (v : Value). Holds column.1 v) is has.2
 
 -- the kept values of a sound row, each one that its field may hold
-pub kept_hold : (info : ModelInfo) (id : ℕ) (row : Row) → IsSoundRow info id row → HoldAll (kept_fields info) (kept_values info id row)
-kept_hold info id row sound =
-    hold_all (λ column. val_or_unset column id row) info.fields 1
-    (All-weaker (HasValue id row) (λ column. Holds column.1 (val_or_unset column id row)) (value_holds id row) (columns info) sound.values)
+pub kept_hold : (model : ModelNo) (info : ModelInfo) (id : ℕ) (row : Row) → IsSoundRow model info id row → HoldAll (kept_fields info) (kept_values model info id row)
+kept_hold model info id row sound =
+    hold_all (λ column. val_or_unset model column id row) info.fields 1
+    (All-weaker (HasValue model id row) (λ column. Holds column.1 (val_or_unset model column id row)) (value_holds model id row) (columns info) sound.values)

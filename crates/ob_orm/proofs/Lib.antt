@@ -11,6 +11,8 @@ pub mod ReadFetched
 pub mod ReadSteps
 pub mod ReadAnswers
 pub mod CreateColumns
+pub mod PlainReads
+pub mod NeverUnread
 pub mod CreateFormulas
 pub mod CreateFields
 pub mod CreateKept

@@ -65,32 +65,34 @@ spread_have (field ∷ fields) id kept served held =
 -- ---- the kept values of a row, spread, are the values of all fields
 
 -- the kept values of the fields from a number on
-abbrev kept_from : ℕ → Row → List Column → List Value
-kept_from id row cs = map (λ column. val_or_unset column id row) (filter (λ column. is_kept column.1) cs)
+abbrev kept_from : ModelNo → ℕ → Row → List Column → List Value
+kept_from model id row cs = map (λ column. val_or_unset model column id row) (filter (λ column. is_kept column.1) cs)
 
 -- the id's field has the id from scratch
-id_value : (o : Origin) (n : ℕ) (field : FieldInfo) (id : ℕ) (row : Row) → is_id o ≡ true → value.Int (pos id) ≡ result_unwrap_or (val_from o (n, field) id row) value.Nil
-id_value origin.Id n field id row own = refl
-id_value origin.Plain n field id row own = absurd cc
-id_value (origin.Computed formula) n field id row own = absurd cc
+id_value : (o : Origin) (model : ModelNo) (n : ℕ) (field : FieldInfo) (id : ℕ) (row : Row) → is_id o ≡ true → value.Int (pos id) ≡ result_unwrap_or (val_from o model (n, field) id row) value.Nil
+id_value origin.Id model n field id row own = refl
+id_value origin.Plain model n field id row own = absurd cc
+id_value (origin.Computed formula) model n field id row own = absurd cc
 
 -- the kept values, spread, are all values from scratch
-spread_same : (fields : List FieldInfo) (n id : ℕ) (row : Row) → AreServed fields → spread fields id (kept_from id row (enumerate_from n fields)) ≡ map (λ column. val_or_unset column id row) (enumerate_from n fields)
-spread_same [] n id row served = refl
-spread_same (field ∷ fields) n id row served =
+spread_same : (model : ModelNo) (fields : List FieldInfo) (n id : ℕ) (row : Row) → AreServed fields
+    → spread fields id (kept_from model id row (enumerate_from n fields)) ≡ map (λ column. val_or_unset model column id row) (enumerate_from n fields)
+spread_same model [] n id row served = refl
+spread_same model (field ∷ fields) n id row served =
     let here = All-head (λ (f : FieldInfo). (is_id f.origin || is_kept f) ≡ true) field fields served in
     let more = All-tail (λ (f : FieldInfo). (is_id f.origin || is_kept f) ≡ true) field fields served in
-    one (is_id field.origin) (is_kept field) here (id_apart field.origin field refl) (id_value field.origin n field id row) (spread_same fields (n + 1) id row more)
+    one (is_id field.origin) (is_kept field) here (id_apart field.origin field refl) (id_value field.origin model n field id row) (spread_same model fields (n + 1) id row more)
   where
-    one : (a b : Bool) → (a || b) ≡ true → (a ≡ true → b ≡ false) → (a ≡ true → value.Int (pos id) ≡ val_or_unset (n, field) id row)
-        → spread fields id (kept_from id row (enumerate_from (n + 1) fields)) ≡ map (λ column. val_or_unset column id row) (enumerate_from (n + 1) fields)
-        → let kept = map (λ (column : Column). val_or_unset column id row) (cond b ((n, field) ∷ filter (λ (column : Column). is_kept column.1) (enumerate_from (n + 1) fields)) (filter (λ
+    one : (a b : Bool) → (a || b) ≡ true → (a ≡ true → b ≡ false) → (a ≡ true → value.Int (pos id) ≡ val_or_unset model (n, field) id row)
+        → spread fields id (kept_from model id row (enumerate_from (n + 1) fields)) ≡ map (λ column. val_or_unset model column id row) (enumerate_from (n + 1) fields)
+        → let kept = map (λ (column : Column). val_or_unset model column id row) (cond b ((n, field) ∷ filter (λ (column : Column). is_kept column.1) (enumerate_from (n + 1) fields)) (filter (λ
         (column : Column). is_kept column.1) (enumerate_from (n + 1) fields))) in
-        cond a (value.Int (pos id) ∷ spread fields id kept) (get_or kept 0 value.Nil ∷ spread fields id (drop 1 kept)) ≡ val_or_unset (n, field) id row ∷ map (λ column. val_or_unset column id row) (enumerate_from (n + 1) fields)
+        cond a (value.Int (pos id) ∷ spread fields id kept) (get_or kept 0 value.Nil ∷ spread fields id (drop 1 kept)) ≡ val_or_unset model (n, field) id row ∷ map (λ column. val_or_unset model column id row)
+        (enumerate_from (n + 1) fields)
     one true true here apart own more = absurd (let h = apart refl in cc)
-    one true false here apart own more = ap (λ (v : Value). v ∷ spread fields id (kept_from id row (enumerate_from (n + 1) fields))) (own refl) ∙ ap (λ (vs : List Value). val_or_unset (n, field) id row ∷ vs) more
+    one true false here apart own more = ap (λ (v : Value). v ∷ spread fields id (kept_from model id row (enumerate_from (n + 1) fields))) (own refl) ∙ ap (λ (vs : List Value). val_or_unset model (n, field) id row ∷ vs) more
     one false false here apart own more = absurd cc
-    one false true here apart own more = ap (λ (vs : List Value). val_or_unset (n, field) id row ∷ vs) more
+    one false true here apart own more = ap (λ (vs : List Value). val_or_unset model (n, field) id row ∷ vs) more
 
 -- ---- what is read of a row's body
 
@@ -104,29 +106,31 @@ reads_there : (models : List ModelInfo) (model : ModelNo) (info : ModelInfo) (bo
 reads_there models model info body read there reads = subst (λ (o : Option ModelInfo). ReadsBody (option_map_or kept_fields o []) body read) there reads
 
 -- what was read of a row's body are its values
-read_values : (info : ModelInfo) (id : ℕ) (row : Row) (body : List ℕ) (kept : List Value) (values : Vec Value Global) → IsServed info → IsSoundRow info id row → body ≡ row_form (kept_fields info) (kept_values info id row)
-    → ReadsBody (kept_fields info) body (Ok kept) → values.items ≡ spread info.fields id kept → AreValuesOf info id (Some values) (Some row)
-read_values info id row body kept values served sound form reads is =
-    elim (reads (kept_values info id row) (kept_hold info id row sound) form) [
-      | inl e ↦ (let same : kept ≡ kept_values info id row = cc in
-          (row, refl, is ∙ ap (spread info.fields id) same ∙ spread_same info.fields 1 id row served.kept))
+read_values : (model : ModelNo) (info : ModelInfo) (id : ℕ) (row : Row) (body : List ℕ) (kept : List Value) (values : Vec Value Global) → IsServed info → IsSoundRow model info id row
+    → body ≡ row_form (kept_fields info) (kept_values model info id row)
+    → ReadsBody (kept_fields info) body (Ok kept) → values.items ≡ spread info.fields id kept → AreValuesOf model info id (Some values) (Some row)
+read_values model info id row body kept values served sound form reads is =
+    elim (reads (kept_values model info id row) (kept_hold model info id row sound) form) [
+      | inl e ↦ (let same : kept ≡ kept_values model info id row = cc in
+          (row, refl, is ∙ ap (spread info.fields id) same ∙ spread_same model info.fields 1 id row served.kept))
       | inr e ↦ absurd cc
     ]
 
 -- values that were read are those of the row
-pub told_values : (models : List ModelInfo) (model : ModelNo) (info : ModelInfo) (id : ℕ) (body : List ℕ) (kept : List Value) (values : Vec Value Global) → model_at models model ≡ Some info → IfSome (model_at models model) IsServed
+pub told_values : (models : List ModelInfo) (model : ModelNo) (info : ModelInfo) (id : ℕ) (body : List ℕ) (kept : List Value) (values : Vec Value Global) → model_at models model ≡ Some info
+    → IfSome (model_at models model) IsServed
     → ReadsBody (kept_at models model) body (Ok kept) → values.items ≡ spread info.fields id kept
-    → IfSome (model_at models model) (λ i. (row : Row) → IsSoundRow i id row → body ≡ row_form (kept_fields i) (kept_values i id row) → AreValuesOf i id (Some values) (Some row))
+    → IfSome (model_at models model) (λ i. (row : Row) → IsSoundRow model i id row → body ≡ row_form (kept_fields i) (kept_values model i id row) → AreValuesOf model i id (Some values) (Some row))
 told_values models model info id body kept values there served reads is =
     let own : IsServed info = subst (λ (o : Option ModelInfo). IfSome o IsServed) there served in
-    rw there (λ row sound form. read_values info id row body kept values own sound form (reads_there models model info body (Ok kept) there reads) is)
+    rw there (λ row sound form. read_values model info id row body kept values own sound form (reads_there models model info body (Ok kept) there reads) is)
 
 -- and the body of a row can be read
 pub told_bad : (models : List ModelInfo) (model : ModelNo) (info : ModelInfo) (id : ℕ) (body : List ℕ) (read : Result (List Value) RowFault) → model_at models model ≡ Some info
     → read ≡ Err fault.Bad → ReadsBody (kept_at models model) body read
-    → IfSome (model_at models model) (λ i. (row : Row) → IsSoundRow i id row → body ≡ row_form (kept_fields i) (kept_values i id row) → AreValuesOf i id None (Some row))
+    → IfSome (model_at models model) (λ i. (row : Row) → IsSoundRow model i id row → body ≡ row_form (kept_fields i) (kept_values model i id row) → AreValuesOf model i id None (Some row))
 told_bad models model info id body read there bad reads =
-    rw there (λ row sound form. elim (reads_there models model info body read there reads (kept_values info id row) (kept_hold info id row sound) form) [ inl e ↦ absurd cc | inr e ↦ absurd cc ])
+    rw there (λ row sound form. elim (reads_there models model info body read there reads (kept_values model info id row) (kept_hold model info id row sound) form) [ inl e ↦ absurd cc | inr e ↦ absurd cc ])
 
 -- values that were read are ones that the fields may hold
 pub held_values : (models : List ModelInfo) (model : ModelNo) (info : ModelInfo) (id : ℕ) (kept values : List Value)

@@ -167,7 +167,8 @@ flagged_filter test (f ∷ fields) n =
     let more : left ≡ map (λ (c : Column). c.0) right = flagged_filter test fields (n + 1) in
     one_filtered (test n) n f left right more
   where
-    one_filtered : (b : Bool) (n : ℕ) (f : FieldInfo) (left : List ℕ) (right : List Column) → left ≡ map (λ (c : Column). c.0) right → cond (b || false) (n ∷ left) left ≡ map (λ (c : Column). c.0) (cond b ((n, f) ∷ right) right)
+    one_filtered : (b : Bool) (n : ℕ) (f : FieldInfo) (left : List ℕ) (right : List Column) → left ≡ map (λ (c : Column). c.0) right
+        → cond (b || false) (n ∷ left) left ≡ map (λ (c : Column). c.0) (cond b ((n, f) ∷ right) right)
     one_filtered true n f left right e = ap (λ (ns : List ℕ). n ∷ ns) e
     one_filtered false n f left right e = e
 

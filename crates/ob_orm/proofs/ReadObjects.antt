@@ -15,6 +15,7 @@ use Rattle.serde_json.specs.Written.{has_float, items_have_float, members_have_f
 use Rattle.serde_json.specs.declared.value.Value.{Value as Json}
 use Rattle.serde_json.proofs.Views.{Entry, members_view-insert_entry}
 use Rattle.ob_base.specs.declared.id.FieldNo.{FieldNo}
+use Rattle.ob_base.specs.declared.id.ModelNo.{ModelNo}
 use Rattle.ob_base.specs.declared.id.RecId.{RecId}
 use Rattle.ob_base.specs.declared.value.Value.{Value}
 use Rattle.ob_base.specs.declared.value.Value.TheVariants as value
@@ -97,28 +98,28 @@ at_number f fields (suc k) field d there =
     ap (λ (j : ℕ). get_or (map f (enumerate_from 1 fields)) j d) e ∙ at_place f fields 1 k field d there ∙ ap (λ (m : ℕ). f (m, field)) (let s : 1 + k ≡ suc k = omega arith in s)
 
 -- the values of a row's fields
-abbrev pub values_of : ModelInfo → ℕ → Row → List Value
-values_of info id row = map (λ column. val_or_unset column id row) (columns info)
+abbrev pub values_of : ModelNo → ModelInfo → ℕ → Row → List Value
+values_of model info id row = map (λ column. val_or_unset model column id row) (columns info)
 
 -- the id's field has the id, and any other what stands at its number
-by_origin : (o : Origin) (field : FieldInfo) (number : FieldNo) (id : ℕ) (row : Row) (at : Value) → at ≡ result_unwrap_or (val_from o (number.0, field) id row) value.Nil
-    → cond (is_id o) (value.Int (pos id)) at ≡ result_unwrap_or (val_from o (number.0, field) id row) value.Nil
-by_origin origin.Id field number id row at e = refl
-by_origin origin.Plain field number id row at e = e
-by_origin (origin.Computed formula) field number id row at e = e
+by_origin : (o : Origin) (model : ModelNo) (field : FieldInfo) (number : FieldNo) (id : ℕ) (row : Row) (at : Value) → at ≡ result_unwrap_or (val_from o model (number.0, field) id row) value.Nil
+    → cond (is_id o) (value.Int (pos id)) at ≡ result_unwrap_or (val_from o model (number.0, field) id row) value.Nil
+by_origin origin.Id model field number id row at e = refl
+by_origin origin.Plain model field number id row at e = e
+by_origin (origin.Computed formula) model field number id row at e = e
 
 -- the value that is told of a field is its value from scratch
-same_value : (info : ModelInfo) (number : FieldNo) (field : FieldInfo) (id : ℕ) (row : Row) (values : List Value) → numbered info.fields number.0 ≡ Some field → values ≡ values_of info id row
-    → value_told field number id values ≡ val_or_unset (number.0, field) id row
-same_value info number field id row values there e =
-    by_origin field.origin field number id row (get_or values (number.0 - 1) value.Nil)
-    (ap (λ (vs : List Value). get_or vs (number.0 - 1) value.Nil) e ∙ at_number (λ column. val_or_unset column id row) info.fields number.0 field value.Nil there)
+same_value : (model : ModelNo) (info : ModelInfo) (number : FieldNo) (field : FieldInfo) (id : ℕ) (row : Row) (values : List Value) → numbered info.fields number.0 ≡ Some field → values ≡ values_of model info id row
+    → value_told field number id values ≡ val_or_unset model (number.0, field) id row
+same_value model info number field id row values there e =
+    by_origin field.origin model field number id row (get_or values (number.0 - 1) value.Nil)
+    (ap (λ (vs : List Value). get_or vs (number.0 - 1) value.Nil) e ∙ at_number (λ column. val_or_unset model column id row) info.fields number.0 field value.Nil there)
 
 -- ---- the object so far
 
 -- what tells of the fields that are left makes the object of the row
-pub record IsToldTo (found : Option ModelInfo) (numbers : List FieldNo) (id : ℕ) (values : List Value) (i : ℕ) (members : Members) : Type 0 where
-  pub told : IfSome found (λ info. (row : Row) → values ≡ values_of info id row → (d : Data) → TellsFields id row (columns_at info (drop i numbers)) members d → TellsRow (columns_at info numbers) id row d)
+pub record IsToldTo (model : ModelNo) (found : Option ModelInfo) (numbers : List FieldNo) (id : ℕ) (values : List Value) (i : ℕ) (members : Members) : Type 0 where
+  pub told : IfSome found (λ info. (row : Row) → values ≡ values_of model info id row → (d : Data) → TellsFields model id row (columns_at info (drop i numbers)) members d → TellsRow model (columns_at info numbers) id row d)
   pub plain : members_have_float members ≡ false
 
 -- the field of the next number
@@ -129,32 +130,34 @@ next_number info numbers i number field lt is there =
     ∙ rw there refl
 
 -- one field more is told
-one_told : (found : Option ModelInfo) (numbers : List FieldNo) (id : ℕ) (values : List Value) (i : ℕ) (old : Members) (own : Data) (number : FieldNo) (field : FieldInfo)
+one_told : (model : ModelNo) (found : Option ModelInfo) (numbers : List FieldNo) (id : ℕ) (values : List Value) (i : ℕ) (old : Members) (own : Data) (number : FieldNo) (field : FieldInfo)
     → i < length numbers → number ≡ get_or numbers i number → field_in found number ≡ Some field → IsJsonOf (value_told field number id values) own
-    → IfSome found (λ info. (row : Row) → values ≡ values_of info id row → (d : Data) → TellsFields id row (columns_at info (drop i numbers)) old d → TellsRow (columns_at info numbers) id row d)
-    → IfSome found (λ info. (row : Row) → values ≡ values_of info id row → (d : Data) → TellsFields id row (columns_at info (drop (i + 1) numbers)) (put field.name own old) d → TellsRow (columns_at info numbers) id row d)
-one_told None numbers id values i old own number field lt is there told so_far = absurd cc
-one_told (Some info) numbers id values i old own number field lt is there told so_far = λ row e d more.
-    so_far row e d (subst (λ (cs : List Column). TellsFields id row cs old d) (sym (next_number info numbers i number field lt is there))
-    (own, subst (λ (v : Value). IsJsonOf v own) (same_value info number field id row values there e) told, more))
+    → IfSome found (λ info. (row : Row) → values ≡ values_of model info id row → (d : Data) → TellsFields model id row (columns_at info (drop i numbers)) old d → TellsRow model (columns_at info numbers) id row d)
+    → IfSome found (λ info. (row : Row) → values ≡ values_of model info id row → (d : Data) → TellsFields model id row (columns_at info (drop (i + 1) numbers)) (put field.name own old) d → TellsRow model
+    (columns_at info numbers) id row d)
+one_told model None numbers id values i old own number field lt is there told so_far = absurd cc
+one_told model (Some info) numbers id values i old own number field lt is there told so_far = λ row e d more.
+    so_far row e d (subst (λ (cs : List Column). TellsFields model id row cs old d) (sym (next_number info numbers i number field lt is there))
+    (own, subst (λ (v : Value). IsJsonOf v own) (same_value model info number field id row values there e) told, more))
 
 -- one field more is put into the object
-pub IsToldTo-more : (found : Option ModelInfo) (numbers : List FieldNo) (id : ℕ) (values : List Value) (i : ℕ) (old new : List Entry) (key : String Global) (own : Json) (number : FieldNo) (field : FieldInfo)
+pub IsToldTo-more : (model : ModelNo) (found : Option ModelInfo) (numbers : List FieldNo) (id : ℕ) (values : List Value) (i : ℕ) (old new : List Entry) (key : String Global) (own : Json) (number : FieldNo) (field : FieldInfo)
     → i < length numbers → number ≡ get_or numbers i number → field_in found number ≡ Some field → new ≡ insert_entry string_cmp old key own → string_bytes key ≡ field.name
     → IfSome (field_in found number) (λ f. IsJsonOf (value_told f number id values) (view own))
-    → IsToldTo found numbers id values i (members_view old) → IsToldTo found numbers id values (i + 1) (members_view new)
-IsToldTo-more found numbers id values i old new key own number field lt is there made named given so_far =
+    → IsToldTo model found numbers id values i (members_view old) → IsToldTo model found numbers id values (i + 1) (members_view new)
+IsToldTo-more model found numbers id values i old new key own number field lt is there made named given so_far =
     let told : IsJsonOf (value_told field number id values) (view own) = rw there at given in
     let next : members_view new ≡ put field.name (view own) (members_view old) =
     ap members_view made ∙ members_view-insert_entry old key own ∙ ap (λ (k : List ℕ). put k (view own) (members_view old)) named in
     rw next (record {
-      told = one_told found numbers id values i (members_view old) (view own) number field lt is there told so_far.told;
+      told = one_told model found numbers id values i (members_view old) (view own) number field lt is there told so_far.told;
       plain = put_plain field.name (view own) (members_view old) (value_plain (value_told field number id values) (view own) told) so_far.plain;
     })
 
 -- all fields are told
-pub IsToldTo-all : (found : Option ModelInfo) (numbers : List FieldNo) (id : ℕ) (values : List Value) (i : ℕ) (told : Members) (d : Data) → length numbers ≤ i → d ≡ object told → IsToldTo found numbers id values i told
-    → IfSome found (λ info. (row : Row) → values ≡ values_of info id row → TellsRow (columns_at info numbers) id row d)
-IsToldTo-all None numbers id values i told d le is so_far = tt
-IsToldTo-all (Some info) numbers id values i told d le is so_far = λ row e.
-    so_far.told row e d (subst (λ (ns : List FieldNo). TellsFields id row (columns_at info ns) told d) (sym (drop_all i numbers le)) is)
+pub IsToldTo-all : (model : ModelNo) (found : Option ModelInfo) (numbers : List FieldNo) (id : ℕ) (values : List Value) (i : ℕ) (told : Members) (d : Data) → length numbers ≤ i → d ≡ object told
+    → IsToldTo model found numbers id values i told
+    → IfSome found (λ info. (row : Row) → values ≡ values_of model info id row → TellsRow model (columns_at info numbers) id row d)
+IsToldTo-all model None numbers id values i told d le is so_far = tt
+IsToldTo-all model (Some info) numbers id values i told d le is so_far = λ row e.
+    so_far.told row e d (subst (λ (ns : List FieldNo). TellsFields model id row (columns_at info ns) told d) (sym (drop_all i numbers le)) is)

@@ -66,14 +66,15 @@ module _ (model : ModelNo) (tables : Tables) where
 
   -- one row more is told
   one_more : (fields : List Column) (ids : List ℕ) (objects : List Data) (id : ℕ) (row : Row) (d : Data) → TellsRows model tables fields ids objects → row_of tables model id ≡ Some row
-      → TellsRow fields id row d → TellsRows model tables fields (ids ++ id ∷ []) (objects ++ d ∷ [])
+      → TellsRow model fields id row d → TellsRows model tables fields (ids ++ id ∷ []) (objects ++ d ∷ [])
   one_more fields [] [] id row d tell there told = (row, there, told, tt)
   one_more fields [] (o ∷ objects) id row d tell there told = absurd tell
   one_more fields (other ∷ ids) [] id row d tell there told = absurd tell
   one_more fields (other ∷ ids) (o ∷ objects) id row d tell there told = (tell.0, tell.1, tell.2, one_more fields ids objects id row d tell.3 there told)
 
   -- one row more was fetched
-  fetched_row : (fields : List Column) (ids : List ℕ) (objects : List Data) (missing : Option ℕ) (id : ℕ) (row : Row) (d : Data) → Fetched fields ids objects missing → row_of tables model id ≡ Some row → TellsRow fields id row d
+  fetched_row : (fields : List Column) (ids : List ℕ) (objects : List Data) (missing : Option ℕ) (id : ℕ) (row : Row) (d : Data) → Fetched fields ids objects missing → row_of tables model id ≡ Some row
+      → TellsRow model fields id row d
       → Fetched fields (ids ++ id ∷ []) (objects ++ d ∷ []) missing
   fetched_row fields ids objects None id row d tell there told = one_more fields ids objects id row d tell there told
   fetched_row fields ids objects (Some gap) id row d are there told = record {
@@ -143,15 +144,15 @@ FetchedIn found model numbers ids objects missing tables = IfSome found (λ info
 
 -- the values are those of the id's row
 abbrev pub ValuesIn : Option ModelInfo → ModelNo → ℕ → Option (Vec Value Global) → Tables → Type 0
-ValuesIn found model id values tables = IfSome found (λ info. AreValuesOf info id values (row_of tables model id))
+ValuesIn found model id values tables = IfSome found (λ info. AreValuesOf model info id values (row_of tables model id))
 
 -- the object tells of each row that has these values
-abbrev pub ObjectOf : Option ModelInfo → List FieldNo → ℕ → List Value → Data → Type 0
-ObjectOf found numbers id values d = IfSome found (λ info. (row : Row) → values ≡ values_of info id row → TellsRow (columns_at info numbers) id row d)
+abbrev pub ObjectOf : Option ModelInfo → ModelNo → List FieldNo → ℕ → List Value → Data → Type 0
+ObjectOf found model numbers id values d = IfSome found (λ info. (row : Row) → values ≡ values_of model info id row → TellsRow model (columns_at info numbers) id row d)
 
 -- one row more was fetched, of a model that may be there
 row_in : (found : Option ModelInfo) (model : ModelNo) (numbers : List FieldNo) (ids : List ℕ) (objects : List Json) (missing : Option ℕ) (id : ℕ) (values : Vec Value Global) (json : Json)
-    (tables : Tables) → ObjectOf found numbers id values.items (view json)
+    (tables : Tables) → ObjectOf found model numbers id values.items (view json)
     → FetchedIn found model numbers ids objects missing tables → ValuesIn found model id (Some values) tables → FetchedIn found model numbers (ids ++ id ∷ []) (objects ++ json ∷ []) missing tables
 row_in None model numbers ids objects missing id values json tables object so_far are = tt
 row_in (Some info) model numbers ids objects missing id values json tables object so_far are =
@@ -177,7 +178,7 @@ pub record IsFetching (models : List ModelInfo) (model : ModelNo) (numbers : Lis
 module _ (models : List ModelInfo) (model : ModelNo) (numbers : List FieldNo) where
   -- the next id has a row
   pub IsFetching-row : (old now next : Option Store) (before count after : ℕ) (ids : List ℕ) (objects : List Json) (missing : Option ℕ) (id : ℕ) (values : Vec Value Global) (json : Json)
-      → Told models now (ValuesIn (model_at models model) model id (Some values)) → ObjectOf (model_at models model) numbers id values.items (view json) → has_float (view json) ≡ false → next ≡ now → count ≤ after
+      → Told models now (ValuesIn (model_at models model) model id (Some values)) → ObjectOf (model_at models model) model numbers id values.items (view json) → has_float (view json) ≡ false → next ≡ now → count ≤ after
       → IsFetching models model numbers old now before count ids objects missing → IsFetching models model numbers old next before after (ids ++ id ∷ []) (objects ++ json ∷ []) missing
   IsFetching-row old now next before count after ids objects missing id values json found object plain same no_fall so_far =
       let at = model_at models model in

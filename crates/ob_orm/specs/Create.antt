@@ -16,7 +16,6 @@ use Rattle.ob_base.specs.declared.value.Value.TheVariants as value
 use Rattle.ob_codec.specs.JsonForm.{value_from, empty_value}
 use Rattle.ob_codec.specs.declared.fault.CodecFault.{CodecFault}
 use Rattle.ob_codec.specs.declared.fault.CodecFault.TheVariants as codec
-use Rattle.ob_expr.specs.Meaning.{ValueFault, overflow, too_long, zero_divisor}
 use Rattle.ob_schema.specs.Fields.{Column, columns, plain_columns}
 use Rattle.ob_schema.specs.declared.info.FieldInfo.{FieldInfo}
 use Rattle.ob_schema.specs.declared.info.ModelInfo.{ModelInfo}
@@ -25,7 +24,7 @@ use Rattle.serde_json.specs.Find.{get_member}
 use Rattle.ob_call.specs.Arguments.{Expected, Given, arguments_of}
 use Rattle.ob_orm.specs.Values.{values_fault}
 use Rattle.ob_orm.specs.Tables.{Row, Tables, next_id, made}
-use Rattle.ob_orm.specs.Scratch.{val}
+use Rattle.ob_orm.specs.Scratch.{IsBrokenAs, val}
 
 -- what a create is called with: an object of values
 abbrev pub create_expects : List FieldInfo → List Expected
@@ -75,20 +74,14 @@ row_from info now _ = Ok []
 abbrev pub created_row : ModelInfo → ℤ → (args kw : Data) → Result Row (List PathStep)
 created_row info now args kw = arguments_of (create_expects info.fields) args kw >>= row_from info now
 
--- how a cell is broken whose formula has this fault
-abbrev pub broken_kind : ValueFault → BrokenKind
-broken_kind overflow = broken.Overflow
-broken_kind too_long = broken.TooLong
-broken_kind zero_divisor = broken.ZeroDivisor
-
 -- a field of the row
 abbrev pub cell_of : ModelNo → ℕ → ℕ → Cell
 cell_of model id field = record { model = model; id = record { 0 = id }; field = record { 0 = field } }
 
--- a field of the row has this fault
-pub record HasFault (info : ModelInfo) (id : ℕ) (row : Row) (column : Column) (fault : ValueFault) : Type 0 where
+-- a field of the row has no value, and is broken so
+pub record HasFault (model : ModelNo) (info : ModelInfo) (id : ℕ) (row : Row) (column : Column) (kind : BrokenKind) : Type 0 where
   pub column_of : Contains (columns info) column
-  pub faults : val column id row ≡ Err fault
+  pub faults : IsBrokenAs kind (val model column id row)
 
 -- the field `id` of the model
 pub record IsIdColumn (info : ModelInfo) (column : Column) : Type 0 where
@@ -99,7 +92,7 @@ pub record IsIdColumn (info : ModelInfo) (column : Column) : Type 0 where
 abbrev pub Breaks : ModelNo → ModelInfo → ℕ → Row → Broken → Type 0
 Breaks model info id row b =
     ((max_id < id) × (column : Column) × IsIdColumn info column × (b ≡ record { kind = broken.Limit; cell = cell_of model id column.0 }))
-    ⊎ ((column : Column) × (fault : ValueFault) × HasFault info id row column fault × (b ≡ record { kind = broken_kind fault; cell = cell_of model id column.0 }))
+    ⊎ ((column : Column) × HasFault model info id row column b.kind × (b.cell ≡ cell_of model id column.0))
 
 -- why a create at this moment is refused where the model's next id is this
 abbrev pub CreateRefuses : ModelNo → ModelInfo → ℤ → ℕ → (args kw : Data) → Refusal → Type 0

@@ -16,8 +16,8 @@ use Rattle.ob_orm.specs.Tables.{Row, Tables, row_of, next_id, plain}
 use Rattle.ob_orm.specs.Scratch.{val_or_unset}
 
 -- the values of the kept fields of a row, each from scratch
-abbrev pub kept_values : ModelInfo → ℕ → Row → List Value
-kept_values info id row = map (λ column. val_or_unset column id row) (filter (λ column. is_kept column.1) (columns info))
+abbrev pub kept_values : ModelNo → ModelInfo → ℕ → Row → List Value
+kept_values model info id row = map (λ column. val_or_unset model column id row) (filter (λ column. is_kept column.1) (columns info))
 
 -- the rows that a value names
 abbrev pub targets_of : Value → List RecId
@@ -30,12 +30,12 @@ abbrev pub links_of : ModelInfo → Row → List Link
 links_of info row = flat_map (λ column. map (λ id. record { field = record { 0 = column.0 }; target = id }) (targets_of (plain row column.0))) (plain_columns info)
 
 -- a row as it is kept
-abbrev pub kept_row : ModelInfo → ℕ → Row → KeptRow
-kept_row info id row = record { id = record { 0 = id }; body = row_form (kept_fields info) (kept_values info id row); links = links_of info row }
+abbrev pub kept_row : ModelNo → ModelInfo → ℕ → Row → KeptRow
+kept_row model info id row = record { id = record { 0 = id }; body = row_form (kept_fields info) (kept_values model info id row); links = links_of info row }
 
 -- the keeper has a row of the model exactly where the tables have one, with the kept form of its values from scratch; and its next id is theirs
 pub record KeepsModel (model : ModelNo) (info : ModelInfo) (store : Store) (tables : Tables) : Type 0 where
-  pub rows : (id : ℕ) → row_at store model (record { 0 = id }) ≡ option_map (kept_row info id) (row_of tables model id)
+  pub rows : (id : ℕ) → row_at store model (record { 0 = id }) ≡ option_map (kept_row model info id) (row_of tables model id)
   pub next : next_of store model ≡ next_id tables model
 
 -- the keeper's rows of each model are those of the tables

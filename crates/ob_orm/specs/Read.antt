@@ -73,18 +73,18 @@ abbrev pub asked_of : ModelInfo → (args kw : Data) → Result Asked (List Path
 asked_of info args kw = arguments_of (read_expects info.fields) args kw >>= λ given. Ok (asked_by info given)
 
 -- the object so far has what tells of these fields of a row, and becomes this object
-abbrev pub TellsFields : ℕ → Row → List Column → Members → Data → Type 0
-TellsFields id row [] members d = d ≡ object members
-TellsFields id row (column ∷ more) members d = (own : Data) × IsJsonOf (val_or_unset column id row) own × TellsFields id row more (put column.1.name own members) d
+abbrev pub TellsFields : ModelNo → ℕ → Row → List Column → Members → Data → Type 0
+TellsFields model id row [] members d = d ≡ object members
+TellsFields model id row (column ∷ more) members d = (own : Data) × IsJsonOf (val_or_unset model column id row) own × TellsFields model id row more (put column.1.name own members) d
 
 -- the object that tells of a row: its id and these fields
-abbrev pub TellsRow : List Column → ℕ → Row → Data → Type 0
-TellsRow fields id row d = TellsFields id row fields (put (codes "id") (number (unsigned id)) no_members) d
+abbrev pub TellsRow : ModelNo → List Column → ℕ → Row → Data → Type 0
+TellsRow model fields id row d = TellsFields model id row fields (put (codes "id") (number (unsigned id)) no_members) d
 
 -- each id has a row, and an object that tells of it, in the order of the ids
 abbrev pub TellsRows : ModelNo → Tables → List Column → List ℕ → List Data → Type 0
 TellsRows model tables fields [] [] = ⊤
-TellsRows model tables fields (id ∷ ids) (d ∷ ds) = (row : Row) × (row_of tables model id ≡ Some row) × TellsRow fields id row d × TellsRows model tables fields ids ds
+TellsRows model tables fields (id ∷ ids) (d ∷ ds) = (row : Row) × (row_of tables model id ≡ Some row) × TellsRow model fields id row d × TellsRows model tables fields ids ds
 TellsRows model tables fields _ _ = ⊥
 
 -- the least of the ids that no row has

@@ -15,9 +15,9 @@ use Rattle.ob_orm.specs.Scratch.{val_or_unset}
 use Rattle.ob_orm.specs.Tables.{Row, Tables}
 
 -- the values of the row's fields, each from scratch; or no row is there
-abbrev pub AreValuesOf : ModelInfo → ℕ → Option (Vec Value Global) → Option Row → Type 0
-AreValuesOf info id None found = found ≡ None
-AreValuesOf info id (Some values) found = (row : Row) × (found ≡ Some row) × (values.items ≡ map (λ column. val_or_unset column id row) (columns info))
+abbrev pub AreValuesOf : ModelNo → ModelInfo → ℕ → Option (Vec Value Global) → Option Row → Type 0
+AreValuesOf model info id None found = found ≡ None
+AreValuesOf model info id (Some values) found = (row : Row) × (found ≡ Some row) × (values.items ≡ map (λ column. val_or_unset model column id row) (columns info))
 
 -- why not all rows are told: the least id that has none
 abbrev pub MissesLeast : ModelNo → Tables → List ℕ → Refusal → Type 0

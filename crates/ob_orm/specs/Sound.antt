@@ -15,17 +15,17 @@ HasForms (column ∷ columns) (cell ∷ row) = (cell.0 ≡ column.0) × Holds co
 HasForms _ _ = ⊥
 
 -- a field has a value from scratch, which it may hold
-abbrev pub HasValue : ℕ → Row → Column → Type 0
-HasValue id row column = (v : Value) × (val column id row ≡ Ok v) × Holds column.1 v
+abbrev pub HasValue : ModelNo → ℕ → Row → Column → Type 0
+HasValue model id row column = (v : Value) × (val model column id row ≡ Ok v) × Holds column.1 v
 
 -- its plain values have their forms, and each field has a value
-pub record IsSoundRow (info : ModelInfo) (id : ℕ) (row : Row) : Type 0 where
+pub record IsSoundRow (model : ModelNo) (info : ModelInfo) (id : ℕ) (row : Row) : Type 0 where
   pub forms : HasForms (plain_columns info) row
-  pub values : All (HasValue id row) (columns info)
+  pub values : All (HasValue model id row) (columns info)
 
 -- each row of the model is sound and has an id of 1 to 4,294,967,295, below the next one
 pub record IsSoundModel (model : ModelNo) (info : ModelInfo) (tables : Tables) : Type 0 where
-  pub rows : (id : ℕ) → IfSome (row_of tables model id) (IsSoundRow info id)
+  pub rows : (id : ℕ) → IfSome (row_of tables model id) (IsSoundRow model info id)
   pub ids : (id : ℕ) → IfSome (row_of tables model id) (λ _. (1 ≤ id) × (id < next_id tables model))
   pub next_low : 1 ≤ next_id tables model
   pub next_high : next_id tables model ≤ 4294967296

@@ -1,24 +1,36 @@
 //! The computed values of a row, each evaluated once over the row's plain values.
 
-ghost use Rattle.std.specs.Prelude.{◌≡◌, ◌≤◌, IfOk, IfSome, OnOk, Ok};
+ghost use Rattle.std.specs.Prelude.{◌≡◌, ◌≤◌, ℕ, IfOk, IfSome, OnOk, Ok, Some};
 ghost use Rattle.ob_base.specs.Limits.{max_id};
 ghost use Rattle.ob_base.specs.Tally.{ticked, ticked_times};
-ghost use Rattle.ob_expr.specs.Checking.{IsWellKinded, typed_tree_of};
-ghost use Rattle.ob_expr.specs.Meaning.{meaning};
+ghost use Rattle.ob_base.specs.declared.id.ModelNo.{ModelNo};
+ghost use Rattle.ob_expr.specs.Kinds.{HasKind};
+ghost use Rattle.ob_expr.specs.Meaning.{meaning, row_of};
+ghost use Rattle.ob_expr.specs.TypedTree.{IsWellKinded, kind_of, typed_tree_of};
+ghost use Rattle.ob_schema.specs.Fields.{Column};
+ghost use Rattle.ob_schema.specs.Values.{IsNative};
 ghost use Rattle.ob_schema.specs.Models.{HasField, HasModel, IsModel, field_at, model_at};
-ghost use Rattle.ob_orm.specs.CreateSteps.{ArePlain, GivesField, GivesKept, GivesValue, HoldsOperands, IsTextual, evaluations_of, gathered, held_at};
+ghost use Rattle.ob_orm.specs.CreateSteps.{ArePlain, GivesField, GivesKept, GivesValue, HoldsOperands, evaluations_of, gathered, held_at};
 ghost use Rattle.ob_orm.specs.Evaluations.{HasTicked, computed_count};
-ghost use Rattle.ob_orm.specs.Scratch.{limited, text_limit};
+ghost use Rattle.ob_orm.specs.Scratch.{HasValueOrBreaks, limited, text_limit, val};
 ghost use Rattle.ob_orm.specs.Served.{IsServed};
+ghost use Rattle.ob_orm.specs.Tables.{Row};
 
 use ob_base::limits::{MAX_CHAR_BYTES, MAX_TEXT_BYTES};
 use ob_base::{
     Broken, BrokenKind, Cell, FieldNo, Ledger, ModelNo, NoMemory, RecId, Refusal, Sequence, Steps,
     Value,
 };
-use ob_expr::{EvalFault, Reads, eval};
+use ob_expr::{EvalFault, Reads, eval, reads_along_paths, values_from_cells};
 use ob_schema::{FieldType, Formula, Origin, Schema};
 use std::alloc::Global;
+
+/// A field of a row has a value from scratch, or is broken in a way that is told: no
+/// formula reads a value that isn't there.
+pub fn each_lack_is_told()
+    ensures { (model : ModelNo) (column : Column) (id : ℕ) (row : Row)
+        → HasValueOrBreaks (val model column id row) }
+{}
 
 /// The plain values of a row by the numbers of their fields, for formulas to read.
 #[derive(Drop)]
@@ -28,14 +40,12 @@ struct PlainValues<'a> {
 }
 
 impl Reads for PlainValues<'_> {
-    ghost use Rattle.std.specs.Prelude.{⊤, ◌-◌, ◌≤◌, length, get_or, true};
-    ghost use Rattle.ob_base.specs.declared.value.Value.TheVariants.{Nil};
+    ghost use Rattle.std.specs.Prelude.{⊤, ◌≤◌, length, Some};
+    ghost use Rattle.ob_orm.specs.CreateSteps.{held_at};
 
     type Fault = NoMemory;
 
-    ghost value_of = { λ reads cell. get_or reads.values.now (cell.field.0 - 1) Nil };
-
-    ghost has_value = { λ _ _. true };
+    ghost held = { λ reads cell. Some (held_at reads.values.now cell.field.0) };
 
     ghost can_read = { λ reads cell. (1 ≤ cell.field.0) × (cell.field.0 ≤ length reads.values.now) };
 
@@ -115,6 +125,10 @@ fn field_value<L: Ledger>(
             Err(NoMemory) => Err(Refusal::NoMemory),
         },
         Origin::Computed(formula) => {
+            // The laws that a formula reads along its paths, and that its value is a cell's
+            // or made by operators.
+            reads_along_paths();
+            values_from_cells();
             let value = computed_value(alloc, formula, field.field_type, cell, plain, steps)?;
             Ok(Some(value))
         }
@@ -132,9 +146,10 @@ fn computed_value<L: Ledger>(
 ) -> Result<Value, Refusal>
     requires kinded { IsWellKinded (typed_tree_of formula.now.typed) }
     requires operands { HoldsOperands plain.now (typed_tree_of formula.now.typed) }
-    ensures value { GivesValue cell (limited field_type (meaning (typed_tree_of formula.now.typed)
-        (λ number. held_at plain.now number.0))) result }
-    ensures textual { IfOk result IsTextual }
+    ensures value { GivesValue cell (limited field_type (meaning (λ read. Some (held_at plain.now read.field.0))
+        (row_of cell) (typed_tree_of formula.now.typed))) result }
+    ensures kind { IfOk result (HasKind (kind_of (typed_tree_of formula.now.typed))) }
+    ensures native { IfOk result IsNative }
     ensures ticked { steps.new ≡ ticked L.noted steps.old }
 {
     let mut reads = PlainValues {
@@ -153,7 +168,8 @@ fn computed_value<L: Ledger>(
 /// A value that a field of the type may hold, or that its cell is broken.
 fn within_limit(field_type: FieldType, cell: Cell, value: Value) -> Result<Value, Refusal>
     ensures value { GivesValue cell (limited field_type (Ok value)) result }
-    ensures textual { IfOk result IsTextual }
+    ensures same { IfOk result (λ given. given ≡ value) }
+    ensures native { IfOk result IsNative }
 {
     if let Value::Word(text) = &value {
         if text.as_str().len() > text_limit(field_type) {

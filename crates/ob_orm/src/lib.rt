@@ -21,5 +21,6 @@ mod told_rows;
 mod values;
 
 pub use creating::{Created, create};
+pub use evaluating::each_lack_is_told;
 pub use reading::read;
 pub use refusal_texts::refusal_text;

@@ -146,7 +146,7 @@ fn fetch_row<K: Keeper>(
     requires served { IfSome (model_at schema.now model) IsServed }
     requires id { id ≤ max_id }
     ensures told { IfSome (K.kept keeper.old) (λ store. (tables : Tables) → Kept schema.now store tables → IsSound schema.now tables
-        → IfOk result (λ values. IfSome (model_at schema.now model) (λ info. AreValuesOf info id values (row_of tables model id)))) }
+        → IfOk result (λ values. IfSome (model_at schema.now model) (λ info. AreValuesOf model info id values (row_of tables model id)))) }
     ensures holds { IfOk result (λ values. IfSome values (λ all.
         IfSome (model_at schema.now model) (λ info. HaveAll info.fields all.items))) }
     ensures causes { IfErr result (Refuses (Rose (K.faults keeper.old) (K.faults keeper.new)) (λ _. ⊥)) }
@@ -173,8 +173,8 @@ fn values_in(
     requires served { IfSome (model_at schema.now model) IsServed }
     requires id { id ≤ max_id }
     ensures told { IfOk result (λ values. IfSome (model_at schema.now model) (λ info. (row : Row) →
-        IsSoundRow info id row → body.now ≡ row_form (kept_fields info) (kept_values info id row) →
-        AreValuesOf info id values (Some row))) }
+        IsSoundRow model info id row → body.now ≡ row_form (kept_fields info) (kept_values model info id row) →
+        AreValuesOf model info id values (Some row))) }
     ensures holds { IfOk result (λ values. IfSome values (λ all.
         IfSome (model_at schema.now model) (λ info. HaveAll info.fields all.items))) }
     ensures memory { IfErr result (λ why. why ≡ Refusal.NoMemory) }

@@ -69,8 +69,8 @@ pub(crate) fn row_object(
     requires fields { All (HasField schema.now model) fields.now }
     requires values { IfSome (model_at schema.now model) (λ info. HaveAll info.fields values.now) }
     ensures told { IfOk result (λ json. IfSome (model_at schema.now model) (λ info. (row : Row) →
-        values.now ≡ map (λ column. val_or_unset column id row) (columns info) →
-        TellsRow (columns_at info fields.now) id row (view json))) }
+        values.now ≡ map (λ column. val_or_unset model column id row) (columns info) →
+        TellsRow model (columns_at info fields.now) id row (view json))) }
     ensures plain { IfOk result (λ json. has_float (view json) ≡ false) }
 {
     let mut members = Map::new(alloc);

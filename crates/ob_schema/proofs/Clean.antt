@@ -1,40 +1,30 @@
 -- What follows for each part of definitions against which nothing stands.
-use Rattle.std.proofs.Common.{◌≡◌, ℕ, suc, ◌<◌, ◌≤◌, ◌||◌, inl, inr, Bool, true, false, not, cond, nat_lt, List, length, get_or, Option, Some, None, is_some, option_map, Result}
-use Rattle.std.proofs.Common.{Ok, IfOk, IfSome, refl, sym, ap, subst, ◌∙◌, arith}
+use Rattle.std.proofs.Common.{◌≡◌, ℕ, ◌<◌, ◌≤◌, ◌||◌, inl, inr, true, not, List, length, get_or, Option, Some, None, is_some}
+use Rattle.std.proofs.Common.{refl, sym, ap, subst, ◌∙◌, arith}
 use Rattle.std.specs.Prelude.{All, Contains, IsSome, IsSomeAnd, ◌==◌, option_and_then, slice_get}
 use Rattle.std.specs.List.{position_or_len}
 use Rattle.std.proofs.lemmas.Bool.{cases_Bool, cases_lt, false≢true, true_from_ne_false}
-use Rattle.std.proofs.lemmas.Bool.Decides.{Decides-ltb}
 use Rattle.std.proofs.lemmas.List.{get_or_default}
 use Rattle.std.proofs.lemmas.List.Folds.{find_at}
 use Rattle.std.proofs.lemmas.Option.{get_or_from_slice_get, slice_get-get_or, slice_get_cases, slice_get_within}
 use Rattle.ob_base.specs.Limits.{max_fields}
 use Rattle.ob_base.specs.declared.id.FieldNo.{FieldNo}
-use Rattle.ob_base.specs.declared.id.ModelNo.{ModelNo}
-use Rattle.ob_expr.specs.declared.checker.Kind.{Kind}
-use Rattle.ob_expr.specs.declared.checker.Kind.TheVariants as kind
-use Rattle.ob_expr.specs.declared.checker.TypeFault.{TypeFault}
-use Rattle.ob_expr.specs.declared.checker.Typed.{Typed}
-use Rattle.ob_expr.specs.Checking.{EachField, TypedTree, field, times, typed_of, typed_tree_of}
-use Rattle.ob_expr.specs.Grammar.{Tree}
+use Rattle.ob_expr.specs.declared.typed.Typed.{Typed}
 use Rattle.ob_schema.specs.declared.definition.FieldDef.{FieldDef}
 use Rattle.ob_schema.specs.declared.definition.ModelDef.{ModelDef}
 use Rattle.ob_schema.specs.declared.fault.SchemaFault.TheVariants as fault
-use Rattle.ob_schema.specs.declared.field_type.FieldType.{FieldType}
-use Rattle.ob_schema.specs.declared.field_type.FieldType.TheVariants as type
 use Rattle.ob_schema.specs.declared.finding.Finding.{Finding}
 use Rattle.ob_schema.specs.declared.finding.Finding.TheVariants as finding
 use Rattle.ob_schema.specs.declared.wrong.Wrong.{Wrong}
 use Rattle.ob_schema.specs.declared.wrong.Wrong.TheVariants as wrong
 use Rattle.ob_schema.specs.Built.{inverse_number}
-use Rattle.ob_schema.specs.Capped.{capped_field, capped_kind, capped_model, capped_tree}
+use Rattle.ob_schema.specs.Counts.{AreCountable}
 use Rattle.ob_schema.specs.Definitions.{field_count, has_field, is_given_text, model_def}
-use Rattle.ob_schema.specs.Faults.{HasTyped, IsFaultless, is_dotted}
-use Rattle.ob_schema.specs.Findings.{EntryHas, FieldHas, IsChecked, IsFinding, fault_at}
-use Rattle.ob_schema.specs.Formulas.{depends_of, found_in, kind_of_field, kind_of_type, model_number, number_of}
+use Rattle.ob_schema.specs.Faults.{IsFaultless, is_dotted}
+use Rattle.ob_schema.specs.Findings.{EntryHas, FieldHas, IsFinding, fault_at}
+use Rattle.ob_schema.specs.Formulas.{depends_of, number_of}
 use Rattle.ob_schema.specs.Keys.{fits}
-use Rattle.ob_schema.proofs.Capping.{capped_field-low, each_tree, found_in-each, number_of-low}
-use Rattle.ob_schema.proofs.FindingLaws.{tree_of_seen, unknown_names, unreadable, wrong_kind}
+use Rattle.ob_schema.proofs.FindingLaws.{unknown_names, unreadable, wrong_kind}
 use Rattle.ob_schema.proofs.Spots.{faulty_entry, faulty_field, field_spot, whole_spot}
 
 -- ---- entries and fields
@@ -61,6 +51,13 @@ few_models defs faultless = elim (cases_lt 512 (length defs)) [
   | inr few ↦ few
 ]
 
+-- so each of them, and each of their fields, has a number of its own
+pub countable : (defs : List ModelDef) → IsFaultless defs → AreCountable defs
+countable defs faultless = record {
+  models = let few = few_models defs faultless in omega arith;
+  fields = λ k d low. (let def = get_or defs k d in let few : field_count def ≤ max_fields = few_declared defs def faultless (k, low, get_or_default defs k def d low) in omega arith);
+}
+
 -- each entry names a model
 pub named_model : (defs : List ModelDef) (def : ModelDef) → IsFaultless defs → Contains defs def → def.name ≡ None → ⊥
 named_model defs def faultless among unnamed = by def.inherit refl
@@ -86,83 +83,6 @@ sound_finding defs def f text (finding.Unreadable why) clean given is other = cl
 sound_finding defs def f text finding.Unknown clean given is other = clean wrong.Field (inr (unknown_names defs def f finding.Unknown is (inl refl)))
 sound_finding defs def f text finding.Mixed clean given is other = clean wrong.Kind (wrong_kind defs def f finding.Mixed is tt)
 sound_finding defs def f text (finding.Checked typed) clean given is other = other typed refl
-
--- ---- numbers of few models and fields aren't capped
-
-IsLowKind : Kind → Type 0
-IsLowKind (kind.Ref model) = model.0 ≤ 65535
-IsLowKind (kind.Refs model) = model.0 ≤ 65535
-IsLowKind _ = Unit {0}
-
-capped_model-low : (model : ModelNo) → model.0 ≤ 65535 → capped_model model ≡ model
-capped_model-low model low = ap (λ (n : ℕ). let made : ModelNo = record { 0 = n } in made) (omega arith)
-
-capped_kind-low : (k : Kind) → IsLowKind k → capped_kind k ≡ k
-unfolding IsLowKind
-capped_kind-low (kind.Ref model) low = ap kind.Ref (capped_model-low model low)
-capped_kind-low (kind.Refs model) low = ap kind.Refs (capped_model-low model low)
-capped_kind-low _ low = refl
-
-abbrev IsLowPart : FieldNo → Kind → Type 0
-IsLowPart number k = (number.0 ≤ 65535) × IsLowKind k
-
-capped_tree-low : (tree : TypedTree) → EachField IsLowPart tree → capped_tree tree ≡ tree
-capped_tree-low (field number k) low = ap (λ (n : FieldNo). field n (capped_kind k)) (capped_field-low number low.0) ∙ ap (λ (x : Kind). field number x) (capped_kind-low k low.1)
-capped_tree-low (times left right) low = ap (λ (l : TypedTree). times l (capped_tree right)) (capped_tree-low left low.0) ∙ ap (λ (r : TypedTree). times left r) (capped_tree-low right low.1)
-
--- the number of a model, where there are few
-low_place : (n count : ℕ) (b : Bool) → nat_lt n count ≡ b → count ≤ 512 → IfSome (option_map (λ i. let made : ModelNo = record { 0 = suc i } in made) (cond b (Some n) None)) (λ m. m.0 ≤ 65535)
-low_place n count true e few = let below : n < count = (Decides-ltb n count).0 e in omega arith
-low_place n count false e few = tt
-
-low_model : (defs : List ModelDef) (name : List ℕ) → length defs ≤ 512 → IfSome (model_number defs name) (λ m. m.0 ≤ 65535)
-low_model defs name few = low_place (position_or_len (λ def. is_given_text def.name name) defs) (length defs) (nat_lt (position_or_len (λ def. is_given_text def.name name) defs) (length defs)) refl few
-
-low_relation : (defs : List ModelDef) (relation : Option (List ℕ)) → length defs ≤ 512 → IfSome (option_and_then (model_number defs) relation) (λ m. m.0 ≤ 65535)
-low_relation defs None few = tt
-low_relation defs (Some name) few = low_model defs name few
-
-low_kind_of : (t : FieldType) (relation : Option ModelNo) → IfSome relation (λ m. m.0 ≤ 65535) → IfSome (kind_of_type t relation) IsLowKind
-unfolding IsLowKind
-low_kind_of type.Many2one None low = tt
-low_kind_of type.Many2one (Some model) low = low
-low_kind_of type.One2many None low = tt
-low_kind_of type.One2many (Some model) low = low
-low_kind_of type.Many2many None low = tt
-low_kind_of type.Many2many (Some model) low = low
-low_kind_of _ relation low = tt
-
-with_number : (number : FieldNo) (o : Option Kind) → number.0 ≤ 65535 → IfSome o IsLowKind → IfSome o (IsLowPart number)
-with_number number None low kinds = tt
-with_number number (Some k) low kinds = (low, kinds)
-
-moment_low : IsLowKind kind.Moment
-unfolding IsLowKind
-moment_low = tt
-
-low_parts : (defs : List ModelDef) (def : ModelDef) (tree : Tree) → length defs ≤ 512 → field_count def ≤ max_fields → IfOk (typed_of (found_in defs def) tree) (EachField IsLowPart)
-low_parts defs def tree models few =
-    each_tree IsLowPart (found_in defs def)
-    (λ name. found_in-each IsLowPart defs def name (number_of-low def name few, moment_low)
-    (λ f. with_number (number_of def name) (kind_of_field defs f) (number_of-low def name few) (low_kind_of f.field_type (option_and_then (model_number defs) f.relation) (low_relation defs f.relation models)))) tree
-
--- what was checked over the numbers as the code sees them was checked over the numbers
-pub exact_typed : (defs : List ModelDef) (def : ModelDef) (f : FieldDef) (own : Typed) → length defs ≤ 512 → field_count def ≤ max_fields → IsChecked defs def f (finding.Checked own) → HasTyped defs def f (typed_tree_of own)
-exact_typed defs def f own models few is =
-    let exact = tree_of_seen defs def is.tree (typed_tree_of own) is.is_outcome in
-    let low : EachField IsLowPart exact.0 = subst (λ (r : Result TypedTree TypeFault). IfOk r (EachField IsLowPart)) exact.1 (low_parts defs def is.tree models few) in
-    let same : typed_tree_of own ≡ exact.0 = exact.2 ∙ capped_tree-low exact.0 low in
-    record { tree = is.tree; has_tree = is.has_tree; checked = exact.1 ∙ ap (λ (t : TypedTree). Ok t) (sym same) }
-
-uncapped_model : (o : Option ModelNo) → IfSome o (λ m. m.0 ≤ 65535) → option_map capped_model o ≡ o
-uncapped_model None low = refl
-uncapped_model (Some model) low = ap (λ (m : ModelNo). Some m) (capped_model-low model low)
-
-pub same_model_number : (defs : List ModelDef) (name : List ℕ) → length defs ≤ 512 → option_map capped_model (model_number defs name) ≡ model_number defs name
-same_model_number defs name few = uncapped_model (model_number defs name) (low_model defs name few)
-
-pub same_field_number : (def : ModelDef) (name : List ℕ) → field_count def ≤ max_fields → capped_field (number_of def name) ≡ number_of def name
-same_field_number def name few = capped_field-low (number_of def name) (number_of-low def name few)
 
 -- a model that is found is declared
 pub found_model : (defs : List ModelDef) (name : List ℕ) (target : ModelDef) → model_def defs name ≡ Some target → Contains defs target

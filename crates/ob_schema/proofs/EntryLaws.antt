@@ -9,9 +9,7 @@ use Rattle.std.proofs.lemmas.Slice.Eq.{bytes_eq-Decides}
 use Rattle.ob_schema.specs.declared.definition.ModelDef.{ModelDef}
 use Rattle.ob_schema.specs.declared.orders.OrderEntry.{OrderEntry}
 use Rattle.ob_schema.specs.Definitions.{is_given_text}
-use Rattle.ob_schema.specs.declared.definition.FieldDef.{FieldDef}
-use Rattle.ob_schema.specs.Faults.{HasTerm, HasWrongKeys, IsNamedBefore}
-use Rattle.ob_schema.specs.Names.{is_field_name}
+use Rattle.ob_schema.specs.Faults.{HasTerm, IsNamedBefore}
 use Rattle.ob_schema.specs.Orders.{Term, order_terms, terms_of}
 
 -- ---- the terms of an order
@@ -102,8 +100,3 @@ either_else a b e first second to from = ((λ h. to (second.0 h)), λ h. elim h 
 -- a test that held gives either
 pub either_then : {A B : Type 0} (a : Bool) → a ≡ true → IsTrue a ↔ A → IsTrue true ↔ (A ⊎ B)
 either_then a e first = ((λ h. inl (first.0 e)), λ h. refl)
-
--- a field without a name has a wrong key
-pub named_few : {P X : Type 0} (f : FieldDef) → P ⊎ (f.name ≡ []) → (HasWrongKeys f ⊎ X → ⊥) → P
-named_few f (inl few) none = few
-named_few f (inr unnamed) none = absurd (none (inl (inl (ap is_field_name unnamed))))

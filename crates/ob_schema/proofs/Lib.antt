@@ -8,7 +8,7 @@ pub mod ModelNames
 pub mod Variants
 pub mod Ranks
 pub mod Spots
-pub mod Capping
+pub mod Counting
 pub mod FindingLaws
 pub mod EntryLaws
 pub mod Numbers

@@ -64,6 +64,6 @@ module _ (defs : List ModelDef) (def : ModelDef) (infos sorted : List FieldInfo)
         few = omega arith;
         short = moved_all small (declared_short defs def def.fields are.declared each are.each) automatic_short;
         ordered = in_place;
-        formulas = moved_all fit (declared_origins defs def sorted def.fields are.declared faultless among (λ f here. here) readable are.each) (each_automatic fit tt refl tt);
+        formulas = moved_all fit (declared_origins defs def sorted def.fields are.declared faultless among (λ f here. here) readable are.each are.sound) (each_automatic fit tt refl tt);
         defaults = moved_all HoldsDefault are.held (each_automatic HoldsDefault tt tt tt);
       }

@@ -1,6 +1,6 @@
 -- The first of what is wrong at one spot, where what may be wrong is tried in order.
 use Rattle.std.proofs.Common.{◌≤◌, Some, None, arith}
-use Rattle.ob_expr.specs.declared.parser.ExprFault.{ExprFault}
+use Rattle.ob_syntax.specs.declared.fault.ExprFault.{ExprFault}
 use Rattle.ob_schema.specs.declared.wrong.Wrong.{Wrong}
 use Rattle.ob_schema.specs.declared.wrong.Wrong.TheVariants as wrong
 use Rattle.ob_schema.specs.Findings.{IsFirstWrong, IsNoneBelow, fault_variant}

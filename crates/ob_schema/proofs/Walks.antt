@@ -1,21 +1,16 @@
 -- The walk over entries and fields.
-use Rattle.std.proofs.Common.{◌≡◌, ℕ, ◌<◌, ◌≤◌, ◌⊎◌, inl, inr, ◌↔◌, Bool, true, false, List, [], ◌∷◌, map, length, get_or, Option, Some, None, is_some, not, option_map, Result, Ok, Err, IfOk, Vec, Global, refl, sym, ap, subst, ◌∙◌, arith}
-use Rattle.std.specs.Prelude.{IsTrue, filter, slice_get}
+use Rattle.std.proofs.Common.{◌≡◌, ℕ, ◌<◌, ◌≤◌, ◌⊎◌, inl, inr, ◌↔◌, Bool, true, false, List, [], length, get_or, Option, Some, None, is_some, not, option_map, Result, Ok, Err, IfOk, refl, sym, ap, subst, ◌∙◌}
+use Rattle.std.specs.Prelude.{IsTrue, slice_get}
 use Rattle.std.proofs.lemmas.Bool.{false≢true}
 use Rattle.std.proofs.lemmas.Option.{slice_get_read}
-use Rattle.ob_base.specs.Limits.{max_fields}
-use Rattle.ob_base.specs.declared.id.FieldNo.{FieldNo}
 use Rattle.ob_base.specs.declared.memory.NoMemory.{NoMemory}
 use Rattle.ob_schema.specs.declared.definition.FieldDef.{FieldDef}
 use Rattle.ob_schema.specs.declared.definition.ModelDef.{ModelDef}
 use Rattle.ob_schema.specs.declared.fault.SchemaFault.{SchemaFault}
 use Rattle.ob_schema.specs.declared.wrong.Wrong.{Wrong}
-use Rattle.ob_schema.specs.declared.wrong.Wrong.TheVariants as wrong
-use Rattle.ob_schema.specs.Capped.{capped_field}
-use Rattle.ob_schema.specs.Definitions.{field_count, is_computed}
+use Rattle.ob_schema.specs.Counts.{AreCountable, max_number}
+use Rattle.ob_schema.specs.Definitions.{field_count}
 use Rattle.ob_schema.specs.Findings.{EntryHas, FieldHas, IsEntryFault, IsFieldFault, IsFirstWrong, IsLeast, fault_at}
-use Rattle.ob_schema.specs.Formulas.{computed_numbers, number_of}
-use Rattle.ob_schema.proofs.Capping.{capped_field-low, number_of-low}
 use Rattle.ob_schema.proofs.Spots.{field_spot, least_entry, least_field}
 
 -- a value that is known has what is known of it
@@ -23,28 +18,13 @@ pub known : {X E : Type 0} (P : X → Type 0) (r : Result X E) (x : X) → IfOk 
 known P (Ok y) x e p = subst P (sym e) p
 known P (Err why) x e p = tt
 
--- the numbers of a model with few fields aren't capped
-same_numbers : (def : ModelDef) (fields : List FieldDef) → field_count def ≤ max_fields → map (λ (f : FieldDef). capped_field (number_of def f.name)) fields ≡ map (λ (f : FieldDef). number_of def f.name) fields
-same_numbers def [] few = refl
-same_numbers def (f ∷ fields) few =
-    ap (λ (n : FieldNo). n ∷ map (λ (g : FieldDef). capped_field (number_of def g.name)) fields) (capped_field-low (number_of def f.name) (number_of-low def f.name few))
-    ∙ ap (λ (l : List FieldNo). number_of def f.name ∷ l) (same_numbers def fields few)
-
-pub few_numbers : (def : ModelDef) (r : Result (Vec FieldNo Global) NoMemory)
-    → IfOk r (λ numbers. numbers.items ≡ map (λ (f : FieldDef). capped_field (number_of def f.name)) (filter is_computed def.fields))
-    → IfOk r (λ numbers. field_count def ≤ max_fields → numbers.items ≡ computed_numbers def)
-few_numbers def (Ok numbers) e = λ few. e ∙ same_numbers def (filter is_computed def.fields) few
-few_numbers def (Err why) e = tt
+-- the fields of an entry have numbers of their own
+pub entry_count : (defs : List ModelDef) (entry : ℕ) (def : ModelDef) → AreCountable defs → entry < length defs → def ≡ get_or defs entry def → field_count def ≤ max_number
+entry_count defs entry def are within is = subst (λ (d : ModelDef). field_count d ≤ max_number) (sym is) (are.fields entry def within)
 
 -- ---- the entry as a whole
 
--- an entry without a fault has few fields
-pub few_fields : (defs : List ModelDef) (entry : ℕ) (def : ModelDef) (own : Option Wrong) (is_whole : Bool) → is_some own ≡ not is_whole → IsFirstWrong (EntryHas defs entry def) own → is_whole ≡ true → field_count def ≤ max_fields
-few_fields defs entry def None is_whole e first whole =
-    let low : max_fields < field_count def → ⊥ = λ many. first wrong.Limit (inr (inl many)) in omega arith
-few_fields defs entry def (Some what) is_whole e first whole = absurd (false≢true (sym (e ∙ ap not whole)))
-
--- another has one
+-- an entry that isn't whole has a fault
 pub own_wrong : (defs : List ModelDef) (entry : ℕ) (def : ModelDef) (own : Option Wrong) (is_whole : Bool) → is_some own ≡ not is_whole → IsFirstWrong (EntryHas defs entry def) own → is_whole ≡ false
     → (what : Wrong) × EntryHas defs entry def what
 own_wrong defs entry def None is_whole e first whole = absurd (false≢true (e ∙ ap not whole))

@@ -2,7 +2,7 @@
 use Rattle.std.specs.List.{AllZip}
 use Rattle.std.specs.Prelude.{◌≡◌, ◌⊎◌, ℕ, List, [], ◌∷◌, length, map, All, Any, Contains, codes, Option, Some, None, option_and_then, unwrap_or, Bool, true, false}
 use Rattle.ob_base.specs.declared.id.FieldNo.{FieldNo}
-use Rattle.ob_expr.specs.Checking.{typed_tree_of}
+use Rattle.ob_expr.specs.TypedTree.{typed_tree_of}
 use Rattle.ob_schema.specs.declared.definition.FieldDef.{FieldDef}
 use Rattle.ob_schema.specs.declared.definition.ModelDef.{ModelDef}
 use Rattle.ob_schema.specs.declared.field_type.FieldType.{FieldType}

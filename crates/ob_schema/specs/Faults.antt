@@ -9,20 +9,21 @@ use Rattle.std.specs.Str.{bytes_eq}
 use Rattle.std.specs.declared.cmp.Ordering.{Ordering}
 use Rattle.std.specs.declared.cmp.Ordering.TheVariants.{Less}
 use Rattle.ob_base.specs.Limits.{max_expression_bytes, max_fields, max_models}
-use Rattle.ob_base.specs.declared.id.FieldNo.{FieldNo}
 use Rattle.ob_expr.specs.declared.checker.TypeFault.TheVariants as type_fault
-use Rattle.ob_expr.specs.declared.parser.ExprFault.{ExprFault}
-use Rattle.ob_expr.specs.declared.parser.ExprFault.TheVariants as text_fault
-use Rattle.ob_expr.specs.Checking.{TypedTree, kind_of, typed_of}
-use Rattle.ob_expr.specs.Grammar.{Tree, IsFirstFault, IsFirstTooDeep}
-use Rattle.ob_expr.specs.Lexemes.{lexemes}
+use Rattle.ob_expr.specs.Checking.{typed_of}
+use Rattle.ob_expr.specs.Route.{Route}
+use Rattle.ob_expr.specs.TypedTree.{TypedTree, kind_of, paths_of}
+use Rattle.ob_syntax.specs.declared.fault.ExprFault.{ExprFault}
+use Rattle.ob_syntax.specs.declared.fault.ExprFault.TheVariants as text_fault
+use Rattle.ob_syntax.specs.Grammar.{Tree, IsFirstFault, IsFirstTooDeep}
+use Rattle.ob_syntax.specs.Lexemes.{lexemes}
 use Rattle.ob_schema.specs.declared.definition.FieldDef.{FieldDef}
 use Rattle.ob_schema.specs.declared.definition.ModelDef.{ModelDef}
 use Rattle.ob_schema.specs.declared.fault.SchemaFault.{SchemaFault}
 use Rattle.ob_schema.specs.declared.fault.SchemaFault.TheVariants as fault
 use Rattle.ob_schema.specs.declared.fault.Spot.{Spot}
 use Rattle.ob_schema.specs.Definitions.{field_count, field_def, has_field, is_automatic, is_computed, is_set, is_given_text, model_def}
-use Rattle.ob_schema.specs.Formulas.{IsCovered, IsExpression, computed_numbers, depends_of, fields_read, found_in, kind_of_field, names_computed}
+use Rattle.ob_schema.specs.Formulas.{IsCovered, IsExpression, computed_numbers, depends_of, finds_in, kind_of_field, names_computed, own_model}
 use Rattle.ob_schema.specs.Keys.{fits, is_many2one}
 use Rattle.ob_schema.specs.Names.{is_field_name, is_model_name}
 use Rattle.ob_schema.specs.Orders.{Term, order_terms}
@@ -107,7 +108,7 @@ pub record HasTree (f : FieldDef) (tree : Tree) : Type 0 where
 pub record HasTyped (defs : List ModelDef) (def : ModelDef) (f : FieldDef) (typed : TypedTree) : Type 0 where
   pub tree : Tree
   pub has_tree : HasTree f tree
-  pub checked : typed_of (found_in defs def) tree ≡ Ok typed
+  pub checked : typed_of (finds_in defs def) own_model tree ≡ Ok typed
 
 -- a path of two steps or more
 abbrev pub is_dotted : List ℕ → Bool
@@ -116,13 +117,13 @@ is_dotted path = list_any (λ b. b == 46) path
 -- a name of the expression or of what it depends on is no field that may be used there
 abbrev pub NamesNoField : List ModelDef → ModelDef → FieldDef → Type 0
 NamesNoField defs def f =
-    ((tree : Tree) × HasTree f tree × (at : ℕ) × (typed_of (found_in defs def) tree ≡ Err (type_fault.Name at)))
+    ((tree : Tree) × HasTree f tree × (at : ℕ) × (typed_of (finds_in defs def) own_model tree ≡ Err (type_fault.Name at)))
     ⊎ Any (λ path. (is_dotted path ≡ false) × (has_field def path ≡ false)) (depends_of f)
 
 -- the expression is of another kind than its parts or its field
 abbrev pub HasWrongKind : List ModelDef → ModelDef → FieldDef → Type 0
 HasWrongKind defs def f =
-    ((tree : Tree) × HasTree f tree × (at : ℕ) × (typed_of (found_in defs def) tree ≡ Err (type_fault.Kind at)))
+    ((tree : Tree) × HasTree f tree × (at : ℕ) × (typed_of (finds_in defs def) own_model tree ≡ Err (type_fault.Kind at)))
     ⊎ ((typed : TypedTree) × HasTyped defs def f typed × (kind_of_field defs f ≢ Some (kind_of typed)))
 
 -- the name or a key of the field doesn't fit
@@ -133,14 +134,14 @@ HasWrongKeys f = (is_field_name f.name ≡ false) ⊎ (fits f ≡ false)
 abbrev pub IsDeclaredTwice : ModelDef → FieldDef → Type 0
 IsDeclaredTwice def f = (is_automatic f.name ≡ true) ⊎ (1 < count_by (λ other. bytes_eq other.name f.name) def.fields)
 
--- a field that none of these paths covers, or a computed one
-abbrev pub IsMisread : ModelDef → List (List ℕ) → FieldNo → Type 0
-IsMisread def paths number = (IsCovered def paths number → ⊥) ⊎ Contains (computed_numbers def) number
+-- a path that none of these covers, or that leads to a computed field
+abbrev pub IsMisread : ModelDef → List (List ℕ) → Route → Type 0
+IsMisread def paths route = (IsCovered def paths route → ⊥) ⊎ Contains (computed_numbers def) route.field
 
--- the expression reads a field that no declared path covers, or a computed one; or a declared path names a computed one
+-- the expression reads a path that no declared one covers, or a computed field; or a declared path names a computed one
 abbrev pub HasWrongPath : List ModelDef → ModelDef → FieldDef → Type 0
 HasWrongPath defs def f =
-    ((typed : TypedTree) × HasTyped defs def f typed × Any (IsMisread def (depends_of f)) (fields_read typed))
+    ((typed : TypedTree) × HasTyped defs def f typed × Any (IsMisread def (depends_of f)) (paths_of typed))
     ⊎ Any (λ path. names_computed def path ≡ true) (depends_of f)
 
 -- a text past its limit, or a key that isn't served yet

@@ -2,10 +2,15 @@
 use Rattle.std.specs.Prelude.{◌≡◌, ◌≢◌, ◌<◌, ◌≤◌, ⊤, ℕ, true, false, List, [], Any, Option, Some, None, Ok, Err, slice_get, ◌⊎◌}
 use Rattle.std.specs.Ordering.{is_lt}
 use Rattle.std.specs.declared.cmp.Ordering.TheVariants.{Less}
-use Rattle.ob_expr.specs.declared.checker.Found.{Found}
+use Rattle.std.specs.List.{list_any}
+use Rattle.ob_base.specs.declared.id.FieldNo.{FieldNo}
+use Rattle.ob_base.specs.declared.id.ModelNo.{ModelNo}
 use Rattle.ob_expr.specs.declared.checker.TypeFault.TheVariants as type_fault
-use Rattle.ob_expr.specs.Checking.{kind_of, typed_of, typed_tree_of}
-use Rattle.ob_expr.specs.Grammar.{Tree}
+use Rattle.ob_expr.specs.declared.kind.Found.{Found}
+use Rattle.ob_expr.specs.Checking.{AreFound, typed_of}
+use Rattle.ob_expr.specs.Route.{Route}
+use Rattle.ob_expr.specs.TypedTree.{TypedTree, IsWellKinded, kind_of, paths_of, typed_tree_of}
+use Rattle.ob_syntax.specs.Grammar.{Tree}
 use Rattle.ob_schema.specs.declared.definition.FieldDef.{FieldDef}
 use Rattle.ob_schema.specs.declared.definition.ModelDef.{ModelDef}
 use Rattle.ob_schema.specs.declared.fault.SchemaFault.{SchemaFault}
@@ -15,27 +20,31 @@ use Rattle.ob_schema.specs.declared.finding.Finding.{Finding}
 use Rattle.ob_schema.specs.declared.finding.Finding.TheVariants as finding
 use Rattle.ob_schema.specs.declared.wrong.Wrong.{Wrong}
 use Rattle.ob_schema.specs.declared.wrong.Wrong.TheVariants as wrong
-use Rattle.ob_schema.specs.Capped.{seen_in}
 use Rattle.ob_schema.specs.Faults.{HasExpression, HasTerm, HasTooMuch, HasTree, HasUnknownInverse, HasUnknownRelation, HasWrongInverse, HasWrongKey, HasWrongKeys, HasWrongKind, HasWrongPath}
 use Rattle.ob_schema.specs.Faults.{IsDeclaredTwice, IsFaulty, IsMisread, IsNamedBefore, IsPastLimit, IsTextFault, NamesNoField, NamesNoModel, is_dotted, rank, rank_order}
 use Rattle.ob_schema.specs.Definitions.{has_field}
-use Rattle.ob_schema.specs.Formulas.{depends_of, fields_read, kind_of_type, names_computed}
-use Rattle.std.specs.Prelude.{not, if◌then◌else◌}
-use Rattle.ob_expr.specs.declared.parser.ExprFault.{ExprFault}
+use Rattle.ob_schema.specs.Formulas.{depends_of, finds_in, kind_of_type, names_computed, number_of, own_model}
+use Rattle.std.specs.Prelude.{◌==◌, ◌&&◌, ◌||◌, Bool, length, not, if◌then◌else◌}
+use Rattle.ob_syntax.specs.declared.fault.ExprFault.{ExprFault}
+
+-- what a check makes of expressions is well kinded, and each of its paths is one that names stand for
+pub record IsSound (finds : ModelNo → List ℕ → Option Found) (typed : TypedTree) : Type 0 where
+  pub kinded : IsWellKinded typed
+  pub found : AreFound finds own_model typed
 
 -- what a check in a scope says of a tree
-abbrev pub IsOutcome : (List ℕ → Option Found) → Tree → Finding → Type 0
-IsOutcome find tree finding.Unknown = (at : ℕ) × (typed_of find tree ≡ Err (type_fault.Name at))
-IsOutcome find tree finding.Mixed = (at : ℕ) × (typed_of find tree ≡ Err (type_fault.Kind at))
-IsOutcome find tree (finding.Checked typed) = typed_of find tree ≡ Ok (typed_tree_of typed)
-IsOutcome find tree _ = ⊥
+abbrev pub IsOutcome : (ModelNo → List ℕ → Option Found) → Tree → Finding → Type 0
+IsOutcome finds tree finding.Unknown = (at : ℕ) × (typed_of finds own_model tree ≡ Err (type_fault.Name at))
+IsOutcome finds tree finding.Mixed = (at : ℕ) × (typed_of finds own_model tree ≡ Err (type_fault.Kind at))
+IsOutcome finds tree (finding.Checked typed) = (typed_of finds own_model tree ≡ Ok (typed_tree_of typed)) × IsSound finds (typed_tree_of typed)
+IsOutcome finds tree _ = ⊥
 
 -- the field's one tree, and what a check says of it
 pub record IsChecked (defs : List ModelDef) (def : ModelDef) (f : FieldDef) (outcome : Finding) : Type 0 where
   pub tree : Tree
   pub has_tree : HasTree f tree
   pub only : (other : Tree) → HasTree f other → other ≡ tree
-  pub is_outcome : IsOutcome (seen_in defs def) tree outcome
+  pub is_outcome : IsOutcome (finds_in defs def) tree outcome
 
 -- the text of the field's expression, which no tree has
 pub record IsUnreadable (f : FieldDef) (why : ExprFault) : Type 0 where
@@ -108,9 +117,21 @@ IsOfWrongKind f finding.Mixed = ⊤
 IsOfWrongKind f (finding.Checked typed) = kind_of_type f.field_type None ≢ Some (kind_of (typed_tree_of typed))
 IsOfWrongKind f _ = ⊥
 
--- the expression reads a field that no declared path covers, or a computed one
+-- whether a name is a field's, and a path leads to that field alone
+abbrev pub leads_to : ModelDef → Route → List ℕ → Bool
+leads_to def route name = has_field def name && (length route.links == 0) && ((number_of def name).0 == route.field.0)
+
+-- whether a path leads to one of these fields
+abbrev pub leads_among : List FieldNo → Route → Bool
+leads_among numbers route = list_any (λ own. own.0 == route.field.0) numbers
+
+-- whether none of the names leads where a path does, or the path leads to one of these fields
+abbrev pub is_misread : ModelDef → List (List ℕ) → List FieldNo → Route → Bool
+is_misread def names numbers route = not (list_any (leads_to def route) names) || leads_among numbers route
+
+-- the expression reads a path that no declared one covers, or a computed field
 abbrev pub ReadsWrongly : ModelDef → FieldDef → Finding → Type 0
-ReadsWrongly def f (finding.Checked typed) = Any (IsMisread def (depends_of f)) (fields_read (typed_tree_of typed))
+ReadsWrongly def f (finding.Checked typed) = Any (IsMisread def (depends_of f)) (paths_of (typed_tree_of typed))
 ReadsWrongly def f _ = ⊥
 
 -- one of a kind of faults that none of the kind comes before, or that there is none

@@ -1,5 +1,5 @@
--- The expressions of computed fields, over the fields of their own model.
-use Rattle.std.specs.Prelude.{◌≡◌, ◌&&◌, ◌||◌, ◌++◌, ◌≤◌, ℕ, suc, List, [], ◌∷◌, map, position, count_by, Any, if◌then◌else◌, Bool, true, false, not, Option, Some, None, option_map, option_and_then}
+-- The expressions of computed fields: what the names in them stand for, and which fields they may read.
+use Rattle.std.specs.Prelude.{◌≡◌, ◌&&◌, ◌||◌, ◌++◌, ◌≤◌, ℕ, zero, suc, slice_get, List, [], ◌∷◌, map, position, count_by, Any, if◌then◌else◌, Bool, true, false, not, Option, Some, None, option_map, option_and_then}
 use Rattle.std.specs.Option.{option_map_or}
 use Rattle.std.specs.Cmp.Lexicographic.{slice_cmp}
 use Rattle.std.specs.Ordering.{nat_cmp, is_lt}
@@ -8,12 +8,12 @@ use Rattle.std.specs.Prelude.{codes, unwrap_or, filter}
 use Rattle.ob_base.specs.Limits.{max_expression_depth}
 use Rattle.ob_base.specs.declared.id.FieldNo.{FieldNo}
 use Rattle.ob_base.specs.declared.id.ModelNo.{ModelNo}
-use Rattle.ob_expr.specs.declared.checker.Found.{Found}
-use Rattle.ob_expr.specs.declared.checker.Kind.{Kind}
-use Rattle.ob_expr.specs.declared.checker.Kind.TheVariants as kind
-use Rattle.ob_expr.specs.Checking.{TypedTree, field, times}
-use Rattle.ob_expr.specs.Grammar.{Tree, Spells, depth}
-use Rattle.ob_expr.specs.Lexemes.{lexemes}
+use Rattle.ob_expr.specs.declared.kind.Found.{Found}
+use Rattle.ob_expr.specs.declared.kind.Kind.{Kind}
+use Rattle.ob_expr.specs.declared.kind.Kind.TheVariants as kind
+use Rattle.ob_expr.specs.Route.{Route, fields_of}
+use Rattle.ob_syntax.specs.Grammar.{Tree, Spells, depth}
+use Rattle.ob_syntax.specs.Lexemes.{lexemes}
 use Rattle.ob_schema.specs.declared.definition.FieldDef.{FieldDef}
 use Rattle.ob_schema.specs.declared.definition.ModelDef.{ModelDef}
 use Rattle.ob_schema.specs.declared.field_type.FieldType.{FieldType}
@@ -59,30 +59,38 @@ own_found def name usable k = record { via = None; field = number_of def name; k
 abbrev pub declared_found : List ModelDef → ModelDef → List ℕ → FieldDef → Option Found
 declared_found defs def name f = option_map (own_found def name (is_usable f)) (kind_of_field defs f)
 
--- what a name of an expression stands for: the moment of a row's making or last change, or a declared field
+-- what a name stands for in a model: the moment of a row's making or last change, or a declared field
 abbrev pub found_in : List ModelDef → ModelDef → List ℕ → Option Found
 found_in defs def name =
     if bytes_eq name (codes "create_date") || bytes_eq name (codes "write_date")
     then Some (own_found def name true kind.Moment)
     else option_and_then (declared_found defs def name) (field_def def name)
 
+-- an expression's own model has the number 0 in it
+abbrev pub own_model : ModelNo
+own_model = record { 0 = 0 }
+
+-- the definition of a model by its number: the expression's own for 0, and the others from 1 in their order
+abbrev pub def_at : List ModelDef → ModelDef → ℕ → Option ModelDef
+def_at defs def zero = Some def
+def_at defs def (suc n) = slice_get defs n
+
+-- what the names of an expression stand for in every model
+abbrev pub finds_in : List ModelDef → ModelDef → ModelNo → List ℕ → Option Found
+finds_in defs def model name = option_and_then (λ own. found_in defs own name) (def_at defs def model.0)
+
 -- the tree that a text spells, no deeper than expressions may be
 pub record IsExpression (text : List ℕ) (tree : Tree) : Type 0 where
-  pub spells : Spells tree (lexemes text)
+  pub spells : Spells 0 tree (lexemes text)
   pub shallow : depth tree ≤ max_expression_depth
-
--- the fields that a checked expression reads
-abbrev pub fields_read : TypedTree → List FieldNo
-fields_read (field number k) = number ∷ []
-fields_read (times left right) = fields_read left ++ fields_read right
 
 -- the steps of a path from a row of the model: so far the one field of this name, none where there is no such field
 abbrev pub steps_of : ModelDef → List ℕ → Option (List FieldNo)
 steps_of def path = if has_field def path then Some (number_of def path ∷ []) else None
 
--- one of these paths covers a field that is read: it is a path, and leads to that field
-abbrev pub IsCovered : ModelDef → List (List ℕ) → FieldNo → Type 0
-IsCovered def paths number = Any (λ path. steps_of def path ≡ Some (number ∷ [])) paths
+-- one of these paths covers a path that is read: its steps are the fields of that one
+abbrev pub IsCovered : ModelDef → List (List ℕ) → Route → Type 0
+IsCovered def paths route = Any (λ path. steps_of def path ≡ Some (fields_of route)) paths
 
 -- the paths on which a computed field says it depends
 abbrev pub depends_of : FieldDef → List (List ℕ)

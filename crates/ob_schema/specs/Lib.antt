@@ -11,7 +11,7 @@ pub mod Formulas
 pub mod Faults
 pub mod Built
 -- Private: the words by which the rooms of the crate are joined.
-pub mod Capped
+pub mod Counts
 pub mod OrderEntries
 pub mod Findings
 pub mod Making

@@ -1,26 +1,29 @@
 -- How the registry's parts are made of definitions, a function at a time.
-use Rattle.std.specs.Prelude.{◌≡◌, ◌++◌, ◌≤◌, List, length, map, All, Any, Contains, FitsSigned, IfSome, ⊤}
-use Rattle.std.specs.Int.{w64}
+use Rattle.std.specs.Prelude.{◌≡◌, ◌++◌, ◌≤◌, List, length, map, All, Any, Contains, IfSome, ⊤}
 use Rattle.std.specs.List.{AllZip}
-use Rattle.std.specs.Str.{IsUtf8}
 use Rattle.ob_base.specs.Limits.{max_fields, max_name_bytes}
-use Rattle.ob_base.specs.declared.value.Value.{Value}
-use Rattle.ob_base.specs.declared.value.Value.TheVariants as value
+use Rattle.ob_expr.specs.TypedTree.{typed_tree_of}
 use Rattle.ob_schema.specs.declared.definition.ModelDef.{ModelDef}
 use Rattle.ob_schema.specs.declared.info.FieldInfo.{FieldInfo}
 use Rattle.ob_schema.specs.declared.info.OrderTerm.{OrderTerm}
+use Rattle.ob_schema.specs.declared.info.Origin.{Origin}
+use Rattle.ob_schema.specs.declared.info.Origin.TheVariants as origin
 use Rattle.ob_schema.specs.Built.{IsFieldIn, IsFieldOf, automatic_infos, given_terms}
 use Rattle.ob_schema.specs.Definitions.{field_count}
 use Rattle.ob_schema.specs.Fields.{Holds}
-use Rattle.ob_schema.specs.Formulas.{number_of}
+use Rattle.ob_schema.specs.Findings.{IsSound}
+use Rattle.ob_schema.specs.Formulas.{finds_in, number_of}
 use Rattle.ob_schema.specs.Models.{AreInOrder, IsOriginIn}
 use Rattle.ob_schema.specs.Orders.{Term}
 
--- what each value of the program has by its type: an integer fits 64 bits, and a text is UTF-8
-abbrev pub IsNative : Value → Type 0
-IsNative (value.Int n) = FitsSigned w64 n
-IsNative (value.Word text) = IsUtf8 text
-IsNative _ = ⊤
+-- a formula is what a check makes of expressions
+abbrev pub IsSoundOrigin : List ModelDef → ModelDef → Origin → Type 0
+IsSoundOrigin defs def (origin.Computed formula) = IsSound (finds_in defs def) (typed_tree_of formula.typed)
+IsSoundOrigin defs def _ = ⊤
+
+-- so is the field's
+abbrev pub HasSoundOrigin : List ModelDef → ModelDef → FieldInfo → Type 0
+HasSoundOrigin defs def info = IsSoundOrigin defs def info.origin
 
 -- the field holds its default
 abbrev pub HoldsDefault : FieldInfo → Type 0
@@ -39,6 +42,7 @@ pub record AreUnsorted (defs : List ModelDef) (def : ModelDef) (infos : List Fie
   pub declared : List FieldInfo
   pub each : AllZip (IsFieldOf defs def) def.fields declared
   pub held : All HoldsDefault declared
+  pub sound : All (HasSoundOrigin defs def) declared
   pub is : infos ≡ declared ++ automatic_infos
 
 -- the fields of a model, by name

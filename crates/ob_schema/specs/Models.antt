@@ -10,8 +10,9 @@ use Rattle.std.specs.declared.cmp.Ordering.TheVariants.{Less}
 use Rattle.ob_base.specs.Limits.{max_fields, max_models, max_name_bytes}
 use Rattle.ob_base.specs.declared.id.FieldNo.{FieldNo}
 use Rattle.ob_base.specs.declared.id.ModelNo.{ModelNo}
-use Rattle.ob_expr.specs.Checking.{EachField, IsWellKinded, kind_of, typed_tree_of}
-use Rattle.ob_expr.specs.declared.checker.Kind.{Kind}
+use Rattle.ob_expr.specs.declared.kind.Kind.{Kind}
+use Rattle.ob_expr.specs.Route.{Route}
+use Rattle.ob_expr.specs.TypedTree.{IsWellKinded, kind_of, paths_of, typed_tree_of}
 use Rattle.ob_schema.specs.declared.field_type.FieldType.TheVariants as type
 use Rattle.ob_schema.specs.declared.info.FieldInfo.{FieldInfo}
 use Rattle.ob_schema.specs.declared.info.Formula.{Formula}
@@ -19,7 +20,7 @@ use Rattle.ob_schema.specs.declared.info.ModelInfo.{ModelInfo}
 use Rattle.ob_schema.specs.declared.info.Origin.{Origin}
 use Rattle.ob_schema.specs.declared.info.Origin.TheVariants as origin
 use Rattle.ob_schema.specs.Built.{automatic_infos}
-use Rattle.ob_schema.specs.Fields.{Holds, is_plain_kept, kept_fields}
+use Rattle.ob_schema.specs.Fields.{Holds, is_plain_from, kept_fields}
 use Rattle.ob_schema.specs.Formulas.{kind_of_type}
 use Rattle.ob_schema.specs.Keys.{is_selection}
 use Rattle.ob_schema.specs.Types.{is_list}
@@ -61,14 +62,14 @@ AreInOrder names = AllPairs (λ a b. slice_cmp nat_cmp a b ≡ Less) names
 abbrev pub kind_of_info : FieldInfo → Option Kind
 kind_of_info field = kind_of_type field.field_type field.relation
 
--- a plain kept field of this number, whose values are of the kind
-abbrev pub IsOperand : List FieldInfo → FieldNo → Kind → Type 0
-IsOperand fields number k = IsSomeAnd (numbered fields number.0) (λ field. (is_plain_kept field ≡ true) × (kind_of_info field ≡ Some k))
+-- a plain field of the row itself, whose values are of the path's kind
+abbrev pub IsOperand : List FieldInfo → Route → Type 0
+IsOperand fields route = (route.links ≡ []) × IsSomeAnd (numbered fields route.field.0) (λ field. (is_plain_from field.origin ≡ true) × (kind_of_info field ≡ Some route.kind))
 
 -- a formula takes plain fields of the row, each for the kind that it has, and gives values of the field's own kind; the field is no list and no selection
 pub record IsFormulaIn (fields : List FieldInfo) (field : FieldInfo) (formula : Formula) : Type 0 where
   pub kinded : IsWellKinded (typed_tree_of formula.typed)
-  pub operands : EachField (IsOperand fields) (typed_tree_of formula.typed)
+  pub operands : All (IsOperand fields) (paths_of (typed_tree_of formula.typed))
   pub kind : kind_of_info field ≡ Some (kind_of (typed_tree_of formula.typed))
   pub no_list : is_list field.field_type ≡ false
   pub no_selection : is_selection field.field_type ≡ false

@@ -13,6 +13,12 @@ use Rattle.ob_schema.specs.declared.field_type.Choice.{Choice}
 use Rattle.ob_schema.specs.declared.field_type.FieldType.{FieldType}
 use Rattle.ob_schema.specs.declared.field_type.FieldType.TheVariants as type
 
+-- what each value of the program has by its type: an integer fits 64 bits, and a text is UTF-8
+abbrev pub IsNative : Value → Type 0
+IsNative (value.Int n) = FitsSigned w64 n
+IsNative (value.Word text) = IsUtf8 text
+IsNative _ = ⊤
+
 -- a text of so many bytes at most
 pub record IsText (limit : ℕ) (text : List ℕ) : Type 0 where
   pub utf8 : IsUtf8 text

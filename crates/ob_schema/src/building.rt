@@ -10,7 +10,7 @@ ghost use Rattle.ob_base.specs.Limits.{max_fields};
 ghost use Rattle.ob_schema.specs.Definitions.{field_count};
 ghost use Rattle.ob_schema.specs.Built.{IsBuilt, IsFieldOf, IsModelOf, bare_info, id_info, moment_info};
 ghost use Rattle.ob_schema.specs.Faults.{IsFaultless};
-ghost use Rattle.ob_schema.specs.Making.{AreSorted, AreUnsorted, HoldsDefault, numbered_order, numbered_term};
+ghost use Rattle.ob_schema.specs.Making.{AreSorted, AreUnsorted, HasSoundOrigin, HoldsDefault, numbered_order, numbered_term};
 ghost use Rattle.ob_schema.specs.Models.{IsModel, IsRegistry};
 ghost use Rattle.ob_schema.specs.Orders.{terms_of};
 
@@ -142,6 +142,7 @@ fn declared_fields(
     ensures of { IfOk result
         (λ fields. AllZip (IsFieldOf defs.now def.now) def.now.fields fields.items) }
     ensures held { IfOk result (λ fields. All HoldsDefault fields.items) }
+    ensures sound { IfOk result (λ fields. All (HasSoundOrigin defs.now def.now) fields.items) }
 {
     let mut fields = Vec::new(alloc);
     for field in def.fields.as_slice() {

@@ -1,12 +1,13 @@
 //! Look-ups in definitions by name, and the numbers that the registry gives their names.
-//! A number past two bytes is told as the greatest; no registry has one.
+//! A number is asked for only where two bytes hold it: `build` has tested that.
 
-ghost use Rattle.std.specs.Prelude.{◌≡◌, ◌≤◌, suc, IfOk, count_by, filter, map, option_copied, option_map, position};
+ghost use Rattle.std.specs.Prelude.{◌≡◌, ◌≤◌, ◌||◌, IfOk, codes, count_by, length, map, option_copied, position};
 ghost use Rattle.std.specs.Cmp.Lexicographic.{slice_cmp};
 ghost use Rattle.std.specs.Ordering.{nat_cmp, is_lt};
-ghost use Rattle.ob_schema.specs.Capped.{capped, capped_field, capped_kind, capped_model};
-ghost use Rattle.ob_schema.specs.Definitions.{automatic_names, field_def, has_field, is_automatic, is_computed, is_given_text, model_def};
-ghost use Rattle.ob_schema.specs.Formulas.{is_usable, kind_of_field, kind_of_type, model_number, number_of};
+ghost use Rattle.std.specs.Str.{bytes_eq};
+ghost use Rattle.ob_schema.specs.Counts.{max_number};
+ghost use Rattle.ob_schema.specs.Definitions.{automatic_names, field_count, field_def, has_field, is_automatic, is_given_text, model_def};
+ghost use Rattle.ob_schema.specs.Formulas.{computed_numbers, def_at, found_in, is_usable, kind_of_field, kind_of_type, model_number, number_of};
 
 use crate::definition::{FieldDef, ModelDef};
 use crate::field_type::FieldType;
@@ -14,9 +15,7 @@ use crate::keys::{is_computed, is_set};
 use ob_base::{FieldNo, ModelNo, NoMemory, Word};
 use ob_expr::{Found, Kind, Scope};
 use std::alloc::Global;
-
-/// The greatest number of two bytes.
-const MAX_NUMBER: usize = 65_535;
+use std::marker::Model;
 
 /// Whether each model has a field of this name beside the declared ones.
 pub(crate) fn is_automatic(name: &str) -> bool
@@ -59,23 +58,13 @@ pub(crate) fn has_field(def: &ModelDef, name: &str) -> bool
     is_automatic(name) || field_def(def, name).is_some()
 }
 
-/// The number of what stands at a place, in two bytes.
-fn number_at(place: usize) -> u16
-    ensures { result ≡ capped (suc place) }
-{
-    if place < MAX_NUMBER {
-        place as u16 + 1
-    } else {
-        u16::MAX
-    }
-}
-
 /// The number of the model of this name.
 pub(crate) fn model_number(defs: &[ModelDef], name: &str) -> Option<ModelNo>
-    ensures { result ≡ option_map capped_model (model_number defs.now name.now) }
+    requires { length defs.now ≤ max_number }
+    ensures { result ≡ model_number defs.now name.now }
 {
     let place = model_place(defs, name)?;
-    Some(ModelNo(number_at(place)))
+    Some(ModelNo(place as u16 + 1))
 }
 
 /// The place of the first model of this name.
@@ -87,10 +76,11 @@ fn model_place(defs: &[ModelDef], name: &str) -> Option<usize>
 
 /// The number of a name among the fields of a model.
 pub(crate) fn number_of(def: &ModelDef, name: &str) -> FieldNo
-    ensures { result ≡ capped_field (number_of def.now name.now) }
+    requires { (number_of def.now name.now).0 ≤ max_number }
+    ensures { result ≡ number_of def.now name.now }
 {
-    let declared = declared_below(def.fields.as_slice(), name).min(MAX_NUMBER);
-    FieldNo(number_at(automatic_below(name) + declared))
+    let declared = declared_below(def.fields.as_slice(), name);
+    FieldNo((automatic_below(name) + declared) as u16 + 1)
 }
 
 /// How many names of automatic fields are below a name.
@@ -139,7 +129,8 @@ pub(crate) fn kind_of_type(field_type: FieldType, relation: Option<ModelNo>) -> 
 
 /// The kind of a declared field.
 pub(crate) fn kind_of_field(defs: &[ModelDef], field: &FieldDef) -> Option<Kind>
-    ensures { result ≡ option_map capped_kind (kind_of_field defs.now field.now) }
+    requires { length defs.now ≤ max_number }
+    ensures { result ≡ kind_of_field defs.now field.now }
 {
     let relation = match &field.relation {
         Some(name) => model_number(defs, name.as_str()),
@@ -155,30 +146,83 @@ fn is_usable(field: &FieldDef) -> bool
     !is_set(field.secret) && (!is_computed(field) || is_set(field.store))
 }
 
-/// The fields that the expressions of a model may name.
-#[derive(Drop)]
-pub(crate) struct DefScope<'a> {
-    pub(crate) defs: &'a [ModelDef],
-    pub(crate) def: &'a ModelDef,
-}
-
-impl Scope for DefScope<'_> {
-    ghost use Rattle.ob_schema.specs.Capped.{seen_in};
-
-    ghost finds = { λ scope _ name. seen_in scope.defs.now scope.def.now name };
-
-    fn field(&self, _model: ModelNo, name: &str) -> Option<Found> {
-        let number = number_of(self.def, name);
-        if matches!(name, "create_date" | "write_date") {
-            return Some(found(number, Kind::Moment, true));
-        }
-        let field = field_def(self.def, name)?;
-        let kind = kind_of_field(self.defs, field)?;
-        Some(found(number, kind, is_usable(field)))
+/// The definition of a model by its number: an expression's own for 0, and the others from
+/// 1 in their order.
+fn def_at<'a>(defs: &'a [ModelDef], own: &'a ModelDef, model: ModelNo) -> Option<&'a ModelDef>
+    ensures { option_copied result ≡ def_at defs.now own.now model.0 }
+{
+    match usize::from(model.0).checked_sub(1) {
+        Some(place) => defs.get(place),
+        None => Some(own),
     }
 }
 
-/// A field of the model itself.
+/// Whether a name is that of the moment of a row's making, or of its last change.
+fn is_moment(name: &str) -> bool
+    ensures { result ≡ (bytes_eq name.now (codes "create_date")
+        || bytes_eq name.now (codes "write_date")) }
+{
+    matches!(name, "create_date" | "write_date")
+}
+
+/// What a name stands for in a model.
+fn found_in(defs: &[ModelDef], def: &ModelDef, name: &str) -> Option<Found>
+    requires models { length defs.now ≤ max_number }
+    requires fields { field_count def.now ≤ max_number }
+    ensures { result ≡ found_in defs.now def.now name.now }
+{
+    if is_moment(name) {
+        return Some(found(number_of(def, name), Kind::Moment, true));
+    }
+    let field = field_def(def, name)?;
+    let kind = kind_of_field(defs, field)?;
+    Some(found(number_of(def, name), kind, is_usable(field)))
+}
+
+/// What the names of a model's expressions stand for, in every model.
+#[derive(Drop)]
+pub(crate) struct DefScope<'a> {
+    defs: &'a [ModelDef],
+    def: &'a ModelDef,
+}
+
+impl<'a> Model for DefScope<'a> {
+    ghost use Rattle.std.specs.Prelude.{◌≤◌, List};
+    ghost use Rattle.ob_schema.specs.Counts.{AreCountable, max_number};
+    ghost use Rattle.ob_schema.specs.Definitions.{field_count};
+    ghost use Rattle.ob_schema.specs.declared.definition.ModelDef.{ModelDef};
+
+    ghost Value = { List ModelDef × ModelDef };
+
+    ghost view = { λ scope. (scope.defs.now, scope.def.now) };
+
+    ghost invariant = { λ scope. AreCountable scope.defs.now × (field_count scope.def.now ≤ max_number) };
+}
+
+impl<'a> DefScope<'a> {
+    ghost use Rattle.ob_schema.specs.Counts.{AreCountable};
+
+    /// What the names of this model's expressions stand for.
+    pub(crate) fn new(defs: &'a [ModelDef], def: &'a ModelDef) -> DefScope<'a>
+        requires models { AreCountable defs.now }
+        requires fields { field_count def.now ≤ max_number }
+        ensures { result ≡ (defs.now, def.now) }
+    {
+        DefScope { defs, def }
+    }
+}
+
+impl Scope for DefScope<'_> {
+    ghost use Rattle.ob_schema.specs.Formulas.{finds_in};
+
+    ghost finds = { λ scope. finds_in scope.0 scope.1 };
+
+    fn field(&self, model: ModelNo, name: &str) -> Option<Found> {
+        found_in(self.defs, def_at(self.defs, self.def, model)?, name)
+    }
+}
+
+/// A field of a model itself.
 fn found(field: FieldNo, kind: Kind, usable: bool) -> Found
     ensures { result ≡ record { via = None; field = field; kind = kind; usable = usable } }
 {
@@ -192,9 +236,8 @@ fn found(field: FieldNo, kind: Kind, usable: bool) -> Found
 
 /// The numbers of a model's computed fields.
 pub(crate) fn computed_numbers(alloc: Global, def: &ModelDef) -> Result<Vec<FieldNo>, NoMemory>
-    ensures { IfOk result (λ numbers. numbers.items
-        ≡ map (λ field. capped_field (number_of def.now field.name))
-        (filter is_computed def.now.fields)) }
+    requires { field_count def.now ≤ max_number }
+    ensures { IfOk result (λ numbers. numbers.items ≡ computed_numbers def.now) }
 {
     let mut numbers = Vec::new(alloc);
     for field in def.fields.as_slice() {

@@ -21,7 +21,7 @@ use ob_base::{NoMemory, Sequence, Word};
 use std::alloc::Global;
 
 /// How many fields a model may declare beside the automatic ones.
-pub(crate) const MAX_DECLARED: usize = MAX_FIELDS - 3;
+const MAX_DECLARED: usize = MAX_FIELDS - 3;
 
 /// The first of what is wrong with an entry as a whole.
 pub(crate) fn first_of_entry(

@@ -5,7 +5,7 @@ ghost use Rattle.std.specs.Prelude.{◌≡◌};
 ghost use Rattle.ob_schema.specs.declared.fault.SchemaFault.TheVariants.{NoMemory as no_memory};
 
 use ob_base::{NoMemory, Word};
-use ob_expr::ExprFault;
+use ob_syntax::ExprFault;
 use thiserror::Error;
 
 /// Where a definition is faulty: the entry's place in the list, from 0, and the field, which
@@ -40,7 +40,7 @@ pub enum SchemaFault {
     /// A field reads itself through its tree and doesn't say so. Not told so far.
     #[error("not marked recursive")]
     Recursion(Spot),
-    /// The expression reads a field that no declared path covers, or a computed one; or a
+    /// The expression reads a path that no declared one covers, or a computed field; or a
     /// declared path names a computed one.
     #[error("wrong path")]
     Path(Spot),
@@ -63,8 +63,8 @@ pub enum SchemaFault {
 
 impl SchemaFault {
     ghost use Rattle.std.specs.Prelude.{ℕ, List};
-    ghost use Rattle.ob_expr.specs.Grammar.{Tree};
-    ghost use Rattle.ob_expr.specs.declared.parser.ExprFault.{ExprFault};
+    ghost use Rattle.ob_syntax.specs.Grammar.{Tree};
+    ghost use Rattle.ob_syntax.specs.declared.fault.ExprFault.{ExprFault};
     ghost use Rattle.ob_schema.specs.Faults.{IsTextFault};
     ghost use Rattle.ob_schema.specs.Formulas.{IsExpression};
 

@@ -3,7 +3,8 @@
 //! which of them comes first.
 
 ghost use Rattle.std.specs.Prelude.{◌≡◌, ◌<◌, ◌≤◌, ◌⊎◌, ◌↔◌, [], IfOk, IsTrue, MatchOption, Some, false, length, option_map, slice_get, true};
-ghost use Rattle.ob_base.specs.Limits.{max_fields, max_models};
+ghost use Rattle.ob_base.specs.Limits.{max_models};
+ghost use Rattle.ob_schema.specs.Counts.{AreCountable, max_number};
 ghost use Rattle.ob_schema.specs.Definitions.{field_count};
 ghost use Rattle.ob_schema.specs.declared.definition.ModelDef.{ModelDef};
 ghost use Rattle.ob_schema.specs.declared.wrong.Wrong.{Wrong};
@@ -13,7 +14,7 @@ ghost use Rattle.ob_schema.specs.Formulas.{computed_numbers};
 
 use crate::definition::{FieldDef, ModelDef};
 use crate::definitions::computed_numbers;
-use crate::entry_faults::{MAX_DECLARED, first_of_entry};
+use crate::entry_faults::first_of_entry;
 use crate::fault::{SchemaFault, Spot};
 use crate::field_faults::first_of_field;
 use crate::wrong::Wrong;
@@ -23,6 +24,7 @@ use std::cmp::Ordering;
 
 /// The first fault of definitions, if there is one.
 pub(crate) fn first_fault(alloc: Global, defs: &[ModelDef]) -> Result<Option<SchemaFault>, NoMemory>
+    requires { AreCountable defs.now }
     ensures { IfOk result
         (λ first. MatchOption first (IsFaultless defs.now) (IsFirst defs.now)) }
 {
@@ -41,6 +43,7 @@ fn first_in_entry(
     defs: &[ModelDef],
     entry: usize,
 ) -> Result<Option<SchemaFault>, NoMemory>
+    requires models { AreCountable defs.now }
     requires within { entry < length defs.now }
     requires low { entry ≤ max_models }
     ensures { IfOk result (IsLeast (IsFaultIn defs.now entry)) }
@@ -48,7 +51,7 @@ fn first_in_entry(
     let def = &defs[entry];
     let own = first_of_entry(alloc, defs, entry, def)?;
     let is_whole = own.is_none();
-    let computed = numbers_of_few(alloc, def)?;
+    let computed = computed_numbers(alloc, def)?;
     let least = fault_of(alloc, entry, "", own)?;
     least_of_fields(alloc, defs, entry, is_whole, computed.as_slice(), least)
 }
@@ -63,14 +66,13 @@ fn least_of_fields(
     computed: &[FieldNo],
     mut least: Option<SchemaFault>,
 ) -> Result<Option<SchemaFault>, NoMemory>
+    requires models { AreCountable defs.now }
     requires within { entry < length defs.now }
     requires low { entry ≤ max_models }
-    requires few { (def : ModelDef) → slice_get defs.now entry ≡ Some def
-        → is_whole ≡ true → field_count def ≤ max_fields }
     requires own { (def : ModelDef) → slice_get defs.now entry ≡ Some def
         → is_whole ≡ false → (what : Wrong) × EntryHas defs.now entry def what }
     requires numbers { (def : ModelDef) → slice_get defs.now entry ≡ Some def
-        → field_count def ≤ max_fields → computed.now ≡ computed_numbers def }
+        → computed.now ≡ computed_numbers def }
     requires least { (def : ModelDef) → slice_get defs.now entry ≡ Some def
         → IsLeast (IsEntryFault defs.now entry def) least }
     ensures { IfOk result (IsLeast (IsFaultIn defs.now entry)) }
@@ -102,8 +104,9 @@ fn field_fault(
     computed: &[FieldNo],
 ) -> Result<Option<SchemaFault>, NoMemory>
     requires low { entry ≤ max_models }
-    requires few { (field_count def.now ≤ max_fields) ⊎ (field.now.name ≡ []) }
-    requires numbers { field_count def.now ≤ max_fields → computed.now ≡ computed_numbers def.now }
+    requires models { AreCountable defs.now }
+    requires fields { field_count def.now ≤ max_number }
+    requires numbers { computed.now ≡ computed_numbers def.now }
     ensures { IfOk result (IsLeast (IsFieldFault defs.now entry def.now field.now)) }
 {
     let first = first_of_field(alloc, defs, def, field, computed)?;
@@ -129,17 +132,6 @@ fn fault_of(
         entry: entry as u32,
         field,
     })))
-}
-
-/// The numbers of a model's computed fields, where it isn't past the limit of fields.
-fn numbers_of_few(alloc: Global, def: &ModelDef) -> Result<Vec<FieldNo>, NoMemory>
-    ensures { IfOk result
-        (λ numbers. field_count def.now ≤ max_fields → numbers.items ≡ computed_numbers def.now) }
-{
-    if def.fields.len() > MAX_DECLARED {
-        return Ok(Vec::new(alloc));
-    }
-    computed_numbers(alloc, def)
 }
 
 /// The lesser of two faults; the first of two of one rank.

@@ -5,12 +5,13 @@ ghost use Rattle.std.specs.Prelude.{◌≡◌, ◌≤◌, ◌∷◌, [], All, Co
 ghost use Rattle.ob_base.specs.Limits.{max_fields, max_models};
 ghost use Rattle.ob_schema.specs.Built.{IsFieldOf, IsOrigin, inverse_number, is_stored};
 ghost use Rattle.ob_schema.specs.Faults.{HasTyped, IsFaultless};
-ghost use Rattle.ob_expr.specs.Checking.{typed_tree_of};
+ghost use Rattle.ob_expr.specs.TypedTree.{typed_tree_of};
 ghost use Rattle.ob_schema.specs.Definitions.{field_count, has_field};
-ghost use Rattle.ob_schema.specs.Formulas.{model_number, steps_of};
+ghost use Rattle.ob_schema.specs.Findings.{IsSound};
+ghost use Rattle.ob_schema.specs.Formulas.{finds_in, model_number, steps_of};
 ghost use Rattle.ob_schema.specs.Keys.{default_fits};
-ghost use Rattle.ob_schema.specs.Making.{HoldsDefault, IsNative};
-ghost use Rattle.ob_schema.specs.Values.{IsValueOf};
+ghost use Rattle.ob_schema.specs.Making.{HasSoundOrigin, HoldsDefault, IsSoundOrigin};
+ghost use Rattle.ob_schema.specs.Values.{IsNative, IsValueOf};
 
 use crate::definition::{FieldDef, ModelDef};
 use crate::definitions::{model_def, model_number, number_of};
@@ -35,6 +36,7 @@ pub(crate) fn field_info(
     requires declared { Contains def.now.fields field.now }
     ensures of { IfOk result (IsFieldOf defs.now def.now field.now) }
     ensures held { IfOk result HoldsDefault }
+    ensures sound { IfOk result (HasSoundOrigin defs.now def.now) }
 {
     Ok(FieldInfo {
         name: field.name.try_clone(alloc)?,
@@ -67,7 +69,8 @@ fn origin_of(
     requires faultless { IsFaultless defs.now }
     requires among { Contains defs.now def.now }
     requires declared { Contains def.now.fields field.now }
-    ensures { IfOk result (IsOrigin defs.now def.now field.now) }
+    ensures of { IfOk result (IsOrigin defs.now def.now field.now) }
+    ensures sound { IfOk result (IsSoundOrigin defs.now def.now) }
 {
     if field.compute.is_none() {
         return Ok(Origin::Plain);
@@ -88,8 +91,10 @@ fn typed_of(
     requires among { Contains defs.now def.now }
     requires declared { Contains def.now.fields field.now }
     requires computed { IsSome field.now.compute }
-    ensures { IfOk result
+    ensures has { IfOk result
         (λ typed. HasTyped defs.now def.now field.now (typed_tree_of typed)) }
+    ensures sound { IfOk result
+        (λ typed. IsSound (finds_in defs.now def.now) (typed_tree_of typed)) }
 {
     match examine(alloc, defs, def, field)? {
         Finding::Checked(typed) => Ok(typed),

@@ -4,15 +4,15 @@
 ghost use Rattle.std.specs.Prelude.{ℕ, ◌≡◌, ◌<◌, ◌≤◌, ◌↔◌, ◌⊎◌, ◌&&◌, ◌==◌, List, [], Any, Contains, IfOk, IsSomeAnd, IsTrue, MatchOption, count_by, length, map, not, option_copied, true, unwrap_or};
 ghost use Rattle.std.specs.List.{list_any};
 ghost use Rattle.std.specs.Str.{bytes_eq};
-ghost use Rattle.ob_base.specs.Limits.{max_expression_bytes, max_fields};
-ghost use Rattle.ob_schema.specs.Capped.{capped};
-ghost use Rattle.ob_expr.specs.Checking.{typed_tree_of};
-ghost use Rattle.ob_expr.specs.declared.parser.ExprFault.{ExprFault};
+ghost use Rattle.ob_base.specs.Limits.{max_expression_bytes};
+ghost use Rattle.ob_expr.specs.TypedTree.{paths_of, typed_tree_of};
+ghost use Rattle.ob_syntax.specs.declared.fault.ExprFault.{ExprFault};
+ghost use Rattle.ob_schema.specs.Counts.{AreCountable, max_number};
 ghost use Rattle.ob_schema.specs.declared.definition.ModelDef.{ModelDef};
 ghost use Rattle.ob_schema.specs.Definitions.{field_count, field_def, has_field, is_automatic};
 ghost use Rattle.ob_schema.specs.Faults.{HasTooMuch, HasUnknownInverse, HasUnknownRelation, HasWrongInverse, HasWrongKeys, HasWrongKind, IsDeclaredTwice, IsInverse, IsMisread, NamesNoField, is_dotted, leads_back};
-ghost use Rattle.ob_schema.specs.Findings.{DependsOnComputed, DependsOnNoField, FieldHas, IsFinding, IsFirstWrong, IsNoneBelow, IsOfWrongKind, ReadsWrongly};
-ghost use Rattle.ob_schema.specs.Formulas.{IsCovered, computed_numbers, depends_of, fields_read, names_computed, number_of};
+ghost use Rattle.ob_schema.specs.Findings.{DependsOnComputed, DependsOnNoField, FieldHas, IsFinding, IsFirstWrong, IsNoneBelow, IsOfWrongKind, ReadsWrongly, is_misread, leads_among, leads_to};
+ghost use Rattle.ob_schema.specs.Formulas.{computed_numbers, depends_of, names_computed};
 
 use crate::definition::{FieldDef, ModelDef};
 use crate::definitions::{
@@ -24,11 +24,11 @@ use crate::names::is_field_name;
 use crate::wrong::Wrong;
 use ob_base::limits::MAX_EXPRESSION_BYTES;
 use ob_base::{FieldNo, NoMemory, Word};
-use ob_expr::{ExprFault, Typed};
+use ob_expr::{Path, Typed};
+use ob_syntax::ExprFault;
 use std::alloc::Global;
 
-/// The first of what is wrong with a field. The numbers of the model's computed fields
-/// matter only where the model isn't past a limit.
+/// The first of what is wrong with a field, with the numbers of its model's computed fields.
 pub(crate) fn first_of_field(
     alloc: Global,
     defs: &[ModelDef],
@@ -36,8 +36,9 @@ pub(crate) fn first_of_field(
     field: &FieldDef,
     computed: &[FieldNo],
 ) -> Result<Option<Wrong>, NoMemory>
-    requires few { (field_count def.now ≤ max_fields) ⊎ (field.now.name ≡ []) }
-    requires numbers { field_count def.now ≤ max_fields → computed.now ≡ computed_numbers def.now }
+    requires models { AreCountable defs.now }
+    requires fields { field_count def.now ≤ max_number }
+    requires numbers { computed.now ≡ computed_numbers def.now }
     ensures { IfOk result (IsFirstWrong (FieldHas defs.now def.now field.now)) }
 {
     let finding = examine(alloc, defs, def, field)?;
@@ -50,7 +51,7 @@ pub(crate) fn first_of_field(
     if is_mixed(defs, def, field, &finding) {
         return Ok(Some(Wrong::Kind));
     }
-    Ok(later_of_field(defs, def, field, finding, computed))
+    later_of_field(alloc, defs, def, field, finding, computed)
 }
 
 /// Whether a name of the field's keys is no field.
@@ -73,33 +74,35 @@ fn is_mixed(defs: &[ModelDef], def: &ModelDef, field: &FieldDef, finding: &Findi
 
 /// The first of what is wrong with a field whose names and kinds are right.
 fn later_of_field(
+    alloc: Global,
     defs: &[ModelDef],
     def: &ModelDef,
     field: &FieldDef,
     finding: Finding,
     computed: &[FieldNo],
-) -> Option<Wrong>
-    requires few { field_count def.now ≤ max_fields }
+) -> Result<Option<Wrong>, NoMemory>
+    requires fields { field_count def.now ≤ max_number }
     requires numbers { computed.now ≡ computed_numbers def.now }
     requires finding { IsFinding defs.now def.now field.now finding }
     requires earlier { IsNoneBelow (FieldHas defs.now def.now field.now) 3 }
-    ensures { IsFirstWrong (FieldHas defs.now def.now field.now) result }
+    ensures { IfOk result (IsFirstWrong (FieldHas defs.now def.now field.now)) }
 {
     if is_declared_twice(def, field) {
-        return Some(Wrong::Twice);
+        return Ok(Some(Wrong::Twice));
     }
-    if has_wrong_path(def, field, &finding, computed) {
-        return Some(Wrong::Path);
+    let wrong_path = has_wrong_path(alloc, def, field, &finding, computed)?;
+    if wrong_path {
+        return Ok(Some(Wrong::Path));
     }
     if has_wrong_inverse(defs, def, field) {
-        return Some(Wrong::Inverse);
+        return Ok(Some(Wrong::Inverse));
     }
     if has_too_much(field) {
-        return Some(Wrong::Limit);
+        return Ok(Some(Wrong::Limit));
     }
     match text_fault(finding) {
-        Some(why) => Some(Wrong::Text(why)),
-        None => None,
+        Some(why) => Ok(Some(Wrong::Text(why))),
+        None => Ok(None),
     }
 }
 
@@ -233,94 +236,100 @@ fn named(def: &ModelDef, name: &str) -> usize
 }
 
 /// Whether the field reads or depends on what it may not.
-fn has_wrong_path(def: &ModelDef, field: &FieldDef, finding: &Finding, computed: &[FieldNo]) -> bool
-    requires few { field_count def.now ≤ max_fields }
-    requires numbers { computed.now ≡ computed_numbers def.now }
-    ensures { IsTrue result
-        ↔ (ReadsWrongly def.now field.now finding.now ⊎ DependsOnComputed def.now field.now) }
-{
-    has_wrong_reads(def, field, finding, computed) || depends_on_computed(def, field)
-}
-
-/// Whether the field's expression reads what it may not.
-fn has_wrong_reads(
+fn has_wrong_path(
+    alloc: Global,
     def: &ModelDef,
     field: &FieldDef,
     finding: &Finding,
     computed: &[FieldNo],
-) -> bool
-    requires few { field_count def.now ≤ max_fields }
+) -> Result<bool, NoMemory>
+    requires fields { field_count def.now ≤ max_number }
     requires numbers { computed.now ≡ computed_numbers def.now }
-    ensures { IsTrue result ↔ ReadsWrongly def.now field.now finding.now }
+    ensures { IfOk result (λ wrong. IsTrue wrong
+        ↔ (ReadsWrongly def.now field.now finding.now ⊎ DependsOnComputed def.now field.now)) }
+{
+    Ok(has_wrong_reads(alloc, def, field, finding, computed)? || depends_on_computed(def, field))
+}
+
+/// Whether the field's expression reads what it may not.
+fn has_wrong_reads(
+    alloc: Global,
+    def: &ModelDef,
+    field: &FieldDef,
+    finding: &Finding,
+    computed: &[FieldNo],
+) -> Result<bool, NoMemory>
+    requires fields { field_count def.now ≤ max_number }
+    requires numbers { computed.now ≡ computed_numbers def.now }
+    ensures { IfOk result
+        (λ wrong. IsTrue wrong ↔ ReadsWrongly def.now field.now finding.now) }
 {
     match finding {
-        Finding::Checked(typed) => reads_wrongly(typed, def, depends(field), computed),
-        _ => false,
+        Finding::Checked(typed) => reads_wrongly(alloc, typed, def, depends(field), computed),
+        _ => Ok(false),
     }
 }
 
-/// Whether an expression reads a field that none of these paths covers, or a computed one.
-fn reads_wrongly(typed: &Typed, def: &ModelDef, paths: &[Word], computed: &[FieldNo]) -> bool
-    requires few { field_count def.now ≤ max_fields }
+/// Whether an expression reads a path that none of these names covers, or a computed field.
+fn reads_wrongly(
+    alloc: Global,
+    typed: &Typed,
+    def: &ModelDef,
+    names: &[Word],
+    computed: &[FieldNo],
+) -> Result<bool, NoMemory>
+    requires fields { field_count def.now ≤ max_number }
     requires numbers { computed.now ≡ computed_numbers def.now }
-    ensures { IsTrue result
-        ↔ Any (IsMisread def.now paths.now) (fields_read (typed_tree_of typed.now)) }
+    ensures { IfOk result (λ wrong. IsTrue wrong
+        ↔ Any (IsMisread def.now names.now) (paths_of (typed_tree_of typed.now))) }
 {
-    match typed {
-        Typed::Field(number, _) => is_misread(*number, def, paths, computed),
-        Typed::Product(left, right) => {
-            reads_wrongly(left, def, paths, computed) || reads_wrongly(right, def, paths, computed)
-        }
-    }
+    let paths = typed.paths(alloc)?;
+    Ok(is_some_misread(paths.as_slice(), def, names, computed))
 }
 
-/// Whether none of these paths covers a field, or it is computed.
-fn is_misread(number: FieldNo, def: &ModelDef, paths: &[Word], computed: &[FieldNo]) -> bool
-    requires few { field_count def.now ≤ max_fields }
-    requires numbers { computed.now ≡ computed_numbers def.now }
-    ensures { IsTrue result ↔ IsMisread def.now paths.now number }
-{
-    is_uncovered(number, def, paths) || is_number_among(number, computed)
-}
-
-/// Whether none of these paths covers a field.
-fn is_uncovered(number: FieldNo, def: &ModelDef, paths: &[Word]) -> bool
-    requires { field_count def.now ≤ max_fields }
-    ensures { IsTrue result ↔ (IsCovered def.now paths.now number → ⊥) }
-{
-    !is_covered(number, def, paths)
-}
-
-/// Whether one of these paths covers a field.
-fn is_covered(number: FieldNo, def: &ModelDef, paths: &[Word]) -> bool
-    ensures { result ≡ list_any
-        (λ path. has_field def.now path && (capped (number_of def.now path).0 == number.0)) paths.now }
+/// Whether none of the names leads where one of these paths does, or a path leads to a
+/// computed field.
+fn is_some_misread(paths: &[Path], def: &ModelDef, names: &[Word], computed: &[FieldNo]) -> bool
+    requires { field_count def.now ≤ max_number }
+    ensures { result ≡ list_any (is_misread def.now names.now computed.now) paths.now }
 {
     paths
         .iter()
-        .any(|path| leads_to(def, path.as_str(), number))
+        .any(|path| is_misread(path, def, names, computed))
 }
 
-/// Whether a path is the name of a field, and of this one.
-fn leads_to(def: &ModelDef, path: &str, number: FieldNo) -> bool
-    ensures { result
-        ≡ (has_field def.now path.now && (capped (number_of def.now path.now).0 == number.0)) }
+/// Whether none of the names leads where a path does, or the path leads to a computed field.
+fn is_misread(path: &Path, def: &ModelDef, names: &[Word], computed: &[FieldNo]) -> bool
+    requires { field_count def.now ≤ max_number }
+    ensures { result ≡ is_misread def.now names.now computed.now path.now }
 {
-    has_field(def, path) && number_of(def, path).0 == number.0
+    !is_covered(path, def, names) || leads_among(computed, path)
 }
 
-/// Whether a number is one of these.
-fn is_number_among(number: FieldNo, numbers: &[FieldNo]) -> bool
-    ensures { IsTrue result ↔ Contains numbers.now number }
+/// Whether one of the names leads where a path does.
+fn is_covered(path: &Path, def: &ModelDef, names: &[Word]) -> bool
+    requires { field_count def.now ≤ max_number }
+    ensures { result ≡ list_any (leads_to def.now path.now) names.now }
 {
-    has_number(numbers, number)
+    names.iter().any(|name| leads_to(def, path, name.as_str()))
 }
 
-/// Whether one of these numbers is the same.
-fn has_number(numbers: &[FieldNo], number: FieldNo) -> bool
-    ensures { result ≡ list_any (λ own. own.0 == number.0) numbers.now }
+/// Whether a name is a field's, and the path leads to that field alone.
+fn leads_to(def: &ModelDef, path: &Path, name: &str) -> bool
+    requires { field_count def.now ≤ max_number }
+    ensures { result ≡ leads_to def.now path.now name.now }
 {
-    numbers.iter().any(|own| own.0 == number.0)
+    if !has_field(def, name) {
+        return false;
+    }
+    path.links().len() == 0 && number_of(def, name).0 == path.field().0
+}
+
+/// Whether a path leads to one of these fields.
+fn leads_among(numbers: &[FieldNo], path: &Path) -> bool
+    ensures { result ≡ leads_among numbers.now path.now }
+{
+    numbers.iter().any(|own| own.0 == path.field().0)
 }
 
 /// Whether the field depends on a computed one.

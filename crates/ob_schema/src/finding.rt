@@ -1,16 +1,19 @@
 //! Reading and checking the expression of a computed field. What the language gains, it
 //! gains in `ob_expr`; here stands only how its outcomes are told apart.
 
-ghost use Rattle.std.specs.Prelude.{◌≡◌, IfOk};
-ghost use Rattle.ob_expr.specs.Grammar.{tree_of};
-ghost use Rattle.ob_schema.specs.Capped.{seen_in};
+ghost use Rattle.std.specs.Prelude.{◌≡◌, ◌≤◌, IfOk};
+ghost use Rattle.ob_syntax.specs.Grammar.{tree_of};
+ghost use Rattle.ob_schema.specs.Counts.{AreCountable, max_number};
+ghost use Rattle.ob_schema.specs.Definitions.{field_count};
 ghost use Rattle.ob_schema.specs.Findings.{IsFinding, IsOutcome};
+ghost use Rattle.ob_schema.specs.Formulas.{finds_in};
 
 use crate::definition::{FieldDef, ModelDef};
 use crate::definitions::DefScope;
 use ob_base::limits::MAX_EXPRESSION_BYTES;
 use ob_base::{ModelNo, NoMemory};
-use ob_expr::{Expr, ExprFault, TypeFault, Typed, check, parse};
+use ob_expr::{TypeFault, Typed, check};
+use ob_syntax::{Expr, ExprFault, parse};
 use std::alloc::Global;
 
 /// What is found of a field's expression.
@@ -28,13 +31,15 @@ pub(crate) enum Finding {
     Checked(Typed),
 }
 
-/// What is found of a field's expression over the fields of its model.
+/// What is found of a field's expression, in its model.
 pub(crate) fn examine(
     alloc: Global,
     defs: &[ModelDef],
     def: &ModelDef,
     field: &FieldDef,
 ) -> Result<Finding, NoMemory>
+    requires models { AreCountable defs.now }
+    requires fields { field_count def.now ≤ max_number }
     ensures { IfOk result (IsFinding defs.now def.now field.now) }
 {
     let Some(text) = &field.compute else {
@@ -57,9 +62,11 @@ fn outcome(
     defs: &[ModelDef],
     def: &ModelDef,
 ) -> Result<Finding, NoMemory>
-    ensures { IfOk result (IsOutcome (seen_in defs.now def.now) (tree_of expr.now)) }
+    requires models { AreCountable defs.now }
+    requires fields { field_count def.now ≤ max_number }
+    ensures { IfOk result (IsOutcome (finds_in defs.now def.now) (tree_of expr.now)) }
 {
-    match check(alloc, expr, &DefScope { defs, def }, ModelNo(0)) {
+    match check(alloc, expr, &DefScope::new(defs, def), ModelNo(0)) {
         Ok(typed) => Ok(Finding::Checked(typed)),
         Err(TypeFault::Name(_)) => Ok(Finding::Unknown),
         Err(TypeFault::Kind(_)) => Ok(Finding::Mixed),

@@ -1,6 +1,6 @@
 //! Models as definitions: what a module's text declares, and the registry that is
-//! built from it, with every name resolved. So far a model's fields are plain, or
-//! computed over plain fields of their own row. Its contract: `build` accepts only
+//! built from it, with every name resolved. Expressions are the whole language; so far
+//! they may read plain fields of their own row. Its contract: `build` accepts only
 //! definitions without a fault, else it names their first fault in the stated order, where
 //! memory suffices; and each look-up is that of the list of models.
 //!

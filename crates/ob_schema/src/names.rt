@@ -1,9 +1,9 @@
 //! The forms of names of models and fields. A byte that names may have is added in
-//! `specs/Lexemes` of ob_expr and here.
+//! `specs/Lexemes` of ob_syntax and here.
 
 ghost use Rattle.std.specs.Prelude.{◌≡◌, ◌||◌, ◌==◌};
 ghost use Rattle.std.specs.List.{list_all};
-ghost use Rattle.ob_expr.specs.Lexemes.{begins_with_letter, is_letter, is_name_byte};
+ghost use Rattle.ob_syntax.specs.Lexemes.{begins_with_letter, is_letter, is_name_byte};
 ghost use Rattle.ob_schema.specs.Names.{is_field_name, is_model_name};
 
 /// The length in bytes of a name.

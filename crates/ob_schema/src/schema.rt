@@ -25,7 +25,7 @@ impl Model for Schema {
     ghost use Rattle.ob_schema.specs.Models.{IsRegistry};
     ghost use Rattle.ob_schema.specs.NameIndex.{IsIndexOf};
     ghost use Rattle.ob_schema.specs.declared.info.ModelInfo.{ModelInfo};
-    ghost use Rattle.ob_expr.specs.contracts.checker.Typed as typed;
+    ghost use Rattle.ob_expr.specs.contracts.typed.Typed as typed;
     ghost use Rattle.std.specs.Coded.{codes};
 
     ghost coded = { Prim.hlevel (codes, typed.the_row.coded) };

@@ -3,6 +3,7 @@
 
 use crate::{FieldDef, FieldType, ModelDef, OrderTerm, Schema, SchemaFault, Spot};
 use ob_base::{FieldNo, ModelNo, NoMemory, Sequence, Word};
+use ob_syntax::ExprFault;
 use std::alloc::Global;
 use std::test::Fail;
 
@@ -18,6 +19,24 @@ const CASES: &str = "
     name  |             |                   |           |      | 0/name: declared twice
     owner |             |                   | demo.none |      | 0/owner: unknown model
     lines |             |                   | demo.line | name | 0/lines: wrong inverse
+";
+
+/// A field `total` beside `done`, `qty`, `parent_id` and `parts`: its expression, its declared
+/// paths, and what a build of the model tells.
+const EXPRESSIONS: &str = "
+    if(done, qty, -qty)                  | done qty  | none
+    count(parts)                         | parts     | none
+    id + 1                               |           | none
+    min2(qty, 12) * 2 - (qty + 1) mod 5  | qty       | none
+    if(done, qty, 'none')                | done qty  | 0/total: wrong kind
+    done and qty > 1                     | done qty  | 0/total: wrong kind
+    unset                                |           | 0/total: wrong kind
+    qty.done                             | qty done  | 0/total: wrong kind
+    parent_id.qty                        | parent_id | 0/total: wrong path
+    count(parts, done)                   | parts     | 0/total: wrong path
+    parent_id.cost                       | parent_id | 0/total: unknown field
+    cost(qty)                            | qty       | 0/total: unknown field
+    if(done, qty                         | done qty  | 0/total: wrong expression
 ";
 
 /// A key that is given where its text isn't empty.
@@ -80,6 +99,20 @@ fn line_model(alloc: Global, field: FieldDef) -> Result<ModelDef, NoMemory> {
     })
 }
 
+/// `demo.part`, a tree of parts, with `done`, `qty` and one field more.
+fn part_model(alloc: Global, field: FieldDef) -> Result<ModelDef, NoMemory> {
+    let mut fields = Sequence::new(alloc);
+    fields.push(FieldDef::plain(alloc, "done", FieldType::Boolean)?)?;
+    fields.push(FieldDef::plain(alloc, "qty", FieldType::Integer)?)?;
+    fields.push(relation_field(alloc, "parent_id", "demo.part", "")?)?;
+    fields.push(relation_field(alloc, "parts", "demo.part", "parent_id")?)?;
+    fields.push(field)?;
+    Ok(ModelDef {
+        fields,
+        ..ModelDef::plain(alloc, "demo.part")?
+    })
+}
+
 fn spot(fault: &SchemaFault) -> Option<&Spot> {
     match fault {
         SchemaFault::Model(spot)
@@ -124,6 +157,32 @@ fn faults_of_fields(rt: HostRuntime) -> Result<(), Fail> {
         let defs = [line_model(rt.alloc(), field)?];
         assert_eq!(rt; told(rt.alloc(), &defs)?.as_str(), *wanted, "{line}");
     }
+    Ok(())
+}
+
+#[test]
+fn expressions(rt: HostRuntime) -> Result<(), Fail> {
+    for line in EXPRESSIONS.lines() {
+        let cells: Vec<&str> = line.split('|').map(|cell| cell.trim()).collect(rt.alloc())?;
+        let [compute, depends, wanted] = cells.as_slice() else {
+            assert_eq!(rt; line.trim(), "");
+            continue;
+        };
+        let field = computed_field(rt.alloc(), "total", compute, depends)?;
+        let defs = [part_model(rt.alloc(), field)?];
+        assert_eq!(rt; told(rt.alloc(), &defs)?.as_str(), *wanted, "{line}");
+    }
+    Ok(())
+}
+
+#[test]
+fn place_of_a_wrong_token(rt: HostRuntime) -> Result<(), Fail> {
+    let field = computed_field(rt.alloc(), "total", "if(done, qty]", "done qty")?;
+    let defs = [part_model(rt.alloc(), field)?];
+    let Err(SchemaFault::Text(_, why)) = Schema::build(rt.alloc(), &defs) else {
+        return Err(Fail::new("no fault of the text"));
+    };
+    assert_eq!(rt; why, ExprFault::At(12));
     Ok(())
 }
 

@@ -147,7 +147,8 @@ body_serves models old now moment rose body reply envelope kept_now now_is is se
 
 -- the refusal of a body at a place, with the id that was read, serves it
 pub fault_serves : (models : List ModelInfo) (store : Store) (old : Tables) (now : ℤ) (rose : Type 0) (body reply : List ℕ) (fault : Fault) (kept_now : Option Store)
-    → envelope_of ExecuteKw body ≡ Err fault → Stands models kept_now store old → MayTell reply (malformed_text models fault.id fault.place) → Serves models old now rose (request_of models (envelope_of ExecuteKw body)) reply kept_now
+    → envelope_of ExecuteKw body ≡ Err fault → Stands models kept_now store old → MayTell reply (malformed_text models fault.id fault.place)
+    → Serves models old now rose (request_of models (envelope_of ExecuteKw body)) reply kept_now
 fault_serves models store old now rose body reply fault kept_now is stands (inl tells) = rw is (serves_unchanged models store old now rose (request_of models (Err fault)) reply kept_now stands (inl (tells, refl)))
 fault_serves models store old now rose body reply fault kept_now is stands (inr unmade) = rw is (serves_unchanged models store old now rose (request_of models (Err fault)) reply kept_now stands (inr (refl, inl unmade)))
 
@@ -170,7 +171,8 @@ pub empty_object : (map : BTreeMap (String Global) Value) → IsEmpty map → vi
 empty_object map empty = view-Object map ∙ ap (λ entries. object (members_view entries)) empty
 
 -- arguments by name, seen by their data: none where they are absent
-pub named_or_none : (found : Option (Bor Value)) (none chosen : Bor Value) → view none.now ≡ object no_members → chosen ≡ unwrap_or found none → view chosen.now ≡ unwrap_or (option_map (λ kw. view kw.now) found) (object no_members)
+pub named_or_none : (found : Option (Bor Value)) (none chosen : Bor Value) → view none.now ≡ object no_members → chosen ≡ unwrap_or found none
+    → view chosen.now ≡ unwrap_or (option_map (λ kw. view kw.now) found) (object no_members)
 named_or_none None none chosen empty is = rw is empty
 named_or_none (Some kw) none chosen empty is = rw is refl
 

@@ -166,5 +166,6 @@ row_answered (Some store) (Some other) at_0 [] row h some item = absurd (omega a
 row_answered (Some store) (Some other) at_0 (first ∷ rows) row h some item =
     let same : other ≡ store = let s = h.same in cc in
     let row_is : first ≡ row = sym item in
-    let least = first_is_least store (sym h.told_at_0 ∙ none_is at_0 h.none) (subst RowsNamed same h.named) first rows (subst (λ (s : Store). first ∷ rows ≡ take 1 (rows_after s (record { 0 = 1 }) (record { 0 = 0 }))) same h.told) in
+    let least = first_is_least store (sym h.told_at_0 ∙ none_is at_0 h.none) (subst RowsNamed same h.named) first rows
+    (subst (λ (s : Store). first ∷ rows ≡ take 1 (rows_after s (record { 0 = 1 }) (record { 0 = 0 }))) same h.told) in
     subst (λ (r : KeptRow). IsLeastRow store r.id.0) row_is least

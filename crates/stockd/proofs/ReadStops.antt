@@ -87,7 +87,8 @@ stops_at_end {stream} {old} {new} {before} {left} {lines} h e =
 parted : (front held part now : List ℕ) → front ++ (held ++ (part ++ now)) ≡ (front ++ (held ++ part)) ++ now
 parted front held part now = simp append_assoc
 
-pub stops_failed : {stream : List ℕ} {old new : Reading} {before left : Option (List ℕ)} {lines : List (List ℕ)} → HasRead stream old before lines → StopsInLine old new before left → StopsReading ending.ReadFault stream left lines
+pub stops_failed : {stream : List ℕ} {old new : Reading} {before left : Option (List ℕ)} {lines : List (List ℕ)} → HasRead stream old before lines → StopsInLine old new before left
+    → StopsReading ending.ReadFault stream left lines
 stops_failed {stream} {old} {new} {before} {left} {lines} h s =
     let now = told_after h s.part s.given in
     let read = whole_lines lines ++ (old.held ++ s.part) in
@@ -119,7 +120,8 @@ stops_too_long {stream} {old} {before} {left} {lines} number part h counted long
       );
     }
 
-pub stops_no_memory : {stream : List ℕ} {old : Reading} {before left : Option (List ℕ)} {lines : List (List ℕ)} (part : List ℕ) → HasRead stream old before lines → GivesPart before left part → StopsReading ending.NoMemory stream left lines
+pub stops_no_memory : {stream : List ℕ} {old : Reading} {before left : Option (List ℕ)} {lines : List (List ℕ)} (part : List ℕ) → HasRead stream old before lines → GivesPart before left part
+    → StopsReading ending.NoMemory stream left lines
 stops_no_memory {stream} {old} {before} {left} {lines} part h given =
     let now = told_after h part given in record {
       left = now.0;

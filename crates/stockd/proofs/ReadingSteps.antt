@@ -39,7 +39,8 @@ takes_piece held rest line front lines lines' consumed consumed' count step at b
       consumed = rw (line_size-is held, ← at, ← stepped) taken;
     }
 
-pub piece_too_long-by_line : (held line : List ℕ) (lines consumed count : ℕ) → count ≡ feed_at held → max_line_bytes < length line + count → IsPieceTooLong (record { held = held; line = line; lines = lines; consumed = consumed })
+pub piece_too_long-by_line : (held line : List ℕ) (lines consumed count : ℕ) → count ≡ feed_at held → max_line_bytes < length line + count
+    → IsPieceTooLong (record { held = held; line = line; lines = lines; consumed = consumed })
 piece_too_long-by_line held line lines consumed count at long =
     inl (omega (arith, length-append line (line_front held), length-line_front held))
 
@@ -89,7 +90,8 @@ within_start old now left e = record {
   consumed = rw e (omega arith);
 }
 
-pub within_fill : {old now next : Reading} {before mid left : Option (List ℕ)} → IsWithinLine old now before mid → now.held ≡ [] → GivesPart mid left next.held → next ≡ record now { held = next.held } → IsWithinLine old next before left
+pub within_fill : {old now next : Reading} {before mid left : Option (List ℕ)} → IsWithinLine old now before mid → now.held ≡ [] → GivesPart mid left next.held → next ≡ record now { held = next.held }
+    → IsWithinLine old next before left
 within_fill {old} {now} {next} {before} {mid} {left} h none given e =
     let line : next.line ≡ now.line = ap (λ (r : Reading). r.line) e in
     let lines : next.lines ≡ now.lines = ap (λ (r : Reading). r.lines) e in

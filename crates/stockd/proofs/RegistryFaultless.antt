@@ -5,13 +5,16 @@ use Rattle.std.specs.Str.{bytes_eq}
 use Rattle.std.proofs.lemmas.Bool.{false≢true}
 use Rattle.std.proofs.lemmas.Option.{same_Some}
 use Rattle.ob_base.specs.declared.id.FieldNo.{FieldNo}
-use Rattle.ob_expr.specs.declared.checker.Kind.TheVariants as kind
 use Rattle.ob_expr.specs.declared.checker.TypeFault.{TypeFault}
 use Rattle.ob_expr.specs.declared.checker.TypeFault.TheVariants as type_fault
-use Rattle.ob_expr.specs.declared.parser.ExprFault.{ExprFault}
-use Rattle.ob_expr.specs.Checking.{TypedTree, field, kind_of, times, typed_of}
-use Rattle.ob_expr.specs.Grammar.{Tree}
-use Rattle.ob_expr.specs.Lexemes.{is_name_byte, lexemes}
+use Rattle.ob_expr.specs.declared.kind.Kind.TheVariants as kind
+use Rattle.ob_expr.specs.Checking.{typed_of}
+use Rattle.ob_expr.specs.Route.{Route}
+use Rattle.ob_expr.specs.TypedTree.{TypedTree, binary, kind_of, path, paths_of}
+use Rattle.ob_syntax.specs.declared.fault.ExprFault.{ExprFault}
+use Rattle.ob_syntax.specs.declared.sign.Operator.TheVariants.{Multiply}
+use Rattle.ob_syntax.specs.Grammar.{Tree}
+use Rattle.ob_syntax.specs.Lexemes.{is_name_byte, lexemes}
 use Rattle.ob_schema.specs.declared.definition.FieldDef.{FieldDef}
 use Rattle.ob_schema.specs.declared.definition.ModelDef.{ModelDef}
 use Rattle.ob_schema.specs.declared.fault.SchemaFault.TheVariants as fault
@@ -24,7 +27,7 @@ use Rattle.ob_schema.specs.Definitions.{has_field, is_automatic, plain_field}
 use Rattle.ob_schema.specs.Keys.{fits}
 use Rattle.ob_schema.specs.Faults.{IsFirst, IsFaulty, IsInverse, is_dotted, is_unserved, AtEntry, AtField, HasExpression, HasTerm, HasTooMuch, HasTree, HasTyped, HasUnknownInverse}
 use Rattle.ob_schema.specs.Faults.{HasUnknownRelation, HasWrongInverse, HasWrongKey, HasWrongKeys, HasWrongKind, HasWrongPath, IsDeclaredTwice, IsFaultless, IsMisread, IsNamedBefore, IsPastLimit, IsTextFault, NamesNoField, NamesNoModel}
-use Rattle.ob_schema.specs.Formulas.{IsExpression, computed_numbers, depends_of, fields_read, found_in, names_computed, number_of}
+use Rattle.ob_schema.specs.Formulas.{IsExpression, computed_numbers, depends_of, finds_in, names_computed, number_of, own_model}
 use Rattle.stockd.specs.Model.{line_def, line_defs, subtotal_field}
 use Rattle.stockd.proofs.RegistryText.{OneTree, no_text_fault, subtotal_expression, subtotal_tree}
 
@@ -94,20 +97,24 @@ subtotal_has one tree has =
     let is : IsExpression (codes "qty * price") tree = subst (λ (text : List ℕ). IsExpression text tree) (subtotal_text has.text has.expression.given) has.is_tree in
     one (lexemes (codes "qty * price")) tree subtotal_tree is.spells subtotal_expression.spells
 
+-- the path to an integer of the row itself
+abbrev own_route : List ℕ → Route
+own_route name = record { links = []; field = number_of line_def name; kind = kind.Int }
+
 -- the product of the two fields
 abbrev subtotal_typed : TypedTree
-subtotal_typed = times (field (number_of line_def (codes "qty")) kind.Int) (field (number_of line_def (codes "price")) kind.Int)
+subtotal_typed = binary Multiply (path (own_route (codes "qty"))) (path (own_route (codes "price")))
 
 -- which is checked
-subtotal_checks : OneTree → (tree : Tree) → HasTree subtotal_field tree → typed_of (found_in line_defs line_def) tree ≡ Ok subtotal_typed
-subtotal_checks one tree has = ap (λ (t : Tree). typed_of (found_in line_defs line_def) t) (subtotal_has one tree has)
+subtotal_checks : OneTree → (tree : Tree) → HasTree subtotal_field tree → typed_of (finds_in line_defs line_def) own_model tree ≡ Ok subtotal_typed
+subtotal_checks one tree has = ap (λ (t : Tree). typed_of (finds_in line_defs line_def) own_model t) (subtotal_has one tree has)
 
 -- and nothing else comes of the check
 subtotal_is : OneTree → (typed : TypedTree) → HasTyped line_defs line_def subtotal_field typed → typed ≡ subtotal_typed
 subtotal_is one typed has = let known = subtotal_checks one has.tree has.has_tree in let found = has.checked in cc
 
 -- so that the check refuses nothing
-subtotal_passes : OneTree → (tree : Tree) (why : TypeFault) → HasTree subtotal_field tree → typed_of (found_in line_defs line_def) tree ≡ Err why → ⊥
+subtotal_passes : OneTree → (tree : Tree) (why : TypeFault) → HasTree subtotal_field tree → typed_of (finds_in line_defs line_def) own_model tree ≡ Err why → ⊥
 subtotal_passes one tree why has refused = let known = subtotal_checks one tree has in absurd (cc)
 
 -- ---- the entry as a whole
@@ -232,10 +239,10 @@ subtotal_numbers = (refl, refl, refl)
 subtotal_path : OneTree → HasWrongPath line_defs line_def subtotal_field → ⊥
 subtotal_path one (inl (typed, has, wrong)) =
     let Wrong = IsMisread line_def (depends_of subtotal_field) in
-    any_of_two Wrong (number_of line_def (codes "qty")) (number_of line_def (codes "price"))
+    any_of_two Wrong (own_route (codes "qty")) (own_route (codes "price"))
     (λ w. elim w [ inl missing ↦ missing (0, codes "qty", lit< tt, refl, refl) | inr computed ↦ apart (codes "qty") (omega (arith, subtotal_numbers)) computed ])
     (λ w. elim w [ inl missing ↦ missing (1, codes "price", lit< tt, refl, refl) | inr computed ↦ apart (codes "price") (omega (arith, subtotal_numbers)) computed ])
-    (subst (λ (t : TypedTree). Any Wrong (fields_read t)) (subtotal_is one typed has) wrong)
+    (subst (λ (t : TypedTree). Any Wrong (paths_of t)) (subtotal_is one typed has) wrong)
 subtotal_path one (inr computed) = any_of_two (λ path. names_computed line_def path ≡ true) (codes "qty") (codes "price") (not_true (names_computed line_def (codes "qty")) refl) (not_true
     (names_computed line_def (codes "price")) refl) computed
 
@@ -301,7 +308,8 @@ faultless one (fault.Kind spot) (inr at) =
     let found = at_field line_def spot (λ def f. HasWrongKeys f ⊎ HasWrongKind line_defs def f) at in
     elim found.2 [
       | inl keys ↦ all_right_keys found.0 found.1 keys
-      | inr kinds ↦ each_field (λ f. HasWrongKind line_defs line_def f → ⊥) (plain_kind (codes "name") type.Char) (plain_kind (codes "qty") type.Integer) (plain_kind (codes "price") type.Integer) (subtotal_kind one) found.0 found.1 kinds
+      | inr kinds ↦ each_field (λ f. HasWrongKind line_defs line_def f → ⊥) (plain_kind (codes "name") type.Char) (plain_kind (codes "qty") type.Integer) (plain_kind (codes "price") type.Integer)
+          (subtotal_kind one) found.0 found.1 kinds
     ]
 faultless one (fault.Twice spot) (inl entry) =
     let found = at_entry line_def spot (IsNamedBefore line_defs spot.entry) entry in

@@ -1,22 +1,25 @@
 -- A text that spells a tree has no fault; the text of the subtotal.
-use Rattle.std.proofs.Common.{◌≡◌, ℕ, List, [], ◌∷◌, append_assoc, length, refl, subst, lit≤}
+use Rattle.std.proofs.Common.{◌≡◌, ℕ, List, [], ◌∷◌, append_assoc, length, refl, sym, subst, lit≤}
 use Rattle.std.specs.Prelude.{codes}
-use Rattle.ob_expr.specs.declared.parser.ExprFault.{ExprFault}
-use Rattle.ob_expr.specs.declared.parser.ExprFault.TheVariants as text_fault
-use Rattle.ob_expr.specs.Grammar.{Tree, named, product, Spells, SpellAtMostOneTree, a_name, a_product, IsFirstFault, at_token, at_end, IsFirstTooDeep, too_deep}
-use Rattle.ob_expr.specs.Lexemes.{Lexeme, name, lexemes, is_separator, is_name_byte, is_reserved, run_lexeme, byte_lexemes}
+use Rattle.ob_syntax.specs.declared.fault.ExprFault.{ExprFault}
+use Rattle.ob_syntax.specs.declared.fault.ExprFault.TheVariants as text_fault
+use Rattle.ob_syntax.specs.declared.sign.Operator.TheVariants.{Multiply}
+use Rattle.ob_syntax.specs.declared.sign.Sign.TheVariants.{Operator}
+use Rattle.ob_syntax.specs.Grammar.{Tree, path, binary, Spells, SpellAtMostOneTree, one_name, a_path, tighter, joined, IsFirstFault, at_token, at_end, IsFirstTooDeep, too_deep}
+use Rattle.ob_syntax.specs.Lexemes.{Lexeme, name, sign, lexemes, is_separator, is_name_byte, word_lexeme, front_cut}
+use Rattle.ob_syntax.specs.Signs.{reserved_sign, pair_sign, single_sign}
 use Rattle.ob_schema.specs.Faults.{IsTextFault}
 use Rattle.ob_schema.specs.Formulas.{IsExpression}
 
 -- tokens that spell a tree have no first fault
-no_fault_within : (end : ℕ) (tokens : List Lexeme) (offset : ℕ) (tree : Tree) → IsFirstFault end tokens offset → Spells tree tokens → ⊥
+no_fault_within : (end : ℕ) (tokens : List Lexeme) (offset : ℕ) (tree : Tree) → IsFirstFault end tokens offset → Spells 0 tree tokens → ⊥
 no_fault_within end _ _ tree (at_token front rest token stays cannot) spells = cannot (rest, tree, rw (append_assoc front (token ∷ []) rest) spells)
 no_fault_within end _ _ tree (at_end tokens stays cannot) spells = cannot tree spells
 
 -- and none with which it nests too deep, where the tree is shallow
 not_too_deep : (tokens : List Lexeme) (offset : ℕ) (text : List ℕ) (tree : Tree) → lexemes text ≡ tokens → IsFirstTooDeep tokens offset → IsExpression text tree → ⊥
 not_too_deep _ _ text tree same (too_deep front rest token stays goes cannot) is =
-    cannot (rest, tree, rw (append_assoc front (token ∷ []) rest) (subst (λ (tokens : List Lexeme). Spells tree tokens) same is.spells), is.shallow)
+    cannot (rest, tree, rw (append_assoc front (token ∷ []) rest) (subst (λ (tokens : List Lexeme). Spells 0 tree tokens) same is.spells), is.shallow)
 
 -- a text that spells a tree has no fault
 pub no_text_fault : (text : List ℕ) (why : ExprFault) (tree : Tree) → IsTextFault text why → IsExpression text tree → ⊥
@@ -30,12 +33,36 @@ OneTree = (tokens : List Lexeme) → SpellAtMostOneTree tokens
 
 -- qty * price, as it is written
 abbrev pub subtotal_tree : Tree
-subtotal_tree = product (named (codes "qty") 0) (named (codes "price") 6)
+subtotal_tree = binary Multiply (path (codes "qty" ∷ []) 0) (path (codes "price" ∷ []) 6) 0
 
--- its text spells the tree
-subtotal_spells : Spells subtotal_tree (lexemes (codes "qty * price"))
-unfolding is_separator is_name_byte is_reserved run_lexeme byte_lexemes
-subtotal_spells = a_product (named (codes "qty") 0) (name (codes "qty") 0 ∷ []) 4 (codes "price") 6 (a_name (codes "qty") 0)
+-- a name is a path of one step, as tight as can be
+one_step : (bytes : List ℕ) (at : ℕ) → Spells 7 (path (bytes ∷ []) at) (name bytes at ∷ [])
+one_step bytes at = a_path (bytes ∷ []) (name bytes at ∷ []) (one_name bytes at)
+
+-- the tokens of its text
+abbrev subtotal_tokens : List Lexeme
+subtotal_tokens = name (codes "qty") 0 ∷ sign (Operator Multiply) 4 ∷ name (codes "price") 6 ∷ []
+
+subtotal_read : lexemes (codes "qty * price") ≡ subtotal_tokens
+unfolding is_separator is_name_byte word_lexeme front_cut reserved_sign pair_sign single_sign
+subtotal_read = refl
+
+-- they spell the tree: what binds as tightly as a product serves as a whole
+subtotal_product : Spells 5 subtotal_tree subtotal_tokens
+subtotal_product =
+    let qty = path (codes "qty" ∷ []) 0 in
+    let price = path (codes "price" ∷ []) 6 in
+    let front = name (codes "qty") 0 ∷ [] in
+    let back = name (codes "price") 6 ∷ [] in
+    joined Multiply qty price front back 4 (tighter 5 qty front (tighter 6 qty front (one_step (codes "qty") 0))) (tighter 6 price back (one_step (codes "price") 6))
+
+subtotal_whole : Spells 0 subtotal_tree subtotal_tokens
+subtotal_whole =
+    tighter 0 subtotal_tree subtotal_tokens (tighter 1 subtotal_tree subtotal_tokens (tighter 2 subtotal_tree subtotal_tokens (tighter 3 subtotal_tree subtotal_tokens (tighter 4 subtotal_tree subtotal_tokens subtotal_product))))
+
+-- and so does the text
+subtotal_spells : Spells 0 subtotal_tree (lexemes (codes "qty * price"))
+subtotal_spells = subst (Spells 0 subtotal_tree) (sym subtotal_read) subtotal_whole
 
 -- and the tree is shallow
 pub subtotal_expression : IsExpression (codes "qty * price") subtotal_tree

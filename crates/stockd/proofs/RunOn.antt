@@ -52,7 +52,8 @@ abbrev pub TellsMoments : (before now : Option (ℕ → ℤ)) (body reply : List
 TellsMoments before now body reply = (now ≡ option_map (moments_after (envelope_of ExecuteKw body)) before) ⊎ ((reply ≡ no_memory_text) × (now ≡ before))
 
 -- the moments that are still to come, where a clock tells them
-pub rest_of : (before now : Option (ℕ → ℤ)) (body reply : List ℕ) (past : ℕ → ℤ) → before ≡ Some past → TellsMoments before now body reply → (rest : ℕ → ℤ) × TakesMoment body reply past rest × (now ≡ Some rest)
+pub rest_of : (before now : Option (ℕ → ℤ)) (body reply : List ℕ) (past : ℕ → ℤ) → before ≡ Some past → TellsMoments before now body reply
+    → (rest : ℕ → ℤ) × TakesMoment body reply past rest × (now ≡ Some rest)
 rest_of before now body reply past is (inl after) =
     (moments_after (envelope_of ExecuteKw body) past, inl refl, after ∙ ap (option_map (moments_after (envelope_of ExecuteKw body))) is)
 rest_of before now body reply past is (inr same) = (past, inr (same.0, refl), same.1 ∙ is)

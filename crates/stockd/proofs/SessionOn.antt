@@ -91,7 +91,8 @@ begins models start {reader} {left} now new at same = record {
 }
 
 -- there was no memory for a reader
-pub ends_at_once : (models : List ModelInfo) → IsLineRegistry models → (start : Start) {left : Option (List ℕ)} (now : Standing) → StandsAt start left now → Kept models start.store empty_tables → Session ending.NoMemory start left now
+pub ends_at_once : (models : List ModelInfo) → IsLineRegistry models → (start : Start) {left : Option (List ℕ)} (now : Standing) → StandsAt start left now → Kept models start.store empty_tables
+    → Session ending.NoMemory start left now
 ends_at_once models registry start {left} now at same =
     ends_served registry (served_none models start left now at same) start.stream ending.NoMemory at.left_is (0, record { bodies_are = refl; none_too_long = λ k below. absurd (omega arith) }) (λ replies. refl)
 
@@ -112,7 +113,8 @@ goes_on h line now read serves =
     record { lines = h.lines ++ line ∷ []; read = read; served = served_more h line now serves }
 
 -- the last line had no line feed
-pub ends_at_end : {models : List ModelInfo} (registry : IsLineRegistry models) {start : Start} {reader : Reading} {left left_now : Option (List ℕ)} {old : Standing} (h : GoesOn models start reader left old) (line : List ℕ) (now : Standing)
+pub ends_at_end : {models : List ModelInfo} (registry : IsLineRegistry models) {start : Start} {reader : Reading} {left left_now : Option (List ℕ)} {old : Standing} (h : GoesOn models start reader left old)
+    (line : List ℕ) (now : Standing)
     → HasReadAll start.stream left_now (h.lines ++ line ∷ []) → ServesMore models (bodies_of (line ∷ [])) old now → Session ending.Done start left_now now
 ends_at_end registry {start} h line now read serves =
     ends_served registry (served_more h line now serves) [] ending.Done read.none_left (

@@ -7,8 +7,8 @@ ghost use Rattle.ob_schema.specs.declared.field_type.FieldType.{FieldType};
 ghost use Rattle.stockd.specs.Model.{IsLineRegistry, line_def, subtotal_field};
 
 use ob_base::{ModelNo, NoMemory, Sequence, Word};
-use ob_expr::one_tree;
 use ob_schema::{FieldDef, FieldType, ModelDef, Schema, SchemaFault};
+use ob_syntax::one_tree;
 use std::alloc::Global;
 
 /// The name of the one model.

@@ -1,3 +1,4 @@
 pub mod Held
 pub mod Small
 pub mod Distinct
+pub mod Holding

@@ -8,6 +8,8 @@
 //! | `order FIELD [JSON,JSON]` | `Less`, `Equal` or `Greater`: how the order of values has the two |
 //! | `day TEXT`, `moment TEXT` | the number that the text names and its text again, or `none` |
 //! | `expression TEXT` | `read`, or the fault |
+//! | `kinds MODEL TEXT` | the expression's kind and the paths that it reads, or the fault |
+//! | `evaluate MODEL ID with CELL .. \| TEXT` | its kind, its value in that row or the fault, how many steps it took, and the cells that were read, in their order |
 //! | `takes ORDER WANT STOCK ..` | `quant:amount` of each take |
 //! | `lines NOW NEXT QUANT .. \| LINE ..` | the quants after the lines, or `short at` a line's number |
 //! | `state RESERVED DEMAND WAITS` | the state of such a move |
@@ -23,21 +25,28 @@
 //! ORDER is `fifo`, `lifo`, `fefo` or `closest`. An empty answer is `none`, and
 //! `not asked` stands where the call requires what isn't so.
 //!
+//! In the TEXT of an expression `\n` and `\r` stand for the ends of lines, `\` before another
+//! character for it. A MODEL is `order`, `person` or `line`, a cell `MODEL:ID:FIELD:VALUE`;
+//! `cells` says how a value is written. Without cells ` with ` may be left out. A cell that
+//! the line doesn't give has no value: to read it is a fault, `no value`.
+//!
 //! A connection in memory sends the bytes HEX, at most CUT in a read (`whole`: all). Of the
 //! door's calls the one of number FAILS fails (0: none; 1 lets the connection come). An item
 //! is `post:keep:"BODY"` or `post:close:"BODY"`, `bad:STATUS`, `ended`, `cut`, or `failed`;
 //! each message is answered by `{}`.
 //!
-//! `times N` before `row`, `body`, `value`, `expression`, `takes`, `lines`, `chain` or
-//! `http` makes that call N times and tells the last answer.
+//! `times N` before `row`, `body`, `value`, `expression`, `kinds`, `evaluate`, `takes`,
+//! `lines`, `chain` or `http` makes that call N times and tells the last answer; `evaluate`
+//! then reads and checks its text once.
 
 use crate::connections::connection;
+use crate::expressions::{evaluated, expression, kinds};
 use crate::moves::{parts_of_demand, state};
 use crate::quants::after_lines;
 use crate::removals::taken;
 use crate::routes::{chain, push};
 use crate::rows::{body_again, row_values};
-use crate::texts::{day, expression, moment};
+use crate::texts::{day, moment};
 use crate::values::{order, value};
 use ob_base::NoMemory;
 use ob_schema::Schema;
@@ -61,6 +70,8 @@ pub(crate) fn answer(alloc: Global, schema: &Schema, line: &str) -> Result<Strin
         "day" => day(alloc, rest),
         "moment" => moment(alloc, rest),
         "expression" => expression(alloc, times, rest),
+        "kinds" => kinds(alloc, times, rest),
+        "evaluate" => evaluated(alloc, times, rest),
         "http" => connection(alloc, times, rest),
         _ => stock_answer(alloc, times, word, rest),
     }

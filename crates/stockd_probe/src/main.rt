@@ -4,7 +4,8 @@
 //! an answer is, the contract of the library's call says.
 //!
 //! Rooms: `registry` has the model whose fields and rows are asked for, `answer` tells a
-//! word from another, `rows` and `values` ask ob_codec, `texts` asks ob_dates and ob_expr,
+//! word from another, `rows` and `values` ask ob_codec, `texts` asks ob_dates, `expressions`
+//! asks ob_syntax and ob_expr, over the models of `fields` and the cells of `cells`,
 //! `removals` and `quants` ask wh_quant, `moves` asks wh_move, `routes` asks wh_route,
 //! `connections` asks ob_http. `told` writes values and commands, `items` reads words of
 //! several parts, `askable` says what `move_lines` may be asked. A further library gets its
@@ -13,7 +14,10 @@
 
 mod answer;
 mod askable;
+mod cells;
 mod connections;
+mod expressions;
+mod fields;
 mod items;
 mod moves;
 mod quants;

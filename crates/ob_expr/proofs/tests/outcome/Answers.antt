@@ -1,42 +1,72 @@
-use Rattle.std.proofs.Common.{◌≡◌, ◌==◌, ◌||◌, not, if◌then◌else◌, ℕ, Bool, List, Option, Some, sym, subst, ◌∙◌, arith}
+use Rattle.std.proofs.Common.{◌≡◌, ◌==◌, ℕ, ℤ, List, [], codes, Bool, true, false, cond, Option, Some, None, option_map, subst, if◌then◌else◌, to_z, of_z, w64}
+use Rattle.std.specs.Str.{bytes_eq}
 use Rattle.ob_base.specs.declared.id.Cell.{Cell}
-use Rattle.ob_base.specs.declared.id.FieldNo.{FieldNo}
+use Rattle.ob_base.specs.declared.id.ModelNo.{ModelNo}
 use Rattle.ob_base.specs.declared.value.Value.{Value}
-use Rattle.ob_base.specs.declared.value.Value.TheVariants.{Int}
-use Rattle.ob_expr.specs.declared.checker.Found.{Found}
-use Rattle.ob_expr.specs.declared.checker.Kind.{Kind}
-use Rattle.ob_expr.specs.declared.checker.Kind.TheVariants as kind
-use Rattle.ob_expr.specs.Checking.{EachField, IsFound, TypedTree, field, times, typed_tree_of}
-use Rattle.ob_expr.specs.Meaning.{HasKind, HoldsKinds, cell_in_row}
-use Rattle.ob_expr.proofs.Trees.{EachField-map}
-use Rattle.ob_expr.specs.Reads.{MayRead}
+use Rattle.ob_base.specs.declared.value.Value.TheVariants as value
+use Rattle.ob_expr.specs.declared.kind.Found.{Found}
+use Rattle.ob_expr.specs.declared.kind.Kind.{Kind}
+use Rattle.ob_expr.specs.declared.kind.Kind.TheVariants as kind
+use Rattle.ob_expr.specs.Checking.{links_of}
+use Rattle.ob_expr.specs.Kinds.{HasKind}
+use Rattle.ob_expr.specs.Meaning.{row_of}
+use Rattle.ob_expr.specs.Reads.{PathHolds}
+use Rattle.ob_expr.specs.TypedTree.{typed_tree_of}
+use Rattle.ob_expr.proofs.Along.{comes_to}
+use Rattle.ob_expr.proofs.Holding.{NamesHold, tree-holds}
 use Rattle.ob_expr.proofs.tests.outcome.Goals as goal
 
--- where every cell may be read, so may each tree
-MayRead-whole : (has_value : Cell → Bool) (value_of : Cell → Value) (cell : Cell) (can_read : Cell → Type 0) (tree : TypedTree) → ((c : Cell) → can_read c)
-    → MayRead has_value value_of cell can_read tree
-MayRead-whole has_value value_of cell can_read (field number k) all = all (cell_in_row cell number)
-MayRead-whole has_value value_of cell can_read (times left right) all =
-    (MayRead-whole has_value value_of cell can_read left all, λ there. MayRead-whole has_value value_of cell can_read right all)
+-- the fields of the tests' model, as they are written there
+abbrev qty : Found
+qty = record { via = None; field = record { 0 = 1 }; kind = kind.Int; usable = true }
 
--- where all that is found is an integer and all that is held too, each field holds its kind
-HoldsKinds-integers : (find : List ℕ → Option Found) (held : FieldNo → Value) (tree : TypedTree)
-    → ((bytes : List ℕ) (found : Found) → find bytes ≡ Some found → found.kind ≡ kind.Int) → ((number : FieldNo) → HasKind kind.Int (held number))
-    → EachField (IsFound find) tree → HoldsKinds held tree
-HoldsKinds-integers find held tree finds holds each =
-    EachField-map (IsFound find) (λ number k. HasKind k (held number)) tree (λ number k (f : IsFound find number k).
-    let integer : kind.Int ≡ k = sym (finds f.0 f.1 f.2) ∙ f.5 in
-    let P : Kind → Type 0 = λ k. HasKind k (held number) in
-    subst P integer (holds number)) each
+abbrev price : Found
+price = record { via = None; field = record { 0 = 2 }; kind = kind.Int; usable = true }
 
-pub eval-fresh-requires-clause-readable : goal.eval-fresh-requires-clause-readable
-eval-fresh-requires-clause-readable c =
-    let row = c.args.row.now in
-    let cell : Cell = record { model = record { 0 = 1 }; id = record { 0 = 7 }; field = record { 0 = 3 } } in
-    let has_value : Cell → Bool = λ cell. (cell.field.0 == 1) || not row.price_is_lost in
-    let value_of : Cell → Value = λ cell. Int (if cell.field.0 == 1 then row.qty else row.price) in
-    MayRead-whole has_value value_of cell (λ _. Unit {0}) (typed_tree_of c.in_ok-typed.typed) (λ _. tt)
+abbrev lines : Found
+lines = record { via = None; field = record { 0 = 3 }; kind = kind.Refs (record { 0 = 1 }); usable = true }
 
-pub eval-fresh-requires-clause-held : goal.eval-fresh-requires-clause-held
-eval-fresh-requires-clause-held c =
-    HoldsKinds-integers _ _ _ (λ bytes found is. grind arith) (λ number. tt) c.in_ok-typed.ensures.found
+abbrev fields : ModelNo → List ℕ → Option Found
+fields model name =
+    if bytes_eq name (codes "qty") then Some qty
+    else if bytes_eq name (codes "price") then Some price
+    else if bytes_eq name (codes "lines") then Some lines
+    else None
+
+-- what its cells hold
+abbrev cells : ℤ → Option ℤ → Cell → Option Value
+cells q p cell =
+    if cell.field.0 == 1 then Some (value.Int q)
+    else if cell.field.0 == 2 then option_map value.Int p
+    else Some (value.Refs [])
+
+same-held : (k : Kind) (w v : Value) → HasKind k w → Some w ≡ Some v → HasKind k v
+same-held k w v has is = let same : w ≡ v = cc in subst (HasKind k) same has
+
+price-held : (p : Option ℤ) (v : Value) → option_map value.Int p ≡ Some v → HasKind kind.Int v
+price-held (Some n) v is = same-held kind.Int (value.Int n) v tt is
+price-held None v is = absurd (cc)
+
+picked : (P : Found → Type 0) (b : Bool) (x found : Found) (rest : Option Found) → P x → (rest ≡ Some found → P found) → cond b (Some x) rest ≡ Some found → P found
+picked P true x found rest has later is = let same : x ≡ found = cc in subst P same has
+picked P false x found rest has later is = later is
+
+none-found : (P : Found → Type 0) (found : Found) → None ≡ Some found → P found
+none-found P found is = absurd (cc)
+
+fields-hold : (q : ℤ) (p : Option ℤ) → NamesHold fields (cells q p)
+fields-hold q p model name found is =
+    let P : Found → Type 0 = λ f. PathHolds (cells q p) model (links_of f.via) f.field f.kind in
+    picked P (bytes_eq name (codes "qty")) qty found _ (λ id v. same-held kind.Int (value.Int q) v tt)
+    (picked P (bytes_eq name (codes "price")) price found _ (λ id v. price-held p v)
+    (picked P (bytes_eq name (codes "lines")) lines found _ (λ id v. same-held (kind.Refs (record { 0 = 1 })) (value.Refs []) v tt) (none-found P found))) is
+
+pub eval-requires-clause-readable : goal.eval-requires-clause-readable
+eval-requires-clause-readable c =
+    let q : ℤ = to_z w64 (of_z w64 c.args.qty) in
+    comes_to (cells q c.args.price) (λ (cell : Cell). Unit {0}) (row_of (record { model = record { 0 = 1 }; id = record { 0 = 7 }; field = record { 0 = 9 } })) (typed_tree_of c.in_ok-typed.typed) (λ cell along. tt)
+
+pub eval-requires-clause-held : goal.eval-requires-clause-held
+eval-requires-clause-held c =
+    let q : ℤ = to_z w64 (of_z w64 c.args.qty) in
+    tree-holds fields (cells q c.args.price) (fields-hold q c.args.price) (record { 0 = 1 }) (typed_tree_of c.in_ok-typed.typed) c.in_ok-typed.ensures.found

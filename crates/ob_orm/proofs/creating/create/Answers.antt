@@ -104,7 +104,7 @@ returns-in-Ok-clause-answer g c =
     let id = c.in_ok-id.id in
     let kept = c.in_ok-kept.kept in
     let row = row_passed models call c.in_ok-given.given.items c.as_slice.result.now values _ (moment_passed call.now c.requires.moment) c.as_slice.ensures.value c.in_ok-given.ensures.told c.in_ok-plain.ensures.value in
-    let are = subst (λ (vs : List Value). IfSome (model_at models call.model) (λ info. AreKept info id (gathered info vs) kept)) c.as_slice-2.ensures.value c.in_ok-kept.ensures.kept in
+    let are = subst (λ (vs : List Value). IfSome (model_at models call.model) (λ info. AreKept call.model info id (gathered info vs) kept)) c.as_slice-2.ensures.value c.in_ok-kept.ensures.kept in
     made_answer (g.K.Keeper.kept c.args.keeper.now) models call rose id values kept (record { json = c.from.result; changes = c.in-Ok.changes })
     (handed_on Refusal c.next_id.result id _ c.in_ok-id.ensures.cases c.next_id.ensures.told)
     c.requires.served c.in_ok-plain.ensures.plain row c.if-id-gt-MAX_ID.false are c.from.ensures (c.in-Ok.ensures ∙ ap (changes_of models call.model id) c.as_slice-3.ensures)

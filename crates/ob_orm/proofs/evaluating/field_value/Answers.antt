@@ -1,7 +1,8 @@
 use Rattle.std.proofs.lemmas.Result.{err_from_is_err_and}
 use Rattle.ob_schema.specs.Models.{IsModel, model_at}
 use Rattle.ob_orm.specs.CreateSteps.{ArePlain}
-use Rattle.ob_orm.proofs.CreateFields.{FieldIn-from_at, id_at, formula_operands, told, broken_at, computed_at, plain_at}
+use Rattle.ob_orm.specs.Served.{IsServed}
+use Rattle.ob_orm.proofs.CreateFields.{AreLaws, FieldIn-from_at, id_at, formula_operands, told, broken_at, computed_at, plain_at}
 use Rattle.ob_orm.proofs.evaluating.field_value.Goals as goal
 
 pub computed_value-requires-clause-operands : goal.computed_value-requires-clause-operands
@@ -12,7 +13,8 @@ computed_value-requires-clause-operands g c =
     let at = FieldIn-from_at models model c.args.cell.field f c.info-field.ensures in
     let valid = told (model_at models model) at.info IsModel at.model_is c.requires.valid in
     let known = told (model_at models model) at.info (λ info. ArePlain info c.args.plain.now) at.model_is c.requires.plain in
-    formula_operands at.info c.args.plain.now at.place f c.in-Computed.formula known valid at.field_is c.in-Computed.is
+    let served = told (model_at models model) at.info IsServed at.model_is c.requires.served in
+    formula_operands at.info c.args.plain.now at.place f c.in-Computed.formula known valid served at.field_is c.in-Computed.is
 
 pub returns-in-Ok-clause-kept : goal.returns-in-Ok-clause-kept
 returns-in-Ok-clause-kept g c =
@@ -20,13 +22,15 @@ returns-in-Ok-clause-kept g c =
 
 pub returns-in_ok-value-in-Computed-clause-kept : goal.returns-in_ok-value-in-Computed-clause-kept
 returns-in_ok-value-in-Computed-clause-kept g c =
-    computed_at c.args.schema.now c.args.cell c.info-field.result.now c.args.plain.now c.in-Computed.formula c.in_ok-value-in-Computed.value c.info-field.ensures c.requires.valid c.requires.served
-    c.requires.plain c.in-Computed.is c.in_ok-value-in-Computed.ensures.value c.in_ok-value-in-Computed.ensures.textual
+    let laws : AreLaws = record { along = c.reads_along_paths.ensures.meaning; gives = c.values_from_cells.ensures } in
+    computed_at laws c.args.schema.now c.args.cell c.info-field.result.now c.args.plain.now c.in-Computed.formula c.in_ok-value-in-Computed.value c.info-field.ensures c.requires.valid c.requires.served
+    c.requires.plain c.in-Computed.is c.in_ok-value-in-Computed.ensures.value c.in_ok-value-in-Computed.ensures.kind c.in_ok-value-in-Computed.ensures.native
 
 pub returns-in_err-value-in-Computed-clause-kept : goal.returns-in_err-value-in-Computed-clause-kept
 returns-in_err-value-in-Computed-clause-kept g c =
     let p = err_from_is_err_and c.from_residual.result c.from_residual.ensures.1 in
-    rw (p.1, p.2) (broken_at c.args.schema.now c.args.cell c.info-field.result.now c.args.plain.now c.in-Computed.formula c.in_err-value-in-Computed.field-0.0 c.info-field.ensures c.requires.valid
+    let laws : AreLaws = record { along = c.reads_along_paths.ensures.meaning; gives = c.values_from_cells.ensures } in
+    rw (p.1, p.2) (broken_at laws c.args.schema.now c.args.cell c.info-field.result.now c.args.plain.now c.in-Computed.formula c.in_err-value-in-Computed.field-0.0 c.info-field.ensures c.requires.valid c.requires.served
     c.requires.plain c.in-Computed.is c.in_err-value-in-Computed.ensures.value)
 
 pub returns-in-Id-clause-kept : goal.returns-in-Id-clause-kept

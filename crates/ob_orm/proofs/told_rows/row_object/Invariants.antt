@@ -4,4 +4,4 @@ use Rattle.ob_orm.proofs.ReadObjects.{IsToldTo}
 use Rattle.ob_orm.proofs.told_rows.row_object.Given as goal
 
 abbrev pub invariant-loop-number : goal.invariant-loop-number
-invariant-loop-number l = IsToldTo (model_at l.schema l.model) l.fields l.id l.values l.number-index (members_view l.members.entries)
+invariant-loop-number l = IsToldTo l.model (model_at l.schema l.model) l.fields l.id l.values l.number-index (members_view l.members.entries)

@@ -1,17 +1,10 @@
 -- What is first of the entry as a whole, and what follows for its fields.
-use Rattle.std.proofs.Common.{◌≡◌, ◌≤◌, [], refl, subst, ◌∙◌}
-use Rattle.ob_base.specs.Limits.{max_fields}
-use Rattle.ob_schema.specs.Definitions.{field_count}
+use Rattle.std.proofs.Common.{[], refl, ap, subst, ◌∙◌}
 use Rattle.ob_schema.specs.Formulas.{computed_numbers}
 use Rattle.ob_schema.specs.declared.definition.ModelDef.{ModelDef}
 use Rattle.ob_schema.specs.Findings.{EntryHas, IsFirstWrong}
-use Rattle.ob_schema.proofs.Walks.{few_fields, least_own, only_def, own_wrong}
+use Rattle.ob_schema.proofs.Walks.{entry_count, least_own, only_def, own_wrong}
 use Rattle.ob_schema.proofs.faults.first_in_entry.Goals as goal
-
-pub least_of_fields-requires-clause-few : goal.least_of_fields-requires-clause-few
-least_of_fields-requires-clause-few c = λ def at.
-    let same = only_def c.args.defs.now c.args.entry c.index-defs-entry.result def c.requires.within c.index-defs-entry.is at in
-    few_fields c.args.defs.now c.args.entry def c.in_ok-own.own c.is_none-is_whole.result c.is_none-is_whole.ensures (subst (λ (d : ModelDef). IsFirstWrong (EntryHas c.args.defs.now c.args.entry d) c.in_ok-own.own) same c.in_ok-own.ensures)
 
 pub least_of_fields-requires-clause-own : goal.least_of_fields-requires-clause-own
 least_of_fields-requires-clause-own c = λ def at.
@@ -21,9 +14,12 @@ least_of_fields-requires-clause-own c = λ def at.
 pub least_of_fields-requires-clause-numbers : goal.least_of_fields-requires-clause-numbers
 least_of_fields-requires-clause-numbers c = λ def at.
     let same = only_def c.args.defs.now c.args.entry c.index-defs-entry.result def c.requires.within c.index-defs-entry.is at in
-    λ few. c.as_slice.ensures.value ∙ subst (λ (d : ModelDef). field_count d ≤ max_fields → c.in_ok-computed.computed.items ≡ computed_numbers d) same c.in_ok-computed.ensures few
+    c.as_slice.ensures.value ∙ c.in_ok-computed.ensures ∙ ap computed_numbers same
 
 pub least_of_fields-requires-clause-least : goal.least_of_fields-requires-clause-least
 least_of_fields-requires-clause-least c = λ def at.
     let same = only_def c.args.defs.now c.args.entry c.index-defs-entry.result def c.requires.within c.index-defs-entry.is at in
     least_own c.args.defs.now c.args.entry def [] c.in_ok-own.own c.in_ok-least.least (subst (λ (d : ModelDef). IsFirstWrong (EntryHas c.args.defs.now c.args.entry d) c.in_ok-own.own) same c.in_ok-own.ensures) refl c.in_ok-least.ensures
+
+pub computed_numbers-requires : goal.computed_numbers-requires
+computed_numbers-requires c = entry_count c.args.defs.now c.args.entry c.index-defs-entry.result c.requires.models c.requires.within c.index-defs-entry.is

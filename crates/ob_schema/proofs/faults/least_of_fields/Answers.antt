@@ -1,10 +1,10 @@
 -- One field after another, each with its first fault or passed over.
-use Rattle.std.proofs.Common.{◌≡◌, ℕ, ◌+◌, inl, inr, List, length, sym, ap, subst, ◌∙◌, arith}
+use Rattle.std.proofs.Common.{◌≡◌, ℕ, ◌+◌, List, length, sym, ap, subst, ◌∙◌, arith}
 use Rattle.std.specs.Prelude.{slice_get}
 use Rattle.ob_schema.specs.declared.definition.FieldDef.{FieldDef}
 use Rattle.ob_schema.specs.Findings.{IsFaultAmong, IsLeast}
 use Rattle.ob_schema.proofs.Spots.{least_in, least_more, least_none, least_skip}
-use Rattle.ob_schema.proofs.Walks.{at_entry, passed_over}
+use Rattle.ob_schema.proofs.Walks.{at_entry, entry_count, passed_over}
 use Rattle.ob_schema.proofs.faults.least_of_fields.Goals as goal
 use Rattle.ob_schema.proofs.faults.least_of_fields.Goals.{then-may_come_first+in_ok-found, else-may_come_first}
 
@@ -13,10 +13,8 @@ loop-field-init c =
     let at = at_entry c.args.defs.now c.args.entry c.index-defs-entry.result c.requires.within c.index-defs-entry.is in
     least_none c.args.defs.now c.args.entry c.index-defs-entry.result c.args.least (c.requires.least c.index-defs-entry.result at)
 
-pub field_fault-requires-clause-few : goal.field_fault-requires-clause-few
-field_fault-requires-clause-few c =
-    let at = at_entry c.args.defs.now c.args.entry c.index-defs-entry.result c.requires.within c.index-defs-entry.is in
-    elim (c.may_come_first.ensures.0 c.if-may_come_first.true) [ inl whole ↦ inl (c.requires.few c.index-defs-entry.result at whole) | inr empty ↦ inr empty ]
+pub field_fault-requires-clause-fields : goal.field_fault-requires-clause-fields
+field_fault-requires-clause-fields c = entry_count c.args.defs.now c.args.entry c.index-defs-entry.result c.requires.models c.requires.within c.index-defs-entry.is
 
 pub field_fault-requires-clause-numbers : goal.field_fault-requires-clause-numbers
 field_fault-requires-clause-numbers c =

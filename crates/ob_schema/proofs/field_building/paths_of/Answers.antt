@@ -3,19 +3,21 @@ use Rattle.std.proofs.Common.{◌≡◌, ℕ, List, Bool, true, cond, Some, None
 use Rattle.std.proofs.lemmas.List.{take_all}
 use Rattle.ob_base.specs.declared.id.FieldNo.{FieldNo}
 use Rattle.ob_schema.specs.declared.info.Path.{Path}
-use Rattle.ob_schema.specs.Capped.{capped_field}
 use Rattle.ob_schema.specs.Definitions.{has_field}
 use Rattle.ob_schema.specs.Formulas.{number_of, steps_of}
-use Rattle.ob_schema.proofs.Clean.{same_field_number}
+use Rattle.ob_schema.proofs.Counting.{number_of-few}
 use Rattle.ob_schema.proofs.Copies.{view_more}
 use Rattle.ob_schema.proofs.field_building.paths_of.Goals as goal
+
+pub number_of-requires : goal.number_of-requires
+number_of-requires c = number_of-few c.args.def.now c.as_str.result.now c.requires.few
 
 pub loop-name-preserved : goal.loop-name-preserved
 loop-name-preserved c =
     let def = c.args.def.now in
     let name = c.name-item.result in
     let steps = λ (path : Path). Some path.steps in
-    let number = c.number_of.ensures ∙ ap (λ (m : List ℕ). capped_field (number_of def m)) c.as_str.ensures ∙ same_field_number def name c.requires.few in
+    let number = c.number_of.ensures ∙ ap (number_of def) c.as_str.ensures in
     let field : has_field def name ≡ true =
     subst (λ (m : List ℕ). has_field def m ≡ true) (sym c.name-item.is) (c.requires.fields c.loop-name.name-index name c.loop-name-test.true) in
     let path = ap (λ (l : List FieldNo). Some l) (c.in_ok-path_of.ensures ∙ ap (λ (n : FieldNo). n ∷ []) number) ∙ ap (λ (b : Bool). cond b (Some (number_of def name ∷ [])) None) (sym field) in

@@ -1,7 +1,7 @@
 -- Each test that failed rules its variant out.
 use Rattle.ob_schema.specs.declared.wrong.Wrong.TheVariants as wrong
 use Rattle.ob_schema.specs.Findings.{FieldHas}
-use Rattle.ob_schema.proofs.EntryLaws.{named_few, refuted}
+use Rattle.ob_schema.proofs.EntryLaws.{refuted}
 use Rattle.ob_schema.proofs.Variants.{from_start, is_first, past_field, past_kind, past_model}
 use Rattle.ob_schema.proofs.field_faults.first_of_field.Goals as goal
 
@@ -22,12 +22,6 @@ returns-then-is_mixed c =
     let a = past_model Has (refuted _ c.has_unknown_relation.ensures c.if-has_unknown_relation.false) in
     let b = past_field Has a (refuted _ c.has_unknown_name.ensures c.if-has_unknown_name.false) in
     is_first Has wrong.Kind (c.is_mixed.ensures.0 c.if-is_mixed.true) b
-
-pub later_of_field-requires-clause-few : goal.later_of_field-requires-clause-few
-later_of_field-requires-clause-few c = named_few c.args.field.now c.requires.few (refuted _ c.is_mixed.ensures c.if-is_mixed.false)
-
-pub later_of_field-requires-clause-numbers : goal.later_of_field-requires-clause-numbers
-later_of_field-requires-clause-numbers c = c.requires.numbers (named_few c.args.field.now c.requires.few (refuted _ c.is_mixed.ensures c.if-is_mixed.false))
 
 pub later_of_field-requires-clause-earlier : goal.later_of_field-requires-clause-earlier
 later_of_field-requires-clause-earlier c =

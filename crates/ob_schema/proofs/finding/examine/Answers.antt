@@ -1,6 +1,6 @@
 -- The one tree of the text is checked.
 use Rattle.std.proofs.Common.{arith}
-use Rattle.ob_expr.specs.Grammar.{tree_of}
+use Rattle.ob_syntax.specs.Grammar.{tree_of}
 use Rattle.ob_schema.proofs.FindingLaws.{checked_finding}
 use Rattle.ob_schema.proofs.finding.examine.Goals as goal
 

@@ -10,7 +10,8 @@ use Rattle.stockd.proofs.answer.answer.Goals as goal
 pub returns-in-Ok-clause-served : goal.returns-in-Ok-clause-served
 returns-in-Ok-clause-served g c = λ store tables moments kept_is coming_is kept sound.
     let fits : SFits w64 c.now-now.result = search rules in
-    body_serves c.args.schema.now tables _ (moments 0) _ c.args.body.now _ (seen c.in-Ok.envelope) _ (to_z-of_z _ _ fits ∙ rw coming_is at c.now-now.ensures.told) c.in-Ok.ensures.ok (c.serve.ensures.served store tables kept_is kept sound)
+    body_serves c.args.schema.now tables _ (moments 0) _ c.args.body.now _ (seen c.in-Ok.envelope) _ (to_z-of_z _ _ fits
+    ∙ rw coming_is at c.now-now.ensures.told) c.in-Ok.ensures.ok (c.serve.ensures.served store tables kept_is kept sound)
 
 pub returns-in-Err-At-clause-served : goal.returns-in-Err-At-clause-served
 returns-in-Err-At-clause-served g c = λ store tables moments kept_is coming_is kept sound.

@@ -1,0 +1,7 @@
+use Rattle.std.proofs.Common.{◌≡◌, ◌*◌, ◌^◌, take, pos, ◌+ℤ◌, neg_ℤ, ◌≤ℤ◌, fold}
+use Rattle.ob_expr.specs.Computing.{number_of}
+use Rattle.ob_expr.proofs.computing.total.Given as goal
+
+abbrev pub invariant-loop-value : goal.invariant-loop-value
+invariant-loop-value l =
+    (l.sum ≡ fold (λ sum v. sum +ℤ number_of v) (pos 0) (take l.value-index l.values)) × (neg_ℤ (pos (2 ^ 63 * l.value-index)) ≤ℤ l.sum) × (l.sum ≤ℤ pos (2 ^ 63 * l.value-index))
