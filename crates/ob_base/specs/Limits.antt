@@ -29,6 +29,10 @@ max_fields = 256
 abbrev pub max_name_bytes : ℕ
 max_name_bytes = 64
 
+-- how many checks a model may have
+abbrev pub max_checks : ℕ
+max_checks = 256
+
 -- the length in bytes of an expression
 abbrev pub max_expression_bytes : ℕ
 max_expression_bytes = 4096
@@ -36,6 +40,14 @@ max_expression_bytes = 4096
 -- how deep an expression may nest
 abbrev pub max_expression_depth : ℕ
 max_expression_depth = 24
+
+-- how many steps a path may have
+abbrev pub max_path_steps : ℕ
+max_path_steps = 6
+
+-- the greatest stratum of a field
+abbrev pub max_stratum : ℕ
+max_stratum = 8
 
 -- the length in bytes of a line of requests, without its line feed, and of an HTTP body
 abbrev pub max_line_bytes : ℕ

@@ -8,10 +8,10 @@ use Rattle.ob_base.specs.declared.value.Value.{Value}
 use Rattle.ob_base.specs.declared.value.Value.TheVariants as value
 use Rattle.ob_dates.specs.Texts.{day_from, moment_from}
 use Rattle.ob_schema.specs.Fields.{Holds}
-use Rattle.ob_schema.specs.Values.{IsValueOf}
-use Rattle.ob_schema.specs.declared.field_type.Choice.{Choice}
-use Rattle.ob_schema.specs.declared.field_type.FieldType.{FieldType}
-use Rattle.ob_schema.specs.declared.field_type.FieldType.TheVariants as type
+use Rattle.ob_definition.specs.Values.{IsValueOf}
+use Rattle.ob_definition.specs.declared.field_type.Choice.{Choice}
+use Rattle.ob_definition.specs.declared.field_type.FieldType.{FieldType}
+use Rattle.ob_definition.specs.declared.field_type.FieldType.TheVariants as type
 use Rattle.ob_schema.specs.declared.info.FieldInfo.{FieldInfo}
 use Rattle.ob_codec.specs.CommandForms.{AreOrdersJson, HasElements, IsOrderListJson}
 use Rattle.ob_codec.specs.Commands.{orders_of}

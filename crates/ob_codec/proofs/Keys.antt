@@ -6,8 +6,8 @@ use Rattle.std.specs.Str.{bytes_eq}
 use Rattle.std.proofs.lemmas.List.Folds.{list_any_at}
 use Rattle.std.proofs.lemmas.Map.Views.{Contains-from_any}
 use Rattle.std.proofs.lemmas.Slice.Eq.{bytes_eq-Decides}
-use Rattle.ob_schema.specs.Values.{keys_of}
-use Rattle.ob_schema.specs.declared.field_type.Choice.{Choice}
+use Rattle.ob_definition.specs.Values.{keys_of}
+use Rattle.ob_definition.specs.declared.field_type.Choice.{Choice}
 
 pub any_key : (text : List ℕ) (choices : List Choice) → list_any (λ (choice : Choice). bytes_eq text choice.key) choices ≡ list_any (bytes_eq text) (keys_of choices)
 any_key text [] = refl

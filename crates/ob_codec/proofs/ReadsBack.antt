@@ -13,11 +13,11 @@ use Rattle.ob_base.specs.Ids.{IsId}
 use Rattle.ob_base.specs.declared.id.RecId.{RecId}
 use Rattle.ob_base.specs.declared.value.Value.{Value}
 use Rattle.ob_base.specs.declared.value.Value.TheVariants as value
-use Rattle.ob_schema.specs.Types.{is_list}
-use Rattle.ob_schema.specs.Values.{IsKey, IsValueOf, keys_of}
-use Rattle.ob_schema.specs.declared.field_type.Choice.{Choice}
-use Rattle.ob_schema.specs.declared.field_type.FieldType.{FieldType}
-use Rattle.ob_schema.specs.declared.field_type.FieldType.TheVariants as type
+use Rattle.ob_definition.specs.Types.{is_list}
+use Rattle.ob_definition.specs.Values.{IsKey, IsValueOf, keys_of}
+use Rattle.ob_definition.specs.declared.field_type.Choice.{Choice}
+use Rattle.ob_definition.specs.declared.field_type.FieldType.{FieldType}
+use Rattle.ob_definition.specs.declared.field_type.FieldType.TheVariants as type
 use Rattle.ob_codec.specs.Commands.{id_of_number}
 use Rattle.ob_codec.specs.JsonForm.{IsJsonOf, integer_of, key_of, number_value, spelled, text_of, text_value, true_value, value_from}
 use Rattle.ob_base.specs.Chain.{◌>>=◌}

@@ -18,10 +18,10 @@ use Rattle.ob_base.specs.Times.{IsDay, IsMoment, is_day, is_moment}
 use Rattle.ob_base.specs.declared.id.RecId.{RecId}
 use Rattle.ob_base.specs.declared.value.Value.{Value}
 use Rattle.ob_base.specs.declared.value.Value.TheVariants.{Nil, Bool as Flag, Int, Word, Day, Moment, Ref, Refs}
-use Rattle.ob_schema.specs.Values.{IsText, IsKey, IsTargets, IsValueOf, keys_of}
-use Rattle.ob_schema.specs.declared.field_type.Choice.{Choice}
-use Rattle.ob_schema.specs.declared.field_type.FieldType.{FieldType}
-use Rattle.ob_schema.specs.declared.field_type.FieldType.TheVariants as type
+use Rattle.ob_definition.specs.Values.{IsText, IsKey, IsTargets, IsValueOf, keys_of}
+use Rattle.ob_definition.specs.declared.field_type.Choice.{Choice}
+use Rattle.ob_definition.specs.declared.field_type.FieldType.{FieldType}
+use Rattle.ob_definition.specs.declared.field_type.FieldType.TheVariants as type
 use Rattle.ob_codec.specs.KeptForm.{HasContent, content_of}
 use Rattle.ob_codec.specs.KeptReading.{first_byte, body_part, body_number, body_counted, body_text}
 use Rattle.ob_codec.specs.ValueReading.{tag_of, has_unset, body_content, body_flag, body_integer, body_word, body_key, body_day, body_moment, body_id, body_row_id, body_ids, body_rows}

@@ -11,10 +11,10 @@ use Rattle.ob_codec.specs.declared.input.Command.{Command}
 use Rattle.ob_codec.specs.declared.input.Command.TheVariants as command
 use Rattle.ob_codec.specs.declared.input.Input.{Input}
 use Rattle.ob_codec.specs.declared.input.Input.TheVariants as input
-use Rattle.ob_schema.specs.Values.{IsValueOf}
-use Rattle.ob_schema.specs.declared.field_type.Choice.{Choice}
-use Rattle.ob_schema.specs.declared.field_type.FieldType.{FieldType}
-use Rattle.ob_schema.specs.declared.field_type.FieldType.TheVariants as type
+use Rattle.ob_definition.specs.Values.{IsValueOf}
+use Rattle.ob_definition.specs.declared.field_type.Choice.{Choice}
+use Rattle.ob_definition.specs.declared.field_type.FieldType.{FieldType}
+use Rattle.ob_definition.specs.declared.field_type.FieldType.TheVariants as type
 use Rattle.ob_schema.specs.declared.info.FieldInfo.{FieldInfo}
 use Rattle.serde_json.specs.View.{view}
 

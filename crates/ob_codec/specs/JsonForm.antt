@@ -14,11 +14,11 @@ use Rattle.ob_codec.specs.declared.fault.CodecFault.TheVariants as fault
 use Rattle.ob_codec.specs.declared.input.Input.{Input}
 use Rattle.ob_codec.specs.declared.input.Input.TheVariants as input
 use Rattle.ob_dates.specs.Texts.{day_from, moment_from}
-use Rattle.ob_schema.specs.Types.{is_list}
-use Rattle.ob_schema.specs.Values.{keys_of}
-use Rattle.ob_schema.specs.declared.field_type.Choice.{Choice}
-use Rattle.ob_schema.specs.declared.field_type.FieldType.{FieldType}
-use Rattle.ob_schema.specs.declared.field_type.FieldType.TheVariants as type
+use Rattle.ob_definition.specs.Types.{is_list}
+use Rattle.ob_definition.specs.Values.{keys_of}
+use Rattle.ob_definition.specs.declared.field_type.Choice.{Choice}
+use Rattle.ob_definition.specs.declared.field_type.FieldType.{FieldType}
+use Rattle.ob_definition.specs.declared.field_type.FieldType.TheVariants as type
 use Rattle.serde_json.specs.Data.{Data, null, boolean, number, string, Num, unsigned, negative, float}
 use Rattle.serde_json.specs.Find.{of_integer}
 

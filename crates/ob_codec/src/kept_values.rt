@@ -5,7 +5,7 @@
 ghost use Rattle.std.specs.Prelude.{◌≡◌, IfSome, is_some};
 ghost use Rattle.std.specs.List.{list_any};
 ghost use Rattle.std.specs.Str.{bytes_eq};
-ghost use Rattle.ob_schema.specs.Values.{keys_of};
+ghost use Rattle.ob_definition.specs.Values.{keys_of};
 ghost use Rattle.ob_codec.specs.KeptReading.{IsRowResult};
 ghost use Rattle.ob_codec.specs.RowReading.{body_field, body_tagged};
 ghost use Rattle.ob_codec.specs.ValueReading.{body_content, body_flag, body_integer, body_word, body_key, body_day, body_moment, body_id, body_row_id, body_ids, body_rows};

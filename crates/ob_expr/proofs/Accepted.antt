@@ -14,13 +14,13 @@ use Rattle.ob_syntax.specs.declared.syntax.Prefix.{Prefix}
 use Rattle.ob_expr.specs.declared.typed.Aggregate.{Aggregate}
 use Rattle.ob_expr.specs.declared.typed.Aggregate.TheVariants.{Count}
 use Rattle.ob_expr.specs.Chain.{and_then, each}
-use Rattle.ob_expr.specs.Checking.{AreFound, AreAllFound, IsFound, unset_beside, beside, both, operands_of, of_kind, prefixed, operated, called, counted, gathered, targets_along, targets_of, by_function, is_row_id, route_of, part_of, part_over, part_gathered, parts_of, typed_of, whole}
+use Rattle.ob_expr.specs.Checking.{AreFound, IsFound, unset_beside, beside, both, operands_of, of_kind, prefixed, operated, called, counted, gathered, targets_along, targets_of, by_function, is_row_id, route_of, part_of, part_over, part_gathered, parts_of, typed_of, whole}
 use Rattle.ob_expr.specs.Functions.{function_of}
 use Rattle.ob_syntax.specs.Grammar.{Tree, Arguments, no_arguments, argument, offset_of_tree}
 use Rattle.ob_syntax.specs.Grammar.{integer as an_integer, a_text as some_text, truth as a_truth, unset as an_unset, path as a_path, prefix as a_prefix, binary as a_binary, call as a_call}
 use Rattle.ob_expr.specs.Kinds.{can_be_unset, same_kind}
 use Rattle.ob_expr.specs.Route.{Route}
-use Rattle.ob_expr.specs.TypedTree.{TypedTree, all_of, row_id, integer, a_text, truth, unset, path, prefix, binary, chosen, choice, joined, digits, over, kind_of, prefix_kind, takes, gathers, IsWellKinded, AreTexts}
+use Rattle.ob_expr.specs.TypedTree.{TypedTree, all_of, row_id, integer, a_text, truth, unset, path, prefix, binary, chosen, choice, joined, digits, over, kind_of, prefix_kind, takes, gathers, IsWellKinded, AreTexts, EachPathOfAll}
 use Rattle.ob_expr.proofs.Outcomes.{then_ok}
 use Rattle.ob_expr.proofs.Routes.{route_anywhere}
 
@@ -135,12 +135,12 @@ module _ (finds : ModelNo → List ℕ → Option Found) (model : ModelNo) where
       part_is (binary op t.0.0 t.0.1) o ((w.0, two.0, two.1.0, two.2.0), (two.1.1, two.2.1)) w.1
 
   texts_ok : (at : ℕ) (parts : List (Option TypedTree)) (trees : List TypedTree) → AreParts parts → each (of_kind at kind.Word) parts ≡ Ok trees
-      → AreTexts (all_of trees) × AreAllFound finds model (all_of trees)
+      → AreTexts (all_of trees) × EachPathOfAll (IsFound finds) model (all_of trees)
   texts_ok at [] trees ps is =
-      let P : List TypedTree → Type 0 = λ ts. AreTexts (all_of ts) × AreAllFound finds model (all_of ts) in
+      let P : List TypedTree → Type 0 = λ ts. AreTexts (all_of ts) × EachPathOfAll (IsFound finds) model (all_of ts) in
       subst P (same_ok [] trees is) (tt, tt)
   texts_ok at (part ∷ parts) trees ps is =
-      let P : List TypedTree → Type 0 = λ ts. AreTexts (all_of ts) × AreAllFound finds model (all_of ts) in
+      let P : List TypedTree → Type 0 = λ ts. AreTexts (all_of ts) × EachPathOfAll (IsFound finds) model (all_of ts) in
       let t = then_ok (of_kind at kind.Word part) (λ text. and_then (each (of_kind at kind.Word) parts) (λ texts. Ok (text ∷ texts))) trees is in
       let u = then_ok (each (of_kind at kind.Word) parts) (λ texts. Ok (t.0 ∷ texts)) trees t.2 in
       let text = of_kind_ok at kind.Word part t.0 ps.0 t.1 in

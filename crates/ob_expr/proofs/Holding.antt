@@ -10,10 +10,10 @@ use Rattle.ob_expr.specs.declared.kind.Found.{Found}
 use Rattle.ob_expr.specs.declared.kind.Kind.{Kind}
 use Rattle.ob_expr.specs.declared.kind.Kind.TheVariants as kind
 use Rattle.ob_expr.specs.declared.typed.Link.{Link}
-use Rattle.ob_expr.specs.Checking.{AreAllFound, AreFound, links_of, route_of, step_of, step_on, step_route}
-use Rattle.ob_expr.specs.Reads.{AllHoldKinds, HoldsKinds, PathHolds}
+use Rattle.ob_expr.specs.Checking.{AreFound, IsFound, links_of, route_of, step_of, step_on, step_route}
+use Rattle.ob_expr.specs.Reads.{HoldsKinds, PathHolds}
 use Rattle.ob_expr.specs.Route.{Route, behind, through}
-use Rattle.ob_expr.specs.TypedTree.{TypedTree, TypedTrees, no_trees, one_more, row_id, integer, a_text, truth, unset, path, prefix, binary, chosen, choice, joined, digits, over}
+use Rattle.ob_expr.specs.TypedTree.{TypedTree, TypedTrees, no_trees, one_more, row_id, integer, a_text, truth, unset, path, prefix, binary, chosen, choice, joined, digits, over, EachPathOfAll}
 use Rattle.ob_expr.proofs.Accepted.{same_ok, when_ok}
 use Rattle.ob_expr.proofs.Outcomes.{then_ok}
 
@@ -78,6 +78,6 @@ module _ (finds : ModelNo → List ℕ → Option Found) (held : Cell → Option
       tree-holds model (digits inner) found = tree-holds model inner found
       tree-holds model (over aggregate route target inner) found = (found-holds model found.0.0 route found.0.1, tree-holds target inner found.1)
 
-      all-hold : (model : ModelNo) (all : TypedTrees) → AreAllFound finds model all → AllHoldKinds held model all
+      all-hold : (model : ModelNo) (all : TypedTrees) → EachPathOfAll (IsFound finds) model all → EachPathOfAll RouteHolds model all
       all-hold model no_trees found = tt
       all-hold model (one_more tree rest) found = (tree-holds model tree found.0, all-hold model rest found.1)

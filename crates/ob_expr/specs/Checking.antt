@@ -1,5 +1,5 @@
 -- What a tree is in a scope: its names resolved and its kinds found, or the first wrong part. A form of the tree that is added has its kinds here.
-use Rattle.std.specs.Prelude.{◌≡◌, ⊤, ℕ, List, [], ◌∷◌, codes, Bool, true, false, Option, Some, None, Result, Ok, Err, if◌then◌else◌}
+use Rattle.std.specs.Prelude.{◌≡◌, ℕ, List, [], ◌∷◌, codes, Bool, true, false, Option, Some, None, Result, Ok, Err, if◌then◌else◌}
 use Rattle.std.specs.Str.{bytes_eq}
 use Rattle.ob_base.specs.declared.id.FieldNo.{FieldNo}
 use Rattle.ob_base.specs.declared.id.ModelNo.{ModelNo}
@@ -22,7 +22,7 @@ use Rattle.ob_syntax.specs.Grammar.{Tree, Arguments, no_arguments, argument, off
 use Rattle.ob_syntax.specs.Grammar.{integer as an_integer, a_text as some_text, truth as a_truth, unset as an_unset, path as a_path, prefix as a_prefix, binary as a_binary, call as a_call}
 use Rattle.ob_expr.specs.Kinds.{can_be_unset, same_kind}
 use Rattle.ob_expr.specs.Route.{Route, through, behind}
-use Rattle.ob_expr.specs.TypedTree.{TypedTree, TypedTrees, no_trees, one_more, all_of, row_id, integer, a_text, truth, unset, path, prefix, binary, chosen, choice, joined, digits, over, kind_of, prefix_kind, takes, gathers}
+use Rattle.ob_expr.specs.TypedTree.{TypedTree, all_of, EachPath, row_id, integer, a_text, truth, unset, path, prefix, binary, chosen, choice, joined, digits, over, kind_of, prefix_kind, takes, gathers}
 
 -- the link of a delegated field
 abbrev pub links_of : Option (FieldNo × ModelNo) → List Link
@@ -162,18 +162,5 @@ module _ (finds : ModelNo → List ℕ → Option Found) where
   IsFound model route = (names : List (List ℕ)) × (route_of 0 model names ≡ Ok route)
 
   -- each path is one that names stand for from a model on; over targets, from theirs
-  abbrev mutual
-    pub AreFound : ModelNo → TypedTree → Type 0
-    AreFound model (path route) = IsFound model route
-    AreFound model (prefix word inner) = AreFound model inner
-    AreFound model (binary op left right) = AreFound model left × AreFound model right
-    AreFound model (chosen which left right) = AreFound model left × AreFound model right
-    AreFound model (choice condition first second) = AreFound model condition × AreFound model first × AreFound model second
-    AreFound model (joined all) = AreAllFound model all
-    AreFound model (digits inner) = AreFound model inner
-    AreFound model (over aggregate route target inner) = IsFound model route × AreFound target inner
-    AreFound model _ = ⊤
-
-    pub AreAllFound : ModelNo → TypedTrees → Type 0
-    AreAllFound model no_trees = ⊤
-    AreAllFound model (one_more tree rest) = AreFound model tree × AreAllFound model rest
+  abbrev pub AreFound : ModelNo → TypedTree → Type 0
+  AreFound model tree = EachPath IsFound model tree

@@ -14,7 +14,7 @@ use Rattle.ob_expr.specs.Computing.{decides, is_true}
 use Rattle.ob_expr.specs.Kinds.{HasKind}
 use Rattle.ob_expr.specs.Meaning.{cell_in, row_at, ids_of, meaning, path_value}
 use Rattle.ob_expr.specs.Route.{Route}
-use Rattle.ob_expr.specs.TypedTree.{TypedTree, TypedTrees, no_trees, one_more, path, prefix, binary, chosen, choice, joined, digits, over, paths_of}
+use Rattle.ob_expr.specs.TypedTree.{TypedTree, TypedTrees, no_trees, one_more, path, prefix, binary, chosen, choice, joined, digits, over, paths_of, EachPath}
 
 -- for each item in its turn, as long as those before have a value
 abbrev pub EachInTurn : {A : Type 0} → (A → Type 0) → (A → Type 0) → List A → Type 0
@@ -43,21 +43,8 @@ module _ (held : Cell → Option Value) where
   PathHolds model (link ∷ links) field k = FieldHolds model link.field (kind.Ref link.target) × PathHolds link.target links field k
 
   -- and each field along each path of the expression
-  abbrev mutual
-    pub HoldsKinds : ModelNo → TypedTree → Type 0
-    HoldsKinds model (path route) = PathHolds model route.links route.field route.kind
-    HoldsKinds model (prefix word inner) = HoldsKinds model inner
-    HoldsKinds model (binary op left right) = HoldsKinds model left × HoldsKinds model right
-    HoldsKinds model (chosen which left right) = HoldsKinds model left × HoldsKinds model right
-    HoldsKinds model (choice condition first second) = HoldsKinds model condition × HoldsKinds model first × HoldsKinds model second
-    HoldsKinds model (joined all) = AllHoldKinds model all
-    HoldsKinds model (digits inner) = HoldsKinds model inner
-    HoldsKinds model (over aggregate route target inner) = PathHolds model route.links route.field route.kind × HoldsKinds target inner
-    HoldsKinds model _ = ⊤
-
-    pub AllHoldKinds : ModelNo → TypedTrees → Type 0
-    AllHoldKinds model no_trees = ⊤
-    AllHoldKinds model (one_more tree rest) = HoldsKinds model tree × AllHoldKinds model rest
+  abbrev pub HoldsKinds : ModelNo → TypedTree → Type 0
+  HoldsKinds model tree = EachPath (λ from route. PathHolds from route.links route.field route.kind) model tree
 
   -- the cells that a path comes to: behind a reference that is set, those of the row that it names
   abbrev pub MayReadPath : (Cell → Type 0) → Row → List Link → FieldNo → Type 0

@@ -147,3 +147,21 @@ abbrev mutual
   pub paths_of_all : TypedTrees → List Route
   paths_of_all no_trees = []
   paths_of_all (one_more tree rest) = paths_of tree ++ paths_of_all rest
+
+-- each path, from the model in which it stands; what stands over targets, from theirs
+module _ (P : ModelNo → Route → Type 0) where
+  abbrev mutual
+    pub EachPath : ModelNo → TypedTree → Type 0
+    EachPath model (path route) = P model route
+    EachPath model (prefix word inner) = EachPath model inner
+    EachPath model (binary op left right) = EachPath model left × EachPath model right
+    EachPath model (chosen which left right) = EachPath model left × EachPath model right
+    EachPath model (choice condition first second) = EachPath model condition × EachPath model first × EachPath model second
+    EachPath model (joined all) = EachPathOfAll model all
+    EachPath model (digits inner) = EachPath model inner
+    EachPath model (over aggregate route target inner) = P model route × EachPath target inner
+    EachPath model _ = ⊤
+
+    pub EachPathOfAll : ModelNo → TypedTrees → Type 0
+    EachPathOfAll model no_trees = ⊤
+    EachPathOfAll model (one_more tree rest) = EachPath model tree × EachPathOfAll model rest

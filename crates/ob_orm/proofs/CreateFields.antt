@@ -17,9 +17,9 @@ use Rattle.ob_expr.specs.Meaning.{meaning, row_of}
 use Rattle.ob_expr.specs.Reads.{GivesCellsValues, ReadsAlongPaths}
 use Rattle.ob_expr.specs.TypedTree.{TypedTree, kind_of, paths_of, typed_tree_of}
 use Rattle.ob_schema.specs.Fields.{Holds, is_kept, is_kept_from}
-use Rattle.ob_schema.specs.Values.{IsNative, IsValueOf}
-use Rattle.ob_schema.specs.declared.field_type.FieldType.{FieldType}
-use Rattle.ob_schema.specs.declared.field_type.FieldType.TheVariants as type
+use Rattle.ob_definition.specs.Values.{IsNative, IsValueOf}
+use Rattle.ob_definition.specs.declared.field_type.FieldType.{FieldType}
+use Rattle.ob_definition.specs.declared.field_type.FieldType.TheVariants as type
 use Rattle.ob_schema.specs.declared.info.FieldInfo.{FieldInfo}
 use Rattle.ob_schema.specs.declared.info.Formula.{Formula}
 use Rattle.ob_schema.specs.declared.info.ModelInfo.{ModelInfo}

@@ -22,12 +22,12 @@ use Rattle.ob_expr.specs.declared.kind.Kind.TheVariants as kind
 use Rattle.ob_expr.specs.declared.row.Row.{Row as Place}
 use Rattle.ob_schema.specs.Fields.{Column, Holds, is_kept, is_plain_from, is_plain_kept, plain_columns}
 use Rattle.ob_schema.specs.Formulas.{kind_of_type}
-use Rattle.ob_schema.specs.Keys.{is_selection}
-use Rattle.ob_schema.specs.Types.{is_list}
-use Rattle.ob_schema.specs.Values.{IsNative, IsText, IsValueOf}
-use Rattle.ob_schema.specs.declared.field_type.Choice.{Choice}
-use Rattle.ob_schema.specs.declared.field_type.FieldType.{FieldType}
-use Rattle.ob_schema.specs.declared.field_type.FieldType.TheVariants as type
+use Rattle.ob_definition.specs.Keys.{is_selection}
+use Rattle.ob_definition.specs.Types.{is_list}
+use Rattle.ob_definition.specs.Values.{IsNative, IsText, IsValueOf}
+use Rattle.ob_definition.specs.declared.field_type.Choice.{Choice}
+use Rattle.ob_definition.specs.declared.field_type.FieldType.{FieldType}
+use Rattle.ob_definition.specs.declared.field_type.FieldType.TheVariants as type
 use Rattle.ob_schema.specs.declared.info.FieldInfo.{FieldInfo}
 use Rattle.ob_schema.specs.declared.info.Formula.{Formula}
 use Rattle.ob_schema.specs.declared.info.ModelInfo.{ModelInfo}

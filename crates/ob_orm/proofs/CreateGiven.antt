@@ -24,11 +24,11 @@ use Rattle.ob_codec.specs.declared.input.Input.TheVariants as input
 use Rattle.ob_codec.specs.declared.fault.CodecFault.{CodecFault}
 use Rattle.ob_codec.specs.declared.fault.CodecFault.TheVariants as codec
 use Rattle.ob_schema.specs.Fields.{Holds}
-use Rattle.ob_schema.specs.Types.{is_list}
-use Rattle.ob_schema.specs.Values.{IsValueOf}
-use Rattle.ob_schema.specs.declared.field_type.Choice.{Choice}
-use Rattle.ob_schema.specs.declared.field_type.FieldType.{FieldType}
-use Rattle.ob_schema.specs.declared.field_type.FieldType.TheVariants as type
+use Rattle.ob_definition.specs.Types.{is_list}
+use Rattle.ob_definition.specs.Values.{IsValueOf}
+use Rattle.ob_definition.specs.declared.field_type.Choice.{Choice}
+use Rattle.ob_definition.specs.declared.field_type.FieldType.{FieldType}
+use Rattle.ob_definition.specs.declared.field_type.FieldType.TheVariants as type
 use Rattle.ob_schema.specs.declared.info.FieldInfo.{FieldInfo}
 use Rattle.ob_orm.specs.Create.{given_value, is_stamp, new_value, placed}
 use Rattle.ob_orm.specs.CreateSteps.{IsFaultAt, IsGivable}

@@ -23,9 +23,9 @@ use Rattle.ob_base.specs.declared.value.Value.TheVariants as value
 use Rattle.ob_schema.specs.Built.{id_info, moment_info}
 use Rattle.ob_schema.specs.Fields.{Column, Holds, is_plain_kept, plain_columns}
 use Rattle.ob_schema.specs.Models.{IsModel, field_at, model_at}
-use Rattle.ob_schema.specs.Types.{is_list, is_relation}
-use Rattle.ob_schema.specs.declared.field_type.FieldType.{FieldType}
-use Rattle.ob_schema.specs.declared.field_type.FieldType.TheVariants as type
+use Rattle.ob_definition.specs.Types.{is_list, is_relation}
+use Rattle.ob_definition.specs.declared.field_type.FieldType.{FieldType}
+use Rattle.ob_definition.specs.declared.field_type.FieldType.TheVariants as type
 use Rattle.ob_schema.specs.declared.info.FieldInfo.{FieldInfo}
 use Rattle.ob_schema.specs.declared.info.ModelInfo.{ModelInfo}
 use Rattle.ob_base.specs.Chain.{◌>>=◌}
@@ -35,8 +35,7 @@ use Rattle.ob_call.specs.Results.{IsResultOf}
 use Rattle.ob_orm.specs.Served.{IsServed}
 use Rattle.ob_orm.specs.Sound.{HasForms}
 use Rattle.ob_orm.specs.Tables.{Row}
-use Rattle.ob_orm.proofs.CreateColumns.{taken}
-use Rattle.ob_orm.proofs.CreateColumns.{All-at}
+use Rattle.ob_orm.proofs.CreateColumns.{taken, All-at}
 use Rattle.ob_orm.proofs.CreateFields.{tell, told}
 use Rattle.ob_orm.proofs.CreateKept.{StepIn, step_in}
 

@@ -27,11 +27,11 @@ use Rattle.ob_io.specs.declared.store.RowKey.{RowKey}
 use Rattle.ob_io.specs.Store.{Store, all_changed, in_order, link_cmp, row_at, row_key_cmp}
 use Rattle.ob_schema.specs.Fields.{Column, columns, is_plain_kept, kept_fields, plain_columns}
 use Rattle.ob_schema.specs.Models.{kept_at, model_at}
-use Rattle.ob_schema.specs.Types.{is_relation}
-use Rattle.ob_schema.specs.Values.{IsValueOf}
-use Rattle.ob_schema.specs.declared.field_type.Choice.{Choice}
-use Rattle.ob_schema.specs.declared.field_type.FieldType.{FieldType}
-use Rattle.ob_schema.specs.declared.field_type.FieldType.TheVariants as type
+use Rattle.ob_definition.specs.Types.{is_relation}
+use Rattle.ob_definition.specs.Values.{IsValueOf}
+use Rattle.ob_definition.specs.declared.field_type.Choice.{Choice}
+use Rattle.ob_definition.specs.declared.field_type.FieldType.{FieldType}
+use Rattle.ob_definition.specs.declared.field_type.FieldType.TheVariants as type
 use Rattle.ob_schema.specs.declared.info.FieldInfo.{FieldInfo}
 use Rattle.ob_schema.specs.declared.info.ModelInfo.{ModelInfo}
 use Rattle.ob_orm.specs.Create.{Breaks}

@@ -16,8 +16,7 @@ use Rattle.ob_expr.specs.declared.typed.Aggregate.{Aggregate}
 use Rattle.ob_expr.specs.declared.typed.Aggregate.TheVariants.{Count, Any, All, Sum, Extreme}
 use Rattle.ob_expr.specs.declared.typed.Link.{Link}
 use Rattle.ob_expr.specs.Chain.{and_then, each}
-use Rattle.ob_expr.specs.Computing.{Lack, overflow, too_long, zero_divisor, unread, fitted, bytes_of, joined_value, digits_value, is_true, prefixed_value, decides, divided, floor_of, rest_of, operated_value, number_of}
-use Rattle.ob_expr.specs.Computing.{chosen_value, gathered_value, total}
+use Rattle.ob_expr.specs.Computing.{Lack, overflow, too_long, zero_divisor, unread, fitted, bytes_of, joined_value, digits_value, is_true, prefixed_value, decides, divided, floor_of, rest_of, operated_value, number_of, chosen_value, gathered_value, total}
 use Rattle.ob_expr.specs.Kinds.{empty_value}
 use Rattle.ob_expr.specs.Meaning.{at_end, follow, ids_of, meaning, path_value, row_at, values_of}
 use Rattle.ob_expr.specs.TypedTree.{TypedTree, TypedTrees, no_trees, one_more, row_id, integer, a_text, truth, unset, path, prefix, binary, chosen, choice, joined, digits, over, kind_of, typed_tree_of}
@@ -26,7 +25,7 @@ use Rattle.ob_syntax.specs.declared.sign.Operator.TheVariants.{Or, And, Equal, N
 use Rattle.ob_syntax.specs.declared.syntax.Prefix.{Prefix}
 use Rattle.ob_syntax.specs.declared.syntax.Prefix.TheVariants.{Not, Minus}
 use Rattle.ob_schema.specs.Fields.{Column}
-use Rattle.ob_schema.specs.declared.field_type.FieldType.{FieldType}
+use Rattle.ob_definition.specs.declared.field_type.FieldType.{FieldType}
 use Rattle.ob_schema.specs.declared.info.Origin.{Origin}
 use Rattle.ob_schema.specs.declared.info.Origin.TheVariants as origin
 use Rattle.ob_orm.specs.Scratch.{HasValueOrBreaks, is_short, limited, text_limit, val, val_from}

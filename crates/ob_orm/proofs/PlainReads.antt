@@ -10,9 +10,9 @@ use Rattle.ob_expr.specs.declared.row.Row.{Row as Place}
 use Rattle.ob_expr.specs.declared.typed.Link.{Link}
 use Rattle.ob_expr.specs.Kinds.{HasKind}
 use Rattle.ob_expr.specs.Meaning.{ids_of, row_at}
-use Rattle.ob_expr.specs.Reads.{AllHoldKinds, EachInTurn, FieldHolds, HoldsKinds, IsAlongAny, IsAlongPath, MayRead, MayReadAll, MayReadPath, PathHolds}
+use Rattle.ob_expr.specs.Reads.{EachInTurn, FieldHolds, HoldsKinds, IsAlongAny, IsAlongPath, MayRead, MayReadAll, MayReadPath, PathHolds}
 use Rattle.ob_expr.specs.Route.{Route, behind, through}
-use Rattle.ob_expr.specs.TypedTree.{TypedTree, TypedTrees, no_trees, one_more, row_id, integer, a_text, truth, unset, path, prefix, binary, chosen, choice, joined, digits, over, paths_of, paths_of_all}
+use Rattle.ob_expr.specs.TypedTree.{TypedTree, TypedTrees, no_trees, one_more, row_id, integer, a_text, truth, unset, path, prefix, binary, chosen, choice, joined, digits, over, paths_of, paths_of_all, EachPathOfAll}
 use Rattle.ob_orm.specs.CreateSteps.{HoldsOperands, IsHeldIn, held_at}
 
 -- ---- lists
@@ -143,7 +143,7 @@ module _ (values : List Value) where
         let later = none_at_targets values route target (paths_of inner) (All-tail (IsHeldIn values) route (map (behind (through route target)) (paths_of inner)) all) in
         (path_kind model route own, kinds_held target inner later)
 
-    kinds_held_all : (model : ModelNo) (trees : TypedTrees) → All (IsHeldIn values) (paths_of_all trees) → AllHoldKinds (held_by values) model trees
+    kinds_held_all : (model : ModelNo) (trees : TypedTrees) → All (IsHeldIn values) (paths_of_all trees) → EachPathOfAll (λ from route. PathHolds (held_by values) from route.links route.field route.kind) model trees
     kinds_held_all model no_trees all = tt
     kinds_held_all model (one_more tree rest) all = (
       kinds_held model tree (All-front (IsHeldIn values) (paths_of tree) (paths_of_all rest) all),

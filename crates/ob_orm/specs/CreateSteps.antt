@@ -20,8 +20,8 @@ use Rattle.ob_schema.specs.Fields.{Column, Holds, columns, is_kept, is_plain_kep
 use Rattle.ob_io.specs.declared.store.Change.{Change}
 use Rattle.ob_io.specs.declared.store.Change.TheVariants.{Put, Next}
 use Rattle.ob_schema.specs.Models.{kept_at}
-use Rattle.ob_schema.specs.Types.{is_list}
-use Rattle.ob_schema.specs.declared.field_type.FieldType.TheVariants as type
+use Rattle.ob_definition.specs.Types.{is_list}
+use Rattle.ob_definition.specs.declared.field_type.FieldType.TheVariants as type
 use Rattle.ob_schema.specs.declared.info.FieldInfo.{FieldInfo}
 use Rattle.ob_schema.specs.declared.info.ModelInfo.{ModelInfo}
 use Rattle.ob_orm.specs.Create.{HasFault, cell_of, is_stamp}

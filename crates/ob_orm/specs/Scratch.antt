@@ -11,8 +11,8 @@ use Rattle.ob_expr.specs.Computing.{Lack, overflow, too_long, zero_divisor}
 use Rattle.ob_expr.specs.Meaning.{meaning}
 use Rattle.ob_expr.specs.TypedTree.{typed_tree_of}
 use Rattle.ob_schema.specs.Fields.{Column}
-use Rattle.ob_schema.specs.declared.field_type.FieldType.{FieldType}
-use Rattle.ob_schema.specs.declared.field_type.FieldType.TheVariants as type
+use Rattle.ob_definition.specs.declared.field_type.FieldType.{FieldType}
+use Rattle.ob_definition.specs.declared.field_type.FieldType.TheVariants as type
 use Rattle.ob_schema.specs.declared.info.Formula.{Formula}
 use Rattle.ob_schema.specs.declared.info.Origin.{Origin}
 use Rattle.ob_schema.specs.declared.info.Origin.TheVariants as origin

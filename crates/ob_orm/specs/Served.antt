@@ -1,7 +1,7 @@
 -- Which models serve calls so far.
 use Rattle.std.specs.Prelude.{◌≡◌, ◌||◌, All, Bool, true, false}
 use Rattle.ob_schema.specs.Fields.{is_kept}
-use Rattle.ob_schema.specs.Types.{is_relation}
+use Rattle.ob_definition.specs.Types.{is_relation}
 use Rattle.ob_schema.specs.declared.info.ModelInfo.{ModelInfo}
 use Rattle.ob_schema.specs.declared.info.Origin.{Origin}
 use Rattle.ob_schema.specs.declared.info.Origin.TheVariants as origin

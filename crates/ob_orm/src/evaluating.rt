@@ -8,7 +8,7 @@ ghost use Rattle.ob_expr.specs.Kinds.{HasKind};
 ghost use Rattle.ob_expr.specs.Meaning.{meaning, row_of};
 ghost use Rattle.ob_expr.specs.TypedTree.{IsWellKinded, kind_of, typed_tree_of};
 ghost use Rattle.ob_schema.specs.Fields.{Column};
-ghost use Rattle.ob_schema.specs.Values.{IsNative};
+ghost use Rattle.ob_definition.specs.Values.{IsNative};
 ghost use Rattle.ob_schema.specs.Models.{HasField, HasModel, IsModel, field_at, model_at};
 ghost use Rattle.ob_orm.specs.CreateSteps.{ArePlain, GivesField, GivesKept, GivesValue, HoldsOperands, evaluations_of, gathered, held_at};
 ghost use Rattle.ob_orm.specs.Evaluations.{HasTicked, computed_count};

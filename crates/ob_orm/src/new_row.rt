@@ -8,7 +8,7 @@ ghost use Rattle.ob_base.specs.declared.place.PathStep.TheVariants.{Key};
 ghost use Rattle.ob_codec.specs.JsonForm.{empty_value, value_from};
 ghost use Rattle.ob_schema.specs.Fields.{Holds, plain_columns};
 ghost use Rattle.ob_schema.specs.Models.{HasField, HasModel, IsModel, field_at, model_at};
-ghost use Rattle.ob_schema.specs.Types.{is_list};
+ghost use Rattle.ob_definition.specs.Types.{is_list};
 ghost use Rattle.ob_orm.specs.Create.{create_expects, is_stamp, new_row, new_value, placed, row_from};
 ghost use Rattle.ob_orm.specs.CreateSteps.{ArePlain, IsFaultAt, IsGivable, TakesValue, gathered};
 ghost use Rattle.ob_call.specs.Arguments.{AreFit};

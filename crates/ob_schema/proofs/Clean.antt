@@ -10,20 +10,21 @@ use Rattle.std.proofs.lemmas.Option.{get_or_from_slice_get, slice_get-get_or, sl
 use Rattle.ob_base.specs.Limits.{max_fields}
 use Rattle.ob_base.specs.declared.id.FieldNo.{FieldNo}
 use Rattle.ob_expr.specs.declared.typed.Typed.{Typed}
-use Rattle.ob_schema.specs.declared.definition.FieldDef.{FieldDef}
-use Rattle.ob_schema.specs.declared.definition.ModelDef.{ModelDef}
-use Rattle.ob_schema.specs.declared.fault.SchemaFault.TheVariants as fault
+use Rattle.ob_definition.specs.declared.definition.FieldDef.{FieldDef}
+use Rattle.ob_definition.specs.declared.definition.ModelDef.{ModelDef}
+use Rattle.ob_definition.specs.declared.fault.SchemaFault.TheVariants as fault
 use Rattle.ob_schema.specs.declared.finding.Finding.{Finding}
 use Rattle.ob_schema.specs.declared.finding.Finding.TheVariants as finding
 use Rattle.ob_schema.specs.declared.wrong.Wrong.{Wrong}
 use Rattle.ob_schema.specs.declared.wrong.Wrong.TheVariants as wrong
 use Rattle.ob_schema.specs.Built.{inverse_number}
 use Rattle.ob_schema.specs.Counts.{AreCountable}
-use Rattle.ob_schema.specs.Definitions.{field_count, has_field, is_given_text, model_def}
+use Rattle.ob_definition.specs.Definitions.{is_given_text}
+use Rattle.ob_schema.specs.Definitions.{field_count, has_field, model_def}
 use Rattle.ob_schema.specs.Faults.{IsFaultless, is_dotted}
 use Rattle.ob_schema.specs.Findings.{EntryHas, FieldHas, IsFinding, fault_at}
 use Rattle.ob_schema.specs.Formulas.{depends_of, number_of}
-use Rattle.ob_schema.specs.Keys.{fits}
+use Rattle.ob_definition.specs.Keys.{fits}
 use Rattle.ob_schema.proofs.FindingLaws.{unknown_names, unreadable, wrong_kind}
 use Rattle.ob_schema.proofs.Spots.{faulty_entry, faulty_field, field_spot, whole_spot}
 

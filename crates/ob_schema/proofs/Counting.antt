@@ -16,10 +16,11 @@ use Rattle.std.proofs.lemmas.List.Sums.{count_by-le-length, passes_at_first, sum
 use Rattle.std.proofs.lemmas.Option.{get_or_from_slice_get, slice_get_within}
 use Rattle.std.proofs.lemmas.Slice.Eq.{bytes_eq-Decides}
 use Rattle.ob_base.specs.Limits.{max_fields}
-use Rattle.ob_schema.specs.declared.definition.FieldDef.{FieldDef}
-use Rattle.ob_schema.specs.declared.definition.ModelDef.{ModelDef}
+use Rattle.ob_definition.specs.declared.definition.FieldDef.{FieldDef}
+use Rattle.ob_definition.specs.declared.definition.ModelDef.{ModelDef}
 use Rattle.ob_schema.specs.Counts.{AreCountable, max_number}
-use Rattle.ob_schema.specs.Definitions.{automatic_names, field_count, field_def, has_field, is_automatic}
+use Rattle.ob_definition.specs.Definitions.{automatic_names, is_automatic}
+use Rattle.ob_schema.specs.Definitions.{field_count, field_def, has_field}
 use Rattle.ob_schema.specs.Formulas.{names_of, number_of}
 
 -- ---- a name that is there is not below itself

@@ -9,14 +9,14 @@ use Rattle.std.proofs.lemmas.List.Folds.{Any-from_list_any}
 use Rattle.std.proofs.lemmas.Slice.Eq.{bytes_eq-Decides}
 use Rattle.ob_base.specs.declared.value.Value.{Value}
 use Rattle.ob_base.specs.declared.value.Value.TheVariants as value
-use Rattle.ob_schema.specs.declared.definition.FieldDef.{FieldDef}
-use Rattle.ob_schema.specs.declared.field_type.Choice.{Choice}
-use Rattle.ob_schema.specs.declared.field_type.FieldType.{FieldType}
-use Rattle.ob_schema.specs.declared.field_type.FieldType.TheVariants as type
-use Rattle.ob_schema.specs.Definitions.{is_computed, is_set}
-use Rattle.ob_schema.specs.Keys.{computed_fits, default_fits, fits, has_choice_key, is_constant, is_selection, ondelete_fits, plain_fits, relation_fits}
-use Rattle.ob_schema.specs.Types.{is_relation}
-use Rattle.ob_schema.specs.Values.{IsNative, IsValueOf, keys_of}
+use Rattle.ob_definition.specs.declared.definition.FieldDef.{FieldDef}
+use Rattle.ob_definition.specs.declared.field_type.Choice.{Choice}
+use Rattle.ob_definition.specs.declared.field_type.FieldType.{FieldType}
+use Rattle.ob_definition.specs.declared.field_type.FieldType.TheVariants as type
+use Rattle.ob_definition.specs.Definitions.{is_computed, is_set}
+use Rattle.ob_definition.specs.Keys.{computed_fits, default_fits, fits, has_choice_key, is_constant, is_selection, ondelete_fits, plain_fits, relation_fits}
+use Rattle.ob_definition.specs.Types.{is_relation}
+use Rattle.ob_definition.specs.Values.{IsNative, IsValueOf, keys_of}
 
 within : (n limit : ℕ) → nat_le n limit ≡ true → n ≤ limit
 within n limit e = grind (arith, nat_tests)

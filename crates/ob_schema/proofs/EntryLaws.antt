@@ -6,11 +6,11 @@ use Rattle.std.proofs.lemmas.Bool.{false≢true}
 use Rattle.std.proofs.lemmas.List.Folds.{Any-from_list_any, list_any-from_Any}
 use Rattle.std.proofs.lemmas.Option.{get_or_from_slice_get, slice_get-get_or}
 use Rattle.std.proofs.lemmas.Slice.Eq.{bytes_eq-Decides}
-use Rattle.ob_schema.specs.declared.definition.ModelDef.{ModelDef}
-use Rattle.ob_schema.specs.declared.orders.OrderEntry.{OrderEntry}
-use Rattle.ob_schema.specs.Definitions.{is_given_text}
+use Rattle.ob_definition.specs.declared.definition.ModelDef.{ModelDef}
+use Rattle.ob_definition.specs.declared.orders.OrderEntry.{OrderEntry}
+use Rattle.ob_definition.specs.Definitions.{is_given_text}
 use Rattle.ob_schema.specs.Faults.{HasTerm, IsNamedBefore}
-use Rattle.ob_schema.specs.Orders.{Term, order_terms, terms_of}
+use Rattle.ob_definition.specs.Orders.{Term, order_terms, terms_of}
 
 -- ---- the terms of an order
 

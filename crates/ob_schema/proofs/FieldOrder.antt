@@ -17,16 +17,16 @@ use Rattle.std.proofs.lemmas.List.Sorted.{ranks_by, sorted_far}
 use Rattle.std.proofs.lemmas.List.Sums.{sum_by-append, sum_by-cons}
 use Rattle.std.proofs.lemmas.Slice.Eq.{bytes_eq-Decides}
 use Rattle.ob_syntax.specs.Lexemes.{begins_with_letter, is_name_byte}
-use Rattle.ob_schema.specs.declared.definition.FieldDef.{FieldDef}
-use Rattle.ob_schema.specs.declared.definition.ModelDef.{ModelDef}
+use Rattle.ob_definition.specs.declared.definition.FieldDef.{FieldDef}
+use Rattle.ob_definition.specs.declared.definition.ModelDef.{ModelDef}
 use Rattle.ob_schema.specs.declared.info.FieldInfo.{FieldInfo}
 use Rattle.ob_schema.specs.declared.wrong.Wrong.TheVariants as wrong
 use Rattle.ob_schema.specs.Built.{IsFieldIn, IsFieldOf, automatic_infos, id_info, moment_info}
-use Rattle.ob_schema.specs.Definitions.{is_automatic}
+use Rattle.ob_definition.specs.Definitions.{is_automatic}
 use Rattle.ob_schema.specs.Faults.{IsFaultless}
 use Rattle.ob_schema.specs.Making.{AreUnsorted}
 use Rattle.ob_schema.specs.Models.{AreInOrder}
-use Rattle.ob_schema.specs.Names.{is_field_name}
+use Rattle.ob_definition.specs.Names.{is_field_name}
 use Rattle.ob_schema.proofs.Clean.{clean_field}
 
 -- ---- counts

@@ -14,19 +14,19 @@ use Rattle.ob_syntax.specs.declared.fault.ExprFault.{ExprFault}
 use Rattle.ob_syntax.specs.declared.fault.ExprFault.TheVariants as text_fault
 use Rattle.ob_syntax.specs.Grammar.{Tree, Spells, depth, IsFirstFault, at_token, at_end, IsFirstTooDeep, too_deep}
 use Rattle.ob_syntax.specs.Lexemes.{Lexeme, lexemes}
-use Rattle.ob_schema.specs.declared.definition.FieldDef.{FieldDef}
-use Rattle.ob_schema.specs.declared.definition.ModelDef.{ModelDef}
-use Rattle.ob_schema.specs.declared.field_type.FieldType.{FieldType}
-use Rattle.ob_schema.specs.declared.field_type.FieldType.TheVariants as type
+use Rattle.ob_definition.specs.declared.definition.FieldDef.{FieldDef}
+use Rattle.ob_definition.specs.declared.definition.ModelDef.{ModelDef}
+use Rattle.ob_definition.specs.declared.field_type.FieldType.{FieldType}
+use Rattle.ob_definition.specs.declared.field_type.FieldType.TheVariants as type
 use Rattle.ob_schema.specs.declared.finding.Finding.{Finding}
 use Rattle.ob_schema.specs.declared.finding.Finding.TheVariants as finding
 use Rattle.ob_schema.specs.declared.wrong.Wrong.TheVariants as wrong
-use Rattle.ob_schema.specs.Definitions.{is_computed, is_set}
+use Rattle.ob_definition.specs.Definitions.{is_computed, is_set}
 use Rattle.ob_schema.specs.Faults.{HasExpression, HasTree, HasTyped, HasWrongKeys, HasWrongKind, HasWrongPath, IsMisread, IsTextFault, NamesNoField}
 use Rattle.ob_schema.specs.Findings.{DependsOnComputed, DependsOnNoField, FieldHas, IsChecked, IsFinding, IsOfWrongKind, IsOutcome, IsUnreadable, ReadsWrongly}
 use Rattle.ob_schema.specs.Formulas.{IsExpression, depends_of, finds_in, kind_of_field, kind_of_type, model_number}
-use Rattle.ob_schema.specs.Keys.{computed_fits, fits, is_selection, ondelete_fits, plain_fits, relation_fits}
-use Rattle.ob_schema.specs.Types.{is_relation}
+use Rattle.ob_definition.specs.Keys.{computed_fits, fits, is_selection, ondelete_fits, plain_fits, relation_fits}
+use Rattle.ob_definition.specs.Types.{is_relation}
 
 -- ---- a text that spells a tree has no fault
 

@@ -5,24 +5,24 @@ use Rattle.std.specs.List.{AllZip}
 use Rattle.std.proofs.lemmas.Bool.{false≢true}
 use Rattle.std.proofs.lemmas.List.Elements.{All-cons, All-nil}
 use Rattle.ob_expr.specs.TypedTree.{kind_of, paths_of, typed_tree_of}
-use Rattle.ob_schema.specs.declared.definition.FieldDef.{FieldDef}
-use Rattle.ob_schema.specs.declared.definition.ModelDef.{ModelDef}
-use Rattle.ob_schema.specs.declared.field_type.FieldType.{FieldType}
-use Rattle.ob_schema.specs.declared.field_type.FieldType.TheVariants as type
+use Rattle.ob_definition.specs.declared.definition.FieldDef.{FieldDef}
+use Rattle.ob_definition.specs.declared.definition.ModelDef.{ModelDef}
+use Rattle.ob_definition.specs.declared.field_type.FieldType.{FieldType}
+use Rattle.ob_definition.specs.declared.field_type.FieldType.TheVariants as type
 use Rattle.ob_schema.specs.declared.info.FieldInfo.{FieldInfo}
 use Rattle.ob_schema.specs.declared.info.Formula.{Formula}
 use Rattle.ob_schema.specs.declared.info.Origin.{Origin}
 use Rattle.ob_schema.specs.declared.info.Origin.TheVariants as origin
 use Rattle.ob_schema.specs.declared.wrong.Wrong.TheVariants as wrong
 use Rattle.ob_schema.specs.Built.{IsFieldOf, IsFormula, IsOrigin, automatic_infos, id_info, moment_info}
-use Rattle.ob_schema.specs.Definitions.{is_computed}
+use Rattle.ob_definition.specs.Definitions.{is_computed}
 use Rattle.ob_schema.specs.Faults.{IsFaultless, IsMisread}
 use Rattle.ob_schema.specs.Findings.{IsSound}
 use Rattle.ob_schema.specs.Formulas.{depends_of, finds_in, kind_of_field}
-use Rattle.ob_schema.specs.Keys.{computed_fits, is_selection, plain_fits}
+use Rattle.ob_definition.specs.Keys.{computed_fits, is_selection, plain_fits}
 use Rattle.ob_schema.specs.Making.{HasSoundOrigin, IsSoundOrigin}
 use Rattle.ob_schema.specs.Models.{IsFormulaIn, IsOriginIn}
-use Rattle.ob_schema.specs.Types.{is_list, is_relation}
+use Rattle.ob_definition.specs.Types.{is_list, is_relation}
 use Rattle.ob_schema.proofs.Clean.{clean_field, sound_fits}
 use Rattle.ob_schema.proofs.Defaults.{IsBare, computed_bare, own_fits}
 use Rattle.ob_schema.proofs.FormulaKinds.{kind_from_not_other}

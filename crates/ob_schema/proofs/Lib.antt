@@ -1,7 +1,3 @@
-pub mod ListTests
-pub mod OrderWords
-pub mod ReadForms
-pub mod OrderTerms
 pub mod FieldSearch
 pub mod Indexing
 pub mod ModelNames
@@ -23,4 +19,3 @@ pub mod FormulaKinds
 pub mod Operands
 pub mod FormulasFit
 pub mod SortedFields
-pub mod NameBytes

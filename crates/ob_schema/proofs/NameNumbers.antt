@@ -12,11 +12,11 @@ use Rattle.std.proofs.lemmas.List.{get_or_read}
 use Rattle.std.proofs.lemmas.List.Sorted.{sum_by-IsPermutation}
 use Rattle.std.proofs.lemmas.List.Sums.{sum_by-append}
 use Rattle.std.proofs.lemmas.Option.{slice_get-get_or}
-use Rattle.ob_schema.specs.declared.definition.FieldDef.{FieldDef}
-use Rattle.ob_schema.specs.declared.definition.ModelDef.{ModelDef}
+use Rattle.ob_definition.specs.declared.definition.FieldDef.{FieldDef}
+use Rattle.ob_definition.specs.declared.definition.ModelDef.{ModelDef}
 use Rattle.ob_schema.specs.declared.info.FieldInfo.{FieldInfo}
 use Rattle.ob_schema.specs.Built.{IsFieldOf, automatic_infos}
-use Rattle.ob_schema.specs.Definitions.{automatic_names}
+use Rattle.ob_definition.specs.Definitions.{automatic_names}
 use Rattle.ob_schema.specs.Formulas.{names_of, number_of}
 use Rattle.ob_schema.specs.Making.{AreUnsorted}
 use Rattle.ob_schema.specs.Models.{AreInOrder, numbered}

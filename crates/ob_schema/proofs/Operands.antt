@@ -15,17 +15,18 @@ use Rattle.ob_expr.specs.declared.kind.Kind.{Kind}
 use Rattle.ob_expr.specs.declared.kind.Kind.TheVariants as kind
 use Rattle.ob_expr.specs.declared.typed.Link.{Link}
 use Rattle.ob_expr.specs.Chain.{and_then}
-use Rattle.ob_expr.specs.Checking.{AreAllFound, AreFound, IsFound, route_of, step_of, step_on, step_route}
+use Rattle.ob_expr.specs.Checking.{AreFound, IsFound, route_of, step_of, step_on, step_route}
 use Rattle.ob_expr.specs.Route.{Route, behind, fields_of, through}
-use Rattle.ob_expr.specs.TypedTree.{TypedTree, TypedTrees, no_trees, one_more, row_id, integer, a_text, truth, unset, path, prefix, binary, chosen, choice, joined, digits, over, paths_of, paths_of_all}
-use Rattle.ob_schema.specs.declared.definition.FieldDef.{FieldDef}
-use Rattle.ob_schema.specs.declared.definition.ModelDef.{ModelDef}
-use Rattle.ob_schema.specs.declared.field_type.FieldType.{FieldType}
+use Rattle.ob_expr.specs.TypedTree.{TypedTree, TypedTrees, no_trees, one_more, row_id, integer, a_text, truth, unset, path, prefix, binary, chosen, choice, joined, digits, over, paths_of, paths_of_all, EachPathOfAll}
+use Rattle.ob_definition.specs.declared.definition.FieldDef.{FieldDef}
+use Rattle.ob_definition.specs.declared.definition.ModelDef.{ModelDef}
+use Rattle.ob_definition.specs.declared.field_type.FieldType.{FieldType}
 use Rattle.ob_schema.specs.declared.info.FieldInfo.{FieldInfo}
 use Rattle.ob_schema.specs.declared.info.Origin.{Origin}
 use Rattle.ob_schema.specs.declared.info.Origin.TheVariants as origin
 use Rattle.ob_schema.specs.Built.{IsFieldOf, IsOrigin, automatic_infos, moment_info}
-use Rattle.ob_schema.specs.Definitions.{field_def, has_field, is_computed}
+use Rattle.ob_definition.specs.Definitions.{is_computed}
+use Rattle.ob_schema.specs.Definitions.{field_def, has_field}
 use Rattle.ob_schema.specs.Faults.{IsMisread}
 use Rattle.ob_schema.specs.Fields.{is_plain_from}
 use Rattle.ob_schema.specs.Formulas.{IsCovered, computed_numbers, finds_in, found_in, is_usable, kind_of_field, kind_of_type, number_of, own_model}
@@ -110,7 +111,7 @@ module _ (finds : ModelNo → List ℕ → Option Found) (def : ModelDef) (model
     found_paths (truth b) found plain = All-nil IsNamed
     found_paths (unset k) found plain = All-nil IsNamed
 
-    found_all : (trees : TypedTrees) → AreAllFound finds model trees → ArePlain def (paths_of_all trees) → All IsNamed (paths_of_all trees)
+    found_all : (trees : TypedTrees) → EachPathOfAll (IsFound finds) model trees → ArePlain def (paths_of_all trees) → All IsNamed (paths_of_all trees)
     found_all no_trees found plain = All-nil IsNamed
     found_all (one_more tree rest) found plain = found_two (paths_of tree) (paths_of_all rest) (found_paths tree found.0) (found_all rest found.1) plain
 

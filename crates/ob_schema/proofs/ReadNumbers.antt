@@ -9,7 +9,7 @@ use Rattle.ob_base.specs.declared.id.FieldNo.{FieldNo}
 use Rattle.ob_expr.specs.declared.typed.Link.{Link}
 use Rattle.ob_expr.specs.Route.{Route, fields_of}
 use Rattle.ob_expr.specs.TypedTree.{TypedTree, paths_of}
-use Rattle.ob_schema.specs.declared.definition.ModelDef.{ModelDef}
+use Rattle.ob_definition.specs.declared.definition.ModelDef.{ModelDef}
 use Rattle.ob_schema.specs.Definitions.{has_field}
 use Rattle.ob_schema.specs.Faults.{IsMisread}
 use Rattle.ob_schema.specs.Findings.{is_misread, leads_among, leads_to}

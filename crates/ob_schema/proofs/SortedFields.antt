@@ -8,15 +8,15 @@ use Rattle.std.proofs.lemmas.List.Elements.{All-append, All-contains_itself, All
 use Rattle.std.proofs.lemmas.List.Sorted.{All-permutation, Contains-permutation, length_permutation, sum_by-IsPermutation}
 use Rattle.ob_base.specs.Limits.{max_fields}
 use Rattle.ob_schema.specs.Definitions.{field_count}
-use Rattle.ob_schema.specs.declared.definition.FieldDef.{FieldDef}
-use Rattle.ob_schema.specs.declared.definition.ModelDef.{ModelDef}
+use Rattle.ob_definition.specs.declared.definition.FieldDef.{FieldDef}
+use Rattle.ob_definition.specs.declared.definition.ModelDef.{ModelDef}
 use Rattle.ob_schema.specs.declared.info.FieldInfo.{FieldInfo}
 use Rattle.ob_schema.specs.declared.wrong.Wrong.TheVariants as wrong
 use Rattle.ob_schema.specs.Built.{IsFieldIn, IsFieldOf, automatic_infos}
 use Rattle.ob_schema.specs.Faults.{IsFaultless}
 use Rattle.ob_schema.specs.Making.{AreSorted, AreUnsorted, HoldsDefault}
 use Rattle.ob_schema.specs.Models.{AreInOrder, IsOriginIn}
-use Rattle.ob_schema.specs.Names.{is_field_name}
+use Rattle.ob_definition.specs.Names.{is_field_name}
 use Rattle.ob_schema.proofs.Clean.{clean_field, few_declared}
 use Rattle.ob_schema.proofs.Copies.{zip_length}
 use Rattle.ob_schema.proofs.FieldOrder.{automatic_short, declared_any, declared_only, declared_short, field_name_by, in_order, named, once_unsorted}

@@ -7,11 +7,11 @@ use Rattle.std.specs.declared.cmp.Ordering.TheVariants.{Less, Equal, Greater}
 use Rattle.std.proofs.lemmas.Bool.{cases_lt, false≢true}
 use Rattle.std.proofs.lemmas.Cmp.{nat_cmp_total, nat_list_cmp_total, ranked, tied_itself}
 use Rattle.std.proofs.lemmas.Option.{get_or_from_slice_get, slice_get-get_or, slice_get_cases, slice_get_within}
-use Rattle.ob_schema.specs.declared.definition.FieldDef.{FieldDef}
-use Rattle.ob_schema.specs.declared.definition.ModelDef.{ModelDef}
-use Rattle.ob_schema.specs.declared.fault.SchemaFault.{SchemaFault}
-use Rattle.ob_schema.specs.declared.fault.SchemaFault.TheVariants as fault
-use Rattle.ob_schema.specs.declared.fault.Spot.{Spot}
+use Rattle.ob_definition.specs.declared.definition.FieldDef.{FieldDef}
+use Rattle.ob_definition.specs.declared.definition.ModelDef.{ModelDef}
+use Rattle.ob_definition.specs.declared.fault.SchemaFault.{SchemaFault}
+use Rattle.ob_definition.specs.declared.fault.SchemaFault.TheVariants as fault
+use Rattle.ob_definition.specs.declared.fault.Spot.{Spot}
 use Rattle.ob_schema.specs.declared.wrong.Wrong.{Wrong}
 use Rattle.ob_schema.specs.declared.wrong.Wrong.TheVariants as wrong
 use Rattle.ob_schema.specs.Faults.{AtEntry, AtField, IsFaulty, IsFaultless, IsFirst, Rank, rank, rank_at, rank_order}

@@ -4,9 +4,9 @@ use Rattle.std.specs.Prelude.{IsTrue, slice_get}
 use Rattle.std.proofs.lemmas.Bool.{false≢true}
 use Rattle.std.proofs.lemmas.Option.{slice_get_read}
 use Rattle.ob_base.specs.declared.memory.NoMemory.{NoMemory}
-use Rattle.ob_schema.specs.declared.definition.FieldDef.{FieldDef}
-use Rattle.ob_schema.specs.declared.definition.ModelDef.{ModelDef}
-use Rattle.ob_schema.specs.declared.fault.SchemaFault.{SchemaFault}
+use Rattle.ob_definition.specs.declared.definition.FieldDef.{FieldDef}
+use Rattle.ob_definition.specs.declared.definition.ModelDef.{ModelDef}
+use Rattle.ob_definition.specs.declared.fault.SchemaFault.{SchemaFault}
 use Rattle.ob_schema.specs.declared.wrong.Wrong.{Wrong}
 use Rattle.ob_schema.specs.Counts.{AreCountable, max_number}
 use Rattle.ob_schema.specs.Definitions.{field_count}

@@ -3,20 +3,21 @@ use Rattle.std.specs.List.{AllZip}
 use Rattle.std.specs.Prelude.{◌≡◌, ◌⊎◌, ℕ, List, [], ◌∷◌, length, map, All, Any, Contains, codes, Option, Some, None, option_and_then, unwrap_or, Bool, true, false}
 use Rattle.ob_base.specs.declared.id.FieldNo.{FieldNo}
 use Rattle.ob_expr.specs.TypedTree.{typed_tree_of}
-use Rattle.ob_schema.specs.declared.definition.FieldDef.{FieldDef}
-use Rattle.ob_schema.specs.declared.definition.ModelDef.{ModelDef}
-use Rattle.ob_schema.specs.declared.field_type.FieldType.{FieldType}
-use Rattle.ob_schema.specs.declared.field_type.FieldType.TheVariants as type
-use Rattle.ob_schema.specs.declared.field_type.OnDelete.TheVariants as ondelete
+use Rattle.ob_definition.specs.declared.definition.FieldDef.{FieldDef}
+use Rattle.ob_definition.specs.declared.definition.ModelDef.{ModelDef}
+use Rattle.ob_definition.specs.declared.field_type.FieldType.{FieldType}
+use Rattle.ob_definition.specs.declared.field_type.FieldType.TheVariants as type
+use Rattle.ob_definition.specs.declared.field_type.OnDelete.TheVariants as ondelete
 use Rattle.ob_schema.specs.declared.info.FieldInfo.{FieldInfo}
 use Rattle.ob_schema.specs.declared.info.Formula.{Formula}
 use Rattle.ob_schema.specs.declared.info.ModelInfo.{ModelInfo}
 use Rattle.ob_schema.specs.declared.info.Origin.{Origin}
 use Rattle.ob_schema.specs.declared.info.Origin.TheVariants as origin
-use Rattle.ob_schema.specs.Definitions.{field_count, is_set, model_def}
+use Rattle.ob_definition.specs.Definitions.{is_set}
+use Rattle.ob_schema.specs.Definitions.{field_count, model_def}
 use Rattle.ob_schema.specs.Faults.{HasTyped}
 use Rattle.ob_schema.specs.Formulas.{depends_of, model_number, number_of, steps_of}
-use Rattle.ob_schema.specs.Orders.{Term, order_terms}
+use Rattle.ob_definition.specs.Orders.{Term, order_terms}
 
 -- the formula is the field's expression, checked, with the steps of each declared path
 pub record IsFormula (defs : List ModelDef) (def : ModelDef) (f : FieldDef) (formula : Formula) : Type 0 where

@@ -1,6 +1,6 @@
 -- How many models there may be, and how many fields of one, for each to have a number of its own: numbers have two bytes.
 use Rattle.std.specs.Prelude.{◌≤◌, ℕ, List, length, All}
-use Rattle.ob_schema.specs.declared.definition.ModelDef.{ModelDef}
+use Rattle.ob_definition.specs.declared.definition.ModelDef.{ModelDef}
 use Rattle.ob_schema.specs.Definitions.{field_count}
 
 -- the greatest number of two bytes

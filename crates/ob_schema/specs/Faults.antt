@@ -17,17 +17,18 @@ use Rattle.ob_syntax.specs.declared.fault.ExprFault.{ExprFault}
 use Rattle.ob_syntax.specs.declared.fault.ExprFault.TheVariants as text_fault
 use Rattle.ob_syntax.specs.Grammar.{Tree, IsFirstFault, IsFirstTooDeep}
 use Rattle.ob_syntax.specs.Lexemes.{lexemes}
-use Rattle.ob_schema.specs.declared.definition.FieldDef.{FieldDef}
-use Rattle.ob_schema.specs.declared.definition.ModelDef.{ModelDef}
-use Rattle.ob_schema.specs.declared.fault.SchemaFault.{SchemaFault}
-use Rattle.ob_schema.specs.declared.fault.SchemaFault.TheVariants as fault
-use Rattle.ob_schema.specs.declared.fault.Spot.{Spot}
-use Rattle.ob_schema.specs.Definitions.{field_count, field_def, has_field, is_automatic, is_computed, is_set, is_given_text, model_def}
+use Rattle.ob_definition.specs.declared.definition.FieldDef.{FieldDef}
+use Rattle.ob_definition.specs.declared.definition.ModelDef.{ModelDef}
+use Rattle.ob_definition.specs.declared.fault.SchemaFault.{SchemaFault}
+use Rattle.ob_definition.specs.declared.fault.SchemaFault.TheVariants as fault
+use Rattle.ob_definition.specs.declared.fault.Spot.{Spot}
+use Rattle.ob_definition.specs.Definitions.{is_automatic, is_computed, is_set, is_given_text}
+use Rattle.ob_schema.specs.Definitions.{field_count, field_def, has_field, model_def}
 use Rattle.ob_schema.specs.Formulas.{IsCovered, IsExpression, computed_numbers, depends_of, finds_in, kind_of_field, names_computed, own_model}
-use Rattle.ob_schema.specs.Keys.{fits, is_many2one}
-use Rattle.ob_schema.specs.Names.{is_field_name, is_model_name}
-use Rattle.ob_schema.specs.Orders.{Term, order_terms}
-use Rattle.ob_schema.specs.Types.{is_list}
+use Rattle.ob_definition.specs.Keys.{fits, is_many2one}
+use Rattle.ob_definition.specs.Names.{is_field_name, is_model_name}
+use Rattle.ob_definition.specs.Orders.{Term, order_terms}
+use Rattle.ob_definition.specs.Types.{is_list}
 
 -- the fact holds of an entry as a whole
 abbrev pub AtEntry : List ModelDef → Spot → (ModelDef → Type 0) → Type 0

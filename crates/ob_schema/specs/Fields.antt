@@ -2,18 +2,14 @@
 use Rattle.std.specs.List.{enumerate_from}
 use Rattle.std.specs.Prelude.{ℕ, ◌&&◌, List, Bool, true, false, not, is_none, filter}
 use Rattle.ob_base.specs.declared.value.Value.{Value}
-use Rattle.ob_schema.specs.declared.field_type.FieldType.TheVariants as type
-use Rattle.ob_schema.specs.declared.field_type.FieldType.{FieldType}
+use Rattle.ob_definition.specs.declared.field_type.FieldType.TheVariants as type
+use Rattle.ob_definition.specs.declared.field_type.FieldType.{FieldType}
 use Rattle.ob_schema.specs.declared.info.FieldInfo.{FieldInfo}
 use Rattle.ob_schema.specs.declared.info.ModelInfo.{ModelInfo}
 use Rattle.ob_schema.specs.declared.info.Origin.{Origin}
 use Rattle.ob_schema.specs.declared.info.Origin.TheVariants as origin
-use Rattle.ob_schema.specs.Values.{IsValueOf}
-
--- its values are the rows whose inverse names the row
-abbrev pub is_one2many : FieldType → Bool
-is_one2many type.One2many = true
-is_one2many _ = false
+use Rattle.ob_definition.specs.Types.{is_one2many}
+use Rattle.ob_definition.specs.Values.{IsValueOf}
 
 -- its values stand in the row itself: no one2many, and no mirror of another field
 abbrev pub is_own : FieldInfo → Bool

@@ -11,17 +11,16 @@ use Rattle.ob_expr.specs.Checking.{AreFound, typed_of}
 use Rattle.ob_expr.specs.Route.{Route}
 use Rattle.ob_expr.specs.TypedTree.{TypedTree, IsWellKinded, kind_of, paths_of, typed_tree_of}
 use Rattle.ob_syntax.specs.Grammar.{Tree}
-use Rattle.ob_schema.specs.declared.definition.FieldDef.{FieldDef}
-use Rattle.ob_schema.specs.declared.definition.ModelDef.{ModelDef}
-use Rattle.ob_schema.specs.declared.fault.SchemaFault.{SchemaFault}
-use Rattle.ob_schema.specs.declared.fault.SchemaFault.TheVariants as fault
-use Rattle.ob_schema.specs.declared.fault.Spot.{Spot}
+use Rattle.ob_definition.specs.declared.definition.FieldDef.{FieldDef}
+use Rattle.ob_definition.specs.declared.definition.ModelDef.{ModelDef}
+use Rattle.ob_definition.specs.declared.fault.SchemaFault.{SchemaFault}
+use Rattle.ob_definition.specs.declared.fault.SchemaFault.TheVariants as fault
+use Rattle.ob_definition.specs.declared.fault.Spot.{Spot}
 use Rattle.ob_schema.specs.declared.finding.Finding.{Finding}
 use Rattle.ob_schema.specs.declared.finding.Finding.TheVariants as finding
 use Rattle.ob_schema.specs.declared.wrong.Wrong.{Wrong}
 use Rattle.ob_schema.specs.declared.wrong.Wrong.TheVariants as wrong
-use Rattle.ob_schema.specs.Faults.{HasExpression, HasTerm, HasTooMuch, HasTree, HasUnknownInverse, HasUnknownRelation, HasWrongInverse, HasWrongKey, HasWrongKeys, HasWrongKind, HasWrongPath}
-use Rattle.ob_schema.specs.Faults.{IsDeclaredTwice, IsFaulty, IsMisread, IsNamedBefore, IsPastLimit, IsTextFault, NamesNoField, NamesNoModel, is_dotted, rank, rank_order}
+use Rattle.ob_schema.specs.Faults.{HasExpression, HasTerm, HasTooMuch, HasTree, HasUnknownInverse, HasUnknownRelation, HasWrongInverse, HasWrongKey, HasWrongKeys, HasWrongKind, HasWrongPath, IsDeclaredTwice, IsFaulty, IsMisread, IsNamedBefore, IsPastLimit, IsTextFault, NamesNoField, NamesNoModel, is_dotted, rank, rank_order}
 use Rattle.ob_schema.specs.Definitions.{has_field}
 use Rattle.ob_schema.specs.Formulas.{depends_of, finds_in, kind_of_type, names_computed, number_of, own_model}
 use Rattle.std.specs.Prelude.{◌==◌, ◌&&◌, ◌||◌, Bool, length, not, if◌then◌else◌}

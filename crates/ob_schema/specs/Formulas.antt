@@ -14,11 +14,12 @@ use Rattle.ob_expr.specs.declared.kind.Kind.TheVariants as kind
 use Rattle.ob_expr.specs.Route.{Route, fields_of}
 use Rattle.ob_syntax.specs.Grammar.{Tree, Spells, depth}
 use Rattle.ob_syntax.specs.Lexemes.{lexemes}
-use Rattle.ob_schema.specs.declared.definition.FieldDef.{FieldDef}
-use Rattle.ob_schema.specs.declared.definition.ModelDef.{ModelDef}
-use Rattle.ob_schema.specs.declared.field_type.FieldType.{FieldType}
-use Rattle.ob_schema.specs.declared.field_type.FieldType.TheVariants as type
-use Rattle.ob_schema.specs.Definitions.{automatic_names, is_given_text, field_def, has_field, is_computed, is_set}
+use Rattle.ob_definition.specs.declared.definition.FieldDef.{FieldDef}
+use Rattle.ob_definition.specs.declared.definition.ModelDef.{ModelDef}
+use Rattle.ob_definition.specs.declared.field_type.FieldType.{FieldType}
+use Rattle.ob_definition.specs.declared.field_type.FieldType.TheVariants as type
+use Rattle.ob_definition.specs.Definitions.{automatic_names, is_given_text, is_computed, is_set}
+use Rattle.ob_schema.specs.Definitions.{field_def, has_field}
 
 -- the names of a model's fields, automatic ones among them
 abbrev pub names_of : ModelDef → List (List ℕ)

@@ -1,12 +1,7 @@
 -- What contracts of public functions cite.
-pub mod Types
-pub mod Values
 pub mod Fields
 pub mod Models
-pub mod Names
-pub mod Orders
 pub mod Definitions
-pub mod Keys
 pub mod Formulas
 pub mod Faults
 pub mod Built

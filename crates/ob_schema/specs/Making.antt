@@ -3,7 +3,7 @@ use Rattle.std.specs.Prelude.{◌≡◌, ◌++◌, ◌≤◌, List, length, map,
 use Rattle.std.specs.List.{AllZip}
 use Rattle.ob_base.specs.Limits.{max_fields, max_name_bytes}
 use Rattle.ob_expr.specs.TypedTree.{typed_tree_of}
-use Rattle.ob_schema.specs.declared.definition.ModelDef.{ModelDef}
+use Rattle.ob_definition.specs.declared.definition.ModelDef.{ModelDef}
 use Rattle.ob_schema.specs.declared.info.FieldInfo.{FieldInfo}
 use Rattle.ob_schema.specs.declared.info.OrderTerm.{OrderTerm}
 use Rattle.ob_schema.specs.declared.info.Origin.{Origin}
@@ -14,7 +14,7 @@ use Rattle.ob_schema.specs.Fields.{Holds}
 use Rattle.ob_schema.specs.Findings.{IsSound}
 use Rattle.ob_schema.specs.Formulas.{finds_in, number_of}
 use Rattle.ob_schema.specs.Models.{AreInOrder, IsOriginIn}
-use Rattle.ob_schema.specs.Orders.{Term}
+use Rattle.ob_definition.specs.Orders.{Term}
 
 -- a formula is what a check makes of expressions
 abbrev pub IsSoundOrigin : List ModelDef → ModelDef → Origin → Type 0

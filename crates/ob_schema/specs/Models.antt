@@ -13,7 +13,7 @@ use Rattle.ob_base.specs.declared.id.ModelNo.{ModelNo}
 use Rattle.ob_expr.specs.declared.kind.Kind.{Kind}
 use Rattle.ob_expr.specs.Route.{Route}
 use Rattle.ob_expr.specs.TypedTree.{IsWellKinded, kind_of, paths_of, typed_tree_of}
-use Rattle.ob_schema.specs.declared.field_type.FieldType.TheVariants as type
+use Rattle.ob_definition.specs.declared.field_type.FieldType.TheVariants as type
 use Rattle.ob_schema.specs.declared.info.FieldInfo.{FieldInfo}
 use Rattle.ob_schema.specs.declared.info.Formula.{Formula}
 use Rattle.ob_schema.specs.declared.info.ModelInfo.{ModelInfo}
@@ -22,8 +22,8 @@ use Rattle.ob_schema.specs.declared.info.Origin.TheVariants as origin
 use Rattle.ob_schema.specs.Built.{automatic_infos}
 use Rattle.ob_schema.specs.Fields.{Holds, is_plain_from, kept_fields}
 use Rattle.ob_schema.specs.Formulas.{kind_of_type}
-use Rattle.ob_schema.specs.Keys.{is_selection}
-use Rattle.ob_schema.specs.Types.{is_list}
+use Rattle.ob_definition.specs.Keys.{is_selection}
+use Rattle.ob_definition.specs.Types.{is_list}
 
 -- what has this number, counted from 1
 abbrev pub numbered : {X : Type 0} → List X → ℕ → Option X

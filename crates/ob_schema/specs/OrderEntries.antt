@@ -2,7 +2,7 @@
 use Rattle.std.specs.Prelude.{◌≡◌, ℕ, List, Option, Some, None}
 use Rattle.ob_schema.specs.declared.entry_faults.Order.{Order}
 use Rattle.ob_schema.specs.declared.entry_faults.Order.TheVariants as order
-use Rattle.ob_schema.specs.Orders.{order_terms, terms_of}
+use Rattle.ob_definition.specs.Orders.{order_terms, terms_of}
 
 -- what is read of an order, where one is given
 abbrev pub IsOrderOf : Option (List ℕ) → Order → Type 0

@@ -10,10 +10,9 @@ ghost use Rattle.ob_schema.specs.Faults.{IsFaultless, IsFirst};
 ghost use Rattle.ob_schema.specs.Models.{IsRegistry};
 
 use crate::building::registry;
-use crate::definition::ModelDef;
-use crate::fault::SchemaFault;
 use crate::faults::first_fault;
 use crate::schema::Schema;
+use ob_definition::{ModelDef, SchemaFault};
 use std::alloc::Global;
 
 /// The greatest number of two bytes.

@@ -12,18 +12,15 @@ ghost use Rattle.ob_schema.specs.Built.{IsBuilt, IsFieldOf, IsModelOf, bare_info
 ghost use Rattle.ob_schema.specs.Faults.{IsFaultless};
 ghost use Rattle.ob_schema.specs.Making.{AreSorted, AreUnsorted, HasSoundOrigin, HoldsDefault, numbered_order, numbered_term};
 ghost use Rattle.ob_schema.specs.Models.{IsModel, IsRegistry};
-ghost use Rattle.ob_schema.specs.Orders.{terms_of};
+ghost use Rattle.ob_definition.specs.Orders.{terms_of};
 
-use crate::definition::ModelDef;
 use crate::definitions::number_of;
 use crate::entry_faults::Order;
 use crate::field_building::field_info;
-use crate::field_type::{FieldType, OnDelete};
 use crate::info::{FieldInfo, ModelInfo, OrderTerm, Origin};
-use crate::keys::is_set;
-use crate::orders::OrderEntry;
 use crate::schema::Schema;
 use ob_base::{NoMemory, Sequence, Word};
+use ob_definition::{FieldType, ModelDef, OnDelete, OrderEntry, is_set};
 use std::alloc::Global;
 
 /// The registry of definitions.

@@ -6,23 +6,15 @@ ghost use Rattle.std.specs.Cmp.Lexicographic.{slice_cmp};
 ghost use Rattle.std.specs.Ordering.{nat_cmp, is_lt};
 ghost use Rattle.std.specs.Str.{bytes_eq};
 ghost use Rattle.ob_schema.specs.Counts.{max_number};
-ghost use Rattle.ob_schema.specs.Definitions.{automatic_names, field_count, field_def, has_field, is_automatic, is_given_text, model_def};
+ghost use Rattle.ob_definition.specs.Definitions.{automatic_names, is_automatic, is_given_text};
+ghost use Rattle.ob_schema.specs.Definitions.{field_count, field_def, has_field, model_def};
 ghost use Rattle.ob_schema.specs.Formulas.{computed_numbers, def_at, found_in, is_usable, kind_of_field, kind_of_type, model_number, number_of};
 
-use crate::definition::{FieldDef, ModelDef};
-use crate::field_type::FieldType;
-use crate::keys::{is_computed, is_set};
 use ob_base::{FieldNo, ModelNo, NoMemory, Word};
+use ob_definition::{FieldDef, FieldType, ModelDef, is_automatic, is_computed, is_set};
 use ob_expr::{Found, Kind, Scope};
 use std::alloc::Global;
 use std::marker::Model;
-
-/// Whether each model has a field of this name beside the declared ones.
-pub(crate) fn is_automatic(name: &str) -> bool
-    ensures { result ≡ is_automatic name.now }
-{
-    matches!(name, "create_date" | "id" | "write_date")
-}
 
 /// Whether a text is given, and is this one.
 pub(crate) fn is_given_text(given: &Option<Word>, text: &str) -> bool
@@ -190,7 +182,7 @@ impl<'a> Model for DefScope<'a> {
     ghost use Rattle.std.specs.Prelude.{◌≤◌, List};
     ghost use Rattle.ob_schema.specs.Counts.{AreCountable, max_number};
     ghost use Rattle.ob_schema.specs.Definitions.{field_count};
-    ghost use Rattle.ob_schema.specs.declared.definition.ModelDef.{ModelDef};
+    ghost use Rattle.ob_definition.specs.declared.definition.ModelDef.{ModelDef};
 
     ghost Value = { List ModelDef × ModelDef };
 

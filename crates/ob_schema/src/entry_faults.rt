@@ -3,21 +3,21 @@
 
 ghost use Rattle.std.specs.Prelude.{◌≡◌, ◌≤◌, ◌↔◌, ◌⊎◌, IfOk, IsSomeAnd, IsTrue, None, Some, false, length, not, slice_get};
 ghost use Rattle.std.specs.List.{list_any};
-ghost use Rattle.ob_schema.specs.Definitions.{has_field, is_given_text};
+ghost use Rattle.ob_definition.specs.Definitions.{is_given_text};
+ghost use Rattle.ob_schema.specs.Definitions.{has_field};
 ghost use Rattle.ob_schema.specs.Faults.{HasTerm, HasWrongKey, IsNamedBefore, IsPastLimit, NamesNoModel, is_unordered, is_unordered_field, is_unserved};
 ghost use Rattle.ob_schema.specs.Findings.{EntryHas, IsFirstWrong};
-ghost use Rattle.ob_schema.specs.Names.{is_model_name};
-ghost use Rattle.ob_schema.specs.Orders.{order_terms};
+ghost use Rattle.ob_definition.specs.Names.{is_model_name};
+ghost use Rattle.ob_definition.specs.Orders.{order_terms};
 ghost use Rattle.ob_schema.specs.OrderEntries.{IsOrderOf};
 
-use crate::definition::{FieldDef, ModelDef};
-use crate::definitions::{field_def, has_field, is_automatic, is_given_text};
-use crate::keys::{is_computed, is_set};
-use crate::names::is_model_name;
-use crate::orders::{OrderEntry, order_entries};
+use crate::definitions::{field_def, has_field, is_given_text};
 use crate::wrong::Wrong;
 use ob_base::limits::{MAX_FIELDS, MAX_MODELS};
 use ob_base::{NoMemory, Sequence, Word};
+use ob_definition::{
+    FieldDef, ModelDef, OrderEntry, is_automatic, is_computed, is_model_name, is_set, order_entries,
+};
 use std::alloc::Global;
 
 /// How many fields a model may declare beside the automatic ones.

@@ -2,23 +2,24 @@
 //! Which faults there are is told in `entry_faults` and `field_faults`; here stands only
 //! which of them comes first.
 
-ghost use Rattle.std.specs.Prelude.{◌≡◌, ◌<◌, ◌≤◌, ◌⊎◌, ◌↔◌, [], IfOk, IsTrue, MatchOption, Some, false, length, option_map, slice_get, true};
+ghost use Rattle.std.specs.Prelude.{List, ℕ, ◌≡◌, ◌<◌, ◌≤◌, ◌⊎◌, ◌↔◌, [], IfOk, IsTrue, MatchOption, Some, false, length, option_map, slice_get, true};
 ghost use Rattle.ob_base.specs.Limits.{max_models};
 ghost use Rattle.ob_schema.specs.Counts.{AreCountable, max_number};
 ghost use Rattle.ob_schema.specs.Definitions.{field_count};
-ghost use Rattle.ob_schema.specs.declared.definition.ModelDef.{ModelDef};
+ghost use Rattle.ob_definition.specs.declared.definition.ModelDef.{ModelDef};
 ghost use Rattle.ob_schema.specs.declared.wrong.Wrong.{Wrong};
-ghost use Rattle.ob_schema.specs.Faults.{IsFaultless, IsFirst, rank, rank_order};
+ghost use Rattle.ob_schema.specs.Faults.{IsFaultless, IsFirst, IsTextFault, rank, rank_order};
 ghost use Rattle.ob_schema.specs.Findings.{EntryHas, IsEntryFault, IsFaultIn, IsFieldFault, IsLeast, fault_at, lesser_of};
-ghost use Rattle.ob_schema.specs.Formulas.{computed_numbers};
+ghost use Rattle.ob_schema.specs.Formulas.{IsExpression, computed_numbers};
+ghost use Rattle.ob_syntax.specs.Grammar.{Tree};
+ghost use Rattle.ob_syntax.specs.declared.fault.ExprFault.{ExprFault};
 
-use crate::definition::{FieldDef, ModelDef};
 use crate::definitions::computed_numbers;
 use crate::entry_faults::first_of_entry;
-use crate::fault::{SchemaFault, Spot};
 use crate::field_faults::first_of_field;
 use crate::wrong::Wrong;
 use ob_base::{FieldNo, NoMemory, Word};
+use ob_definition::{FieldDef, ModelDef, SchemaFault, Spot};
 use std::alloc::Global;
 use std::cmp::Ordering;
 
@@ -181,3 +182,10 @@ fn rank_of(fault: &SchemaFault) -> (u32, &str, u8)
     };
     (spot.entry, spot.field.as_str(), variant)
 }
+
+/// A law for the crates above: a text that is an expression has no fault as one. It does
+/// nothing.
+pub fn no_expression_has_one()
+    ensures { (text : List ℕ) (tree : Tree) (why : ExprFault)
+        → IsExpression text tree → IsTextFault text why → ⊥ }
+{}

@@ -9,18 +9,16 @@ ghost use Rattle.ob_expr.specs.TypedTree.{typed_tree_of};
 ghost use Rattle.ob_schema.specs.Definitions.{field_count, has_field};
 ghost use Rattle.ob_schema.specs.Findings.{IsSound};
 ghost use Rattle.ob_schema.specs.Formulas.{finds_in, model_number, steps_of};
-ghost use Rattle.ob_schema.specs.Keys.{default_fits};
+ghost use Rattle.ob_definition.specs.Keys.{default_fits};
 ghost use Rattle.ob_schema.specs.Making.{HasSoundOrigin, HoldsDefault, IsSoundOrigin};
-ghost use Rattle.ob_schema.specs.Values.{IsNative, IsValueOf};
+ghost use Rattle.ob_definition.specs.Values.{IsNative, IsValueOf};
 
-use crate::definition::{FieldDef, ModelDef};
 use crate::definitions::{model_def, model_number, number_of};
 use crate::field_faults::depends;
-use crate::field_type::{Choice, OnDelete};
 use crate::finding::{Finding, examine};
 use crate::info::{FieldInfo, Formula, Origin, Path};
-use crate::keys::is_set;
 use ob_base::{FieldNo, ModelNo, NoMemory, Sequence, Value, Word};
+use ob_definition::{Choice, FieldDef, ModelDef, OnDelete, is_set};
 use ob_expr::Typed;
 use std::alloc::Global;
 

@@ -8,22 +8,19 @@ ghost use Rattle.ob_base.specs.Limits.{max_expression_bytes};
 ghost use Rattle.ob_expr.specs.TypedTree.{paths_of, typed_tree_of};
 ghost use Rattle.ob_syntax.specs.declared.fault.ExprFault.{ExprFault};
 ghost use Rattle.ob_schema.specs.Counts.{AreCountable, max_number};
-ghost use Rattle.ob_schema.specs.declared.definition.ModelDef.{ModelDef};
-ghost use Rattle.ob_schema.specs.Definitions.{field_count, field_def, has_field, is_automatic};
+ghost use Rattle.ob_definition.specs.declared.definition.ModelDef.{ModelDef};
+ghost use Rattle.ob_definition.specs.Definitions.{is_automatic};
+ghost use Rattle.ob_schema.specs.Definitions.{field_count, field_def, has_field};
 ghost use Rattle.ob_schema.specs.Faults.{HasTooMuch, HasUnknownInverse, HasUnknownRelation, HasWrongInverse, HasWrongKeys, HasWrongKind, IsDeclaredTwice, IsInverse, IsMisread, NamesNoField, is_dotted, leads_back};
 ghost use Rattle.ob_schema.specs.Findings.{DependsOnComputed, DependsOnNoField, FieldHas, IsFinding, IsFirstWrong, IsNoneBelow, IsOfWrongKind, ReadsWrongly, is_misread, leads_among, leads_to};
 ghost use Rattle.ob_schema.specs.Formulas.{computed_numbers, depends_of, names_computed};
 
-use crate::definition::{FieldDef, ModelDef};
-use crate::definitions::{
-    field_def, has_field, is_automatic, is_given_text, kind_of_type, model_def, number_of,
-};
+use crate::definitions::{field_def, has_field, is_given_text, kind_of_type, model_def, number_of};
 use crate::finding::{Finding, examine};
-use crate::keys::{fits, is_computed};
-use crate::names::is_field_name;
 use crate::wrong::Wrong;
 use ob_base::limits::MAX_EXPRESSION_BYTES;
 use ob_base::{FieldNo, NoMemory, Word};
+use ob_definition::{FieldDef, ModelDef, fits, is_automatic, is_computed, is_field_name};
 use ob_expr::{Path, Typed};
 use ob_syntax::ExprFault;
 use std::alloc::Global;

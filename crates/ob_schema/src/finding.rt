@@ -8,10 +8,10 @@ ghost use Rattle.ob_schema.specs.Definitions.{field_count};
 ghost use Rattle.ob_schema.specs.Findings.{IsFinding, IsOutcome};
 ghost use Rattle.ob_schema.specs.Formulas.{finds_in};
 
-use crate::definition::{FieldDef, ModelDef};
 use crate::definitions::DefScope;
 use ob_base::limits::MAX_EXPRESSION_BYTES;
 use ob_base::{ModelNo, NoMemory};
+use ob_definition::{FieldDef, ModelDef};
 use ob_expr::{TypeFault, Typed, check};
 use ob_syntax::{Expr, ExprFault, parse};
 use std::alloc::Global;

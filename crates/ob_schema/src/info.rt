@@ -4,8 +4,8 @@
 ghost use Rattle.std.specs.Prelude.{◌≡◌};
 ghost use Rattle.ob_schema.specs.Fields.{is_kept, is_plain_kept};
 
-use crate::field_type::{Choice, FieldType, OnDelete};
 use ob_base::{FieldNo, ModelNo, Sequence, Value, Word};
+use ob_definition::{Choice, FieldType, OnDelete};
 use ob_expr::Typed;
 
 /// A model: its fields in byte order of their names, so that field number `n` stands at

@@ -4,7 +4,7 @@
 ghost use Rattle.std.specs.Prelude.{◌≡◌};
 ghost use Rattle.ob_schema.specs.Findings.{fault_at};
 
-use crate::fault::{SchemaFault, Spot};
+use ob_definition::{SchemaFault, Spot};
 use ob_syntax::ExprFault;
 
 /// What is wrong at a spot: a fault without its spot.

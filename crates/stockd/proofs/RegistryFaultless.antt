@@ -15,18 +15,18 @@ use Rattle.ob_syntax.specs.declared.fault.ExprFault.{ExprFault}
 use Rattle.ob_syntax.specs.declared.sign.Operator.TheVariants.{Multiply}
 use Rattle.ob_syntax.specs.Grammar.{Tree}
 use Rattle.ob_syntax.specs.Lexemes.{is_name_byte, lexemes}
-use Rattle.ob_schema.specs.declared.definition.FieldDef.{FieldDef}
-use Rattle.ob_schema.specs.declared.definition.ModelDef.{ModelDef}
-use Rattle.ob_schema.specs.declared.fault.SchemaFault.TheVariants as fault
-use Rattle.ob_schema.specs.declared.fault.SchemaFault.{SchemaFault}
-use Rattle.ob_schema.specs.declared.fault.Spot.{Spot}
-use Rattle.ob_schema.specs.declared.field_type.FieldType.{FieldType}
-use Rattle.ob_schema.specs.declared.field_type.FieldType.TheVariants as type
-use Rattle.ob_schema.specs.Names.{is_field_name, is_model_name}
-use Rattle.ob_schema.specs.Definitions.{has_field, is_automatic, plain_field}
-use Rattle.ob_schema.specs.Keys.{fits}
-use Rattle.ob_schema.specs.Faults.{IsFirst, IsFaulty, IsInverse, is_dotted, is_unserved, AtEntry, AtField, HasExpression, HasTerm, HasTooMuch, HasTree, HasTyped, HasUnknownInverse}
-use Rattle.ob_schema.specs.Faults.{HasUnknownRelation, HasWrongInverse, HasWrongKey, HasWrongKeys, HasWrongKind, HasWrongPath, IsDeclaredTwice, IsFaultless, IsMisread, IsNamedBefore, IsPastLimit, IsTextFault, NamesNoField, NamesNoModel}
+use Rattle.ob_definition.specs.declared.definition.FieldDef.{FieldDef}
+use Rattle.ob_definition.specs.declared.definition.ModelDef.{ModelDef}
+use Rattle.ob_definition.specs.declared.fault.SchemaFault.TheVariants as fault
+use Rattle.ob_definition.specs.declared.fault.SchemaFault.{SchemaFault}
+use Rattle.ob_definition.specs.declared.fault.Spot.{Spot}
+use Rattle.ob_definition.specs.declared.field_type.FieldType.{FieldType}
+use Rattle.ob_definition.specs.declared.field_type.FieldType.TheVariants as type
+use Rattle.ob_definition.specs.Names.{is_field_name, is_model_name}
+use Rattle.ob_definition.specs.Definitions.{is_automatic, plain_field}
+use Rattle.ob_schema.specs.Definitions.{has_field}
+use Rattle.ob_definition.specs.Keys.{fits}
+use Rattle.ob_schema.specs.Faults.{IsFirst, IsFaulty, IsInverse, is_dotted, is_unserved, AtEntry, AtField, HasExpression, HasTerm, HasTooMuch, HasTree, HasTyped, HasUnknownInverse, HasUnknownRelation, HasWrongInverse, HasWrongKey, HasWrongKeys, HasWrongKind, HasWrongPath, IsDeclaredTwice, IsFaultless, IsMisread, IsNamedBefore, IsPastLimit, IsTextFault, NamesNoField, NamesNoModel}
 use Rattle.ob_schema.specs.Formulas.{IsExpression, computed_numbers, depends_of, finds_in, names_computed, number_of, own_model}
 use Rattle.stockd.specs.Model.{line_def, line_defs, subtotal_field}
 use Rattle.stockd.proofs.RegistryText.{OneTree, no_text_fault, subtotal_expression, subtotal_tree}

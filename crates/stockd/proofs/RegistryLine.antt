@@ -6,18 +6,18 @@ use Rattle.std.proofs.lemmas.List.Elements.{at_read}
 use Rattle.std.proofs.lemmas.Option.{same_Some}
 use Rattle.ob_base.specs.declared.id.FieldNo.{FieldNo}
 use Rattle.ob_base.specs.declared.id.ModelNo.{ModelNo}
-use Rattle.ob_schema.specs.declared.definition.FieldDef.{FieldDef}
-use Rattle.ob_schema.specs.declared.field_type.FieldType.{FieldType}
-use Rattle.ob_schema.specs.declared.field_type.FieldType.TheVariants as type
+use Rattle.ob_definition.specs.declared.definition.FieldDef.{FieldDef}
+use Rattle.ob_definition.specs.declared.field_type.FieldType.{FieldType}
+use Rattle.ob_definition.specs.declared.field_type.FieldType.TheVariants as type
 use Rattle.ob_schema.specs.declared.info.FieldInfo.{FieldInfo}
 use Rattle.ob_schema.specs.declared.info.ModelInfo.{ModelInfo}
 use Rattle.ob_schema.specs.declared.info.Origin.{Origin}
 use Rattle.ob_schema.specs.declared.info.Origin.TheVariants as origin
 use Rattle.ob_schema.specs.Built.{IsBuilt, IsFieldOf, IsModelOf, IsOrigin, automatic_infos, id_info, moment_info}
-use Rattle.ob_schema.specs.Fields.{is_kept, is_kept_from, is_one2many, is_own}
+use Rattle.ob_definition.specs.Types.{is_one2many, is_relation}
+use Rattle.ob_schema.specs.Fields.{is_kept, is_kept_from, is_own}
 use Rattle.ob_schema.specs.Models.{IsModel, IsRegistry, model_at, model_named}
-use Rattle.ob_schema.specs.Types.{is_relation}
-use Rattle.ob_schema.specs.Definitions.{plain_field}
+use Rattle.ob_definition.specs.Definitions.{plain_field}
 use Rattle.stockd.specs.Model.{line_def, line_defs, subtotal_field}
 use Rattle.ob_orm.specs.Served.{IsServed, is_id}
 use Rattle.stockd.proofs.RegistryPlaces.{AllPlaced, Stands, each_of_names}

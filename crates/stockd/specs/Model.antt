@@ -1,12 +1,12 @@
 -- The one model so far, `demo.line`: a name, a quantity, a price, and their product.
 use Rattle.std.specs.Prelude.{List, [], ◌∷◌, codes, Some, true}
 use Rattle.ob_base.specs.declared.id.ModelNo.{ModelNo}
-use Rattle.ob_schema.specs.declared.definition.FieldDef.{FieldDef}
-use Rattle.ob_schema.specs.declared.definition.ModelDef.{ModelDef}
+use Rattle.ob_definition.specs.declared.definition.FieldDef.{FieldDef}
+use Rattle.ob_definition.specs.declared.definition.ModelDef.{ModelDef}
 use Rattle.ob_schema.specs.Built.{IsBuilt}
-use Rattle.ob_schema.specs.Definitions.{plain_field, plain_model}
+use Rattle.ob_definition.specs.Definitions.{plain_field, plain_model}
 use Rattle.ob_schema.specs.Models.{IsRegistry}
-use Rattle.ob_schema.specs.declared.field_type.FieldType.TheVariants as type
+use Rattle.ob_definition.specs.declared.field_type.FieldType.TheVariants as type
 use Rattle.ob_schema.specs.declared.info.ModelInfo.{ModelInfo}
 
 -- the product of the quantity and the price, which is kept

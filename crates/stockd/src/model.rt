@@ -3,7 +3,7 @@
 //! in specs/Model.
 
 ghost use Rattle.std.specs.Prelude.{◌≡◌, IfOk};
-ghost use Rattle.ob_schema.specs.declared.field_type.FieldType.{FieldType};
+ghost use Rattle.ob_definition.specs.declared.field_type.FieldType.{FieldType};
 ghost use Rattle.stockd.specs.Model.{IsLineRegistry, line_def, subtotal_field};
 
 use ob_base::{ModelNo, NoMemory, Sequence, Word};

@@ -3,9 +3,9 @@ use Rattle.std.specs.Prelude.{List, Option, Some, None}
 use Rattle.ob_base.specs.declared.value.Value.{Value}
 use Rattle.ob_codec.specs.Held.{GivesHeld, HasFieldType, HasType}
 use Rattle.ob_codec.specs.declared.input.Input.TheVariants as input
-use Rattle.ob_schema.specs.Values.{IsValueOf}
-use Rattle.ob_schema.specs.declared.field_type.Choice.{Choice}
-use Rattle.ob_schema.specs.declared.field_type.FieldType.{FieldType}
+use Rattle.ob_definition.specs.Values.{IsValueOf}
+use Rattle.ob_definition.specs.declared.field_type.Choice.{Choice}
+use Rattle.ob_definition.specs.declared.field_type.FieldType.{FieldType}
 use Rattle.ob_schema.specs.declared.info.FieldInfo.{FieldInfo}
 
 pub held : ((t : FieldType) (choices : List Choice) (v : Value) → IsValueOf t choices v → HasType t choices v)

@@ -13,12 +13,12 @@ use Rattle.ob_expr.specs.declared.kind.Kind.TheVariants as kind
 use Rattle.ob_expr.specs.declared.row.Row.{Row}
 use Rattle.ob_expr.specs.declared.typed.Link.{Link}
 use Rattle.ob_expr.specs.Chain.{and_then}
-use Rattle.ob_expr.specs.Checking.{AreFound, AreAllFound, route_of, step_of, step_on, step_route}
+use Rattle.ob_expr.specs.Checking.{AreFound, IsFound, route_of, step_of, step_on, step_route}
 use Rattle.ob_expr.specs.Kinds.{HasKind}
 use Rattle.ob_expr.specs.Meaning.{cell_in, row_at}
-use Rattle.ob_expr.specs.Reads.{ComesToPaths, MayRead, FieldHolds, PathHolds, HoldsKinds, AllHoldKinds}
+use Rattle.ob_expr.specs.Reads.{ComesToPaths, MayRead, FieldHolds, PathHolds, HoldsKinds}
 use Rattle.ob_expr.specs.Route.{Route, behind, through}
-use Rattle.ob_expr.specs.TypedTree.{TypedTree, TypedTrees, no_trees, one_more, row_id, integer, a_text, truth, unset, path, prefix, binary, chosen, choice, joined, digits, over}
+use Rattle.ob_expr.specs.TypedTree.{TypedTree, TypedTrees, no_trees, one_more, row_id, integer, a_text, truth, unset, path, prefix, binary, chosen, choice, joined, digits, over, EachPathOfAll}
 use Rattle.stockd_probe.specs.Fields.{field_no, finds, found, found_in, has_kind, is_day, is_int, is_list, is_moment, is_reference, is_text, is_truth, kind_of_field, number_of, of_kind, person}
 
 -- what a step gives, and what follows gives of it
@@ -167,6 +167,6 @@ module _ (held : Cell → Option Value) (holds : (cell : Cell) (v : Value) → h
     holds_kinds model (digits inner) are = holds_kinds model inner are
     holds_kinds model (over aggregate route target inner) are = (route_holds model route are.0, holds_kinds target inner are.1)
 
-    all_hold : (model : ModelNo) (all : TypedTrees) → AreAllFound finds model all → AllHoldKinds held model all
+    all_hold : (model : ModelNo) (all : TypedTrees) → EachPathOfAll (IsFound finds) model all → EachPathOfAll (λ from route. PathHolds held from route.links route.field route.kind) model all
     all_hold model no_trees are = tt
     all_hold model (one_more tree rest) are = (holds_kinds model tree are.0, all_hold model rest are.1)

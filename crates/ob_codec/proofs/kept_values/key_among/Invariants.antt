@@ -1,7 +1,7 @@
 use Rattle.std.proofs.Common.{◌≡◌, drop}
 use Rattle.std.specs.List.{list_any}
 use Rattle.std.specs.Str.{bytes_eq}
-use Rattle.ob_schema.specs.Values.{keys_of}
+use Rattle.ob_definition.specs.Values.{keys_of}
 use Rattle.ob_codec.proofs.kept_values.key_among.Given as goal
 
 -- the keys that are left have the text where all have it

@@ -2,7 +2,7 @@ use Rattle.std.proofs.Common.{◌∙◌, rules, tests}
 use Rattle.std.specs.Str.{bytes_eq}
 use Rattle.std.proofs.lemmas.Iterator.{YieldsList-from_slice}
 use Rattle.std.proofs.lemmas.Iterator.Search.{any_from_yields_List}
-use Rattle.ob_schema.specs.declared.field_type.Choice.{Choice}
+use Rattle.ob_definition.specs.declared.field_type.Choice.{Choice}
 use Rattle.ob_codec.proofs.Keys.{any_key}
 use Rattle.ob_codec.proofs.scalars.is_declared.Goals as goal
 

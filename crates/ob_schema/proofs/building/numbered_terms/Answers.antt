@@ -3,9 +3,9 @@ use Rattle.std.proofs.Common.{[], false, get_or, map, ap, ◌∙◌}
 use Rattle.std.proofs.lemmas.List.{take_all}
 use Rattle.ob_base.specs.declared.id.FieldNo.{FieldNo}
 use Rattle.ob_schema.specs.declared.info.OrderTerm.{OrderTerm}
-use Rattle.ob_schema.specs.declared.orders.OrderEntry.{OrderEntry}
+use Rattle.ob_definition.specs.declared.orders.OrderEntry.{OrderEntry}
 use Rattle.ob_schema.specs.Making.{numbered_term}
-use Rattle.ob_schema.specs.Orders.{term_of_entry}
+use Rattle.ob_definition.specs.Orders.{term_of_entry}
 use Rattle.ob_schema.proofs.Counting.{number_of-few}
 use Rattle.ob_schema.proofs.Copies.{map_map, value_more_at}
 use Rattle.ob_schema.proofs.building.numbered_terms.Goals as goal

@@ -1,7 +1,7 @@
 use Rattle.std.proofs.Common.{◌≡◌, map, take}
-use Rattle.ob_schema.specs.declared.orders.OrderEntry.{OrderEntry}
+use Rattle.ob_definition.specs.declared.orders.OrderEntry.{OrderEntry}
 use Rattle.ob_schema.specs.Making.{numbered_term}
-use Rattle.ob_schema.specs.Orders.{term_of_entry}
+use Rattle.ob_definition.specs.Orders.{term_of_entry}
 use Rattle.ob_schema.proofs.building.numbered_terms.Given as goal
 
 abbrev pub invariant-loop-entry : goal.invariant-loop-entry

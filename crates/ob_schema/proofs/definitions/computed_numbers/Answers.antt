@@ -2,8 +2,8 @@
 use Rattle.std.proofs.Common.{List, ◌++◌, ◌∷◌, [], sym, ap, subst, ◌∙◌, Vec, Global}
 use Rattle.std.specs.Prelude.{Contains}
 use Rattle.ob_base.specs.declared.id.FieldNo.{FieldNo}
-use Rattle.ob_schema.specs.declared.definition.FieldDef.{FieldDef}
-use Rattle.ob_schema.specs.Definitions.{is_computed}
+use Rattle.ob_definition.specs.declared.definition.FieldDef.{FieldDef}
+use Rattle.ob_definition.specs.Definitions.{is_computed}
 use Rattle.ob_schema.specs.Formulas.{number_of}
 use Rattle.ob_schema.proofs.Counting.{number_of-declared}
 use Rattle.ob_schema.proofs.Numbers.{kept_more, passed_more}

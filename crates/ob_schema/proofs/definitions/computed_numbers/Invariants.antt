@@ -1,7 +1,7 @@
 use Rattle.std.proofs.Common.{◌≡◌, map, take}
 use Rattle.std.specs.Prelude.{filter}
-use Rattle.ob_schema.specs.declared.definition.FieldDef.{FieldDef}
-use Rattle.ob_schema.specs.Definitions.{is_computed}
+use Rattle.ob_definition.specs.declared.definition.FieldDef.{FieldDef}
+use Rattle.ob_definition.specs.Definitions.{is_computed}
 use Rattle.ob_schema.specs.Formulas.{number_of}
 use Rattle.ob_schema.proofs.definitions.computed_numbers.Given as goal
 

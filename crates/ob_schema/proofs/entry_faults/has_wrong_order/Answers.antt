@@ -2,7 +2,7 @@
 use Rattle.std.proofs.Common.{List, ap, subst, ◌∙◌}
 use Rattle.std.specs.List.{list_any}
 use Rattle.ob_schema.specs.declared.entry_faults.Order.{Order}
-use Rattle.ob_schema.specs.declared.orders.OrderEntry.{OrderEntry}
+use Rattle.ob_definition.specs.declared.orders.OrderEntry.{OrderEntry}
 use Rattle.ob_schema.specs.Faults.{is_unordered}
 use Rattle.ob_schema.specs.OrderEntries.{IsOrderOf}
 use Rattle.ob_schema.proofs.EntryLaws.{wrong_order}

@@ -1,7 +1,7 @@
 -- What is first of the entry as a whole, and what follows for its fields.
 use Rattle.std.proofs.Common.{[], refl, ap, subst, ◌∙◌}
 use Rattle.ob_schema.specs.Formulas.{computed_numbers}
-use Rattle.ob_schema.specs.declared.definition.ModelDef.{ModelDef}
+use Rattle.ob_definition.specs.declared.definition.ModelDef.{ModelDef}
 use Rattle.ob_schema.specs.Findings.{EntryHas, IsFirstWrong}
 use Rattle.ob_schema.proofs.Walks.{entry_count, least_own, only_def, own_wrong}
 use Rattle.ob_schema.proofs.faults.first_in_entry.Goals as goal

@@ -1,7 +1,7 @@
 -- One field after another, each with its first fault or passed over.
 use Rattle.std.proofs.Common.{◌≡◌, ℕ, ◌+◌, List, length, sym, ap, subst, ◌∙◌, arith}
 use Rattle.std.specs.Prelude.{slice_get}
-use Rattle.ob_schema.specs.declared.definition.FieldDef.{FieldDef}
+use Rattle.ob_definition.specs.declared.definition.FieldDef.{FieldDef}
 use Rattle.ob_schema.specs.Findings.{IsFaultAmong, IsLeast}
 use Rattle.ob_schema.proofs.Spots.{least_in, least_more, least_none, least_skip}
 use Rattle.ob_schema.proofs.Walks.{at_entry, entry_count, passed_over}

@@ -1,8 +1,8 @@
 -- There are few models, and the keys of a field fit.
 use Rattle.std.proofs.Common.{List, subst, sym}
 use Rattle.std.specs.Prelude.{IfSome}
-use Rattle.ob_schema.specs.declared.field_type.Choice.{Choice}
-use Rattle.ob_schema.specs.Values.{IsValueOf}
+use Rattle.ob_definition.specs.declared.field_type.Choice.{Choice}
+use Rattle.ob_definition.specs.Values.{IsValueOf}
 use Rattle.ob_schema.proofs.Clean.{few_models, sound_fits}
 use Rattle.ob_schema.proofs.Defaults.{default_fits-from_fits}
 use Rattle.ob_schema.proofs.field_building.field_info.Goals as goal

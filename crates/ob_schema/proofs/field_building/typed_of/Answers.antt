@@ -1,8 +1,8 @@
 -- Each other finding is a fault.
 use Rattle.std.proofs.Common.{◌≡◌, List, subst, arith}
 use Rattle.ob_expr.specs.declared.typed.Typed.{Typed}
-use Rattle.ob_schema.specs.declared.definition.FieldDef.{FieldDef}
-use Rattle.ob_schema.specs.declared.definition.ModelDef.{ModelDef}
+use Rattle.ob_definition.specs.declared.definition.FieldDef.{FieldDef}
+use Rattle.ob_definition.specs.declared.definition.ModelDef.{ModelDef}
 use Rattle.ob_schema.specs.declared.finding.Finding.{Finding}
 use Rattle.ob_schema.specs.declared.finding.Finding.TheVariants as finding
 use Rattle.ob_schema.specs.Findings.{IsChecked, IsFinding}

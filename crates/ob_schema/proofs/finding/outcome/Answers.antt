@@ -3,7 +3,7 @@ use Rattle.std.proofs.Common.{◌≡◌, List, Ok, subst}
 use Rattle.ob_expr.specs.Checking.{AreFound, typed_of}
 use Rattle.ob_expr.specs.TypedTree.{IsWellKinded, TypedTree, typed_tree_of}
 use Rattle.ob_syntax.specs.Grammar.{Tree, tree_of}
-use Rattle.ob_schema.specs.declared.definition.ModelDef.{ModelDef}
+use Rattle.ob_definition.specs.declared.definition.ModelDef.{ModelDef}
 use Rattle.ob_schema.specs.Findings.{IsSound}
 use Rattle.ob_schema.specs.Formulas.{finds_in, own_model}
 use Rattle.ob_schema.proofs.finding.outcome.Goals as goal
