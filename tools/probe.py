@@ -5,6 +5,7 @@ random. Of a word whose lines are always the same all are asked, whatever the co
 with 1 where an answer differs.
 """
 import importlib
+import os
 import random
 import subprocess
 import sys
@@ -19,6 +20,10 @@ FAULTS = {"Shape": "wrong shape", "Range": "out of range", "Unknown": "unknown k
 NAMES = ("create", "update", "delete", "unlink", "link", "clear", "set")
 TEXTS = ("", "bolt", "a b", "é", "\u0000", '"', "\\", "\n", "\U0001f529", "draft", "done", "2024-02-29",
          "2023-02-29", "0001-01-01", "9999-12-31", "10000-01-01", "2023-11-14 22:13:20", "2023-11-14 22:13:60")
+# The words whose lines stand in a file of that name, with answers that were worked out by hand.
+CASES = ("expression_cases", "schema_cases")
+# The bytes that are asked for at once.
+OUTPUT_MAX = 1000000
 NUMBERS = (0, 1, -1, 7, 75, ID_MAX, ID_MAX + 1, I64_MAX, I64_MAX + 1, I64_MIN, I64_MIN - 1, 2 ** 64 - 1, 2 ** 64)
 
 
@@ -169,9 +174,9 @@ def moment(rng, _model):
 
 
 def makers():
-    """What makes lines of each word, and all lines of some: of expressions, stock and connections only where the machine has their functions."""
+    """What makes lines of each word, and all lines of some: of expressions, definitions, stock and connections only where the machine has their functions."""
     runs, found = {}, {"row": row, "value": value, "order": order, "day": day, "moment": moment}
-    for part, words in (("probe_expr", "expression, kinds and evaluate"), ("probe_stock", "takes, lines, state, split, chain and push"), ("probe_http", "http and http_cuts")):
+    for part, words in (("probe_expr", "expression, kinds and evaluate"), ("probe_schema", "schema"), ("probe_stock", "takes, lines, state, split, chain and push"), ("probe_http", "http and http_cuts")):
         try:
             module = importlib.import_module(part)
             found.update(module.MAKERS)
@@ -181,12 +186,20 @@ def makers():
     return found, runs
 
 
+def cases(word):
+    """The lines of a file of cases, each with its answer."""
+    with open(os.path.join(os.path.dirname(__file__), word + ".txt"), encoding="utf-8") as lines:
+        return [tuple(line.rstrip("\n").split(" => ")) for line in lines if line.strip() and not line.startswith("#")]
+
+
 def asked_and_wanted():
     """So many lines with the answers that are wanted, of one word or of all; or all lines of a word of a run."""
     rng, model = random.Random(int(sys.argv[2])), declared()
     found, runs = makers()
     # Rows and values have more forms than the others.
     words = sys.argv[4:] or [*found, "row", "value", "value"]
+    if words[0] in CASES:
+        return cases(words[0])
     if words[0] in runs:
         return runs[words[0]]()
     if words[0] not in found:
@@ -195,20 +208,43 @@ def asked_and_wanted():
     return [found[rng.choice(words)](rng, model) for _ in range(int(sys.argv[3]))]
 
 
-def main():
-    pairs = asked_and_wanted()
-    if not pairs:
-        return 0
+def portions(pairs):
+    """The lines by turns, as many at once as an unproved build may answer (tools/run.sh)."""
+    portion, size = [], 0
+    for line, want in pairs:
+        length = len(str(want).encode()) + 1
+        if portion and size + length > OUTPUT_MAX:
+            yield portion
+            portion, size = [], 0
+        portion.append((line, want))
+        size += length
+    if portion:
+        yield portion
+
+
+def answered(pairs):
+    """The probe's answers to such lines, or None where it doesn't answer each."""
     asked = "".join(line + "\n" for line, _ in pairs)
     ran = subprocess.run(["tools/run.sh", "stockd_probe"], input=asked.encode(), stdout=subprocess.PIPE)
     answers = ran.stdout.decode().split("\n")[:-1]
     if ran.returncode or len(answers) != len(pairs):
         print("the probe ended with status %d after %d of %d answers" % (ran.returncode, len(answers), len(pairs)))
-        return 1
-    wrong = [(line, want, got) for (line, want), got in zip(pairs, answers) if got != want]
+        return None
+    return answers
+
+
+def main():
+    wrong, count = [], 0
+    for pairs in portions(asked_and_wanted()):
+        answers = answered(pairs)
+        if answers is None:
+            return 1
+        wrong += [(line, want, got) for (line, want), got in zip(pairs, answers) if got != want]
+        count += len(pairs)
     for line, want, got in wrong[:5]:
         print("asked: %s\n  wanted: %s\n  answered: %s" % (line, want, got))
-    print("%d answers, %d differ" % (len(pairs), len(wrong)))
+    if count:
+        print("%d answers, %d differ" % (count, len(wrong)))
     return 1 if wrong else 0
 
 

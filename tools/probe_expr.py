@@ -3,7 +3,6 @@
 The machine tells no offsets, so they are found here: the first token with which no expression goes on by asking its parser
 whether what stands before can be ended, the first wrong part by where its checker stops.
 """
-import os
 import re
 import sys
 
@@ -274,12 +273,4 @@ def outcome(text, model, id_, cells):
     return " ".join(["%s %s ticks:1" % (told_kind(tree.kind), told), *cells.reads])
 
 
-def cases():
-    """The cases of tools/expression_cases.txt."""
-    with open(os.path.join(os.path.dirname(__file__), "expression_cases.txt"), encoding="utf-8") as lines:
-        return [tuple(line.rstrip("\n").split(" => ")) for line in lines if line.strip() and not line.startswith("#")]
-
-
 MAKERS = {"expression": expression, "kinds": kinds, "evaluate": evaluate}
-# The words whose lines are always the same.
-RUNS = {"expression_cases": cases}

@@ -21,9 +21,9 @@ use Rattle.ob_expr.specs.declared.kind.Kind.{Kind}
 use Rattle.ob_expr.specs.declared.kind.Kind.TheVariants as kind
 use Rattle.ob_expr.specs.declared.row.Row.{Row as Place}
 use Rattle.ob_schema.specs.Fields.{Column, Holds, is_kept, is_plain_from, is_plain_kept, plain_columns}
-use Rattle.ob_schema.specs.Formulas.{kind_of_type}
+use Rattle.ob_schema.specs.Finds.{kind_of_type}
 use Rattle.ob_definition.specs.Keys.{is_selection}
-use Rattle.ob_definition.specs.Types.{is_list}
+use Rattle.ob_definition.specs.Types.{is_list, is_relation}
 use Rattle.ob_definition.specs.Values.{IsNative, IsText, IsValueOf}
 use Rattle.ob_definition.specs.declared.field_type.Choice.{Choice}
 use Rattle.ob_definition.specs.declared.field_type.FieldType.{FieldType}
@@ -33,12 +33,14 @@ use Rattle.ob_schema.specs.declared.info.Formula.{Formula}
 use Rattle.ob_schema.specs.declared.info.ModelInfo.{ModelInfo}
 use Rattle.ob_schema.specs.declared.info.Origin.{Origin}
 use Rattle.ob_schema.specs.declared.info.Origin.TheVariants as origin
-use Rattle.ob_schema.specs.Models.{IsFormulaIn, IsOperand, kind_of_info, numbered}
+use Rattle.ob_schema.specs.Built.{numbered}
+use Rattle.ob_schema.specs.Models.{IsFormulaIn, kind_of_info}
 use Rattle.ob_orm.specs.CreateSteps.{ArePlain, HoldsOperands, IsHeldIn, gathered, held_at}
 use Rattle.ob_orm.specs.Scratch.{is_short, limited, text_limit}
 use Rattle.ob_orm.specs.Served.{IsServed, is_id}
 use Rattle.ob_orm.specs.Sound.{HasForms}
 use Rattle.ob_orm.specs.Tables.{plain}
+use Rattle.ob_orm.proofs.OwnFields.{IsOperand}
 use Rattle.ob_orm.proofs.CreateColumns.{All-at, Contains-plain_columns, Holds-gathered, plain-gathered, plain_is_kept, taken}
 use Rattle.ob_orm.proofs.PlainReads.{along_fields, held_by}
 
@@ -190,6 +192,7 @@ kept_plain f from served = by f.origin refl from where
   by origin.Id is from = absurd cc
   by origin.Plain is from = (plain_is_kept f is served).1
   by (origin.Computed formula) is from = absurd cc
+  by (origin.Delegated at) is from = absurd cc
 
 -- an operand of a formula has its value among the values
 held_operand : (info : ModelInfo) (values : List Value) (route : Route) → ArePlain info values → IsServed info → IsOperand info.fields route → IsHeld info values route
@@ -275,10 +278,23 @@ limited-is t (Ok w) v e = by (is_short (text_limit t) w) refl e where
   by true short e = (e, ap (is_short (text_limit t)) (let same : v ≡ w = cc in same) ∙ short)
   by false short e = absurd cc
 
+-- what is no relation is no list
+pub no_list_from : (t : FieldType) → is_relation t ≡ false → is_list t ≡ false
+no_list_from type.Boolean e = refl
+no_list_from type.Integer e = refl
+no_list_from type.Char e = refl
+no_list_from type.Text e = refl
+no_list_from type.Date e = refl
+no_list_from type.Datetime e = refl
+no_list_from type.Selection e = refl
+no_list_from type.Many2one e = refl
+no_list_from type.One2many e = absurd (false≢true (sym e))
+no_list_from type.Many2many e = absurd (false≢true (sym e))
+
 -- its field may hold it
-pub Holds-formula : (info : ModelInfo) (values : List Value) (f : FieldInfo) (formula : Formula) (place : Place) (v : Value) → GivesCellsValues (typed_tree_of formula.typed) → ArePlain info values
-    → IsFormulaIn info.fields f formula → limited f.field_type (meaning (held_in info values) place (typed_tree_of formula.typed)) ≡ Ok v → HasKind (kind_of (typed_tree_of formula.typed)) v → IsNative v → Holds f v
-Holds-formula info values f formula place v gives known is e kinded native =
+pub Holds-formula : (models : List ModelInfo) (model : ModelNo) (info : ModelInfo) (values : List Value) (f : FieldInfo) (formula : Formula) (place : Place) (v : Value) → GivesCellsValues (typed_tree_of formula.typed) → ArePlain info values
+    → IsFormulaIn models model f formula → limited f.field_type (meaning (held_in info values) place (typed_tree_of formula.typed)) ≡ Ok v → HasKind (kind_of (typed_tree_of formula.typed)) v → IsNative v → Holds f v
+Holds-formula models model info values f formula place v gives known is e kinded native =
     let tree : TypedTree = typed_tree_of formula.typed in
     let short = limited-is f.field_type (meaning (held_in info values) place tree) v e in
-    of_kind f.field_type f.relation f.selection (kind_of tree) v is.kind is.no_list is.no_selection kinded (value-within info values place tree v gives known short.0 native) short.1 native
+    of_kind f.field_type f.relation f.selection (kind_of tree) v is.kind (no_list_from f.field_type is.no_relation) is.no_selection kinded (value-within info values place tree v gives known short.0 native) short.1 native

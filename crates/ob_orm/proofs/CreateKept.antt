@@ -1,12 +1,12 @@
 -- The kept values of a new row, field by field.
-use Rattle.std.proofs.Common.{◌≡◌, ℕ, zero, suc, ◌+◌, ◌<◌, ◌≤◌, Bool, true, false, cond, List, [], ◌∷◌, ◌++◌, length, get_or, drop, filter, map, Option, Some, None, Result, Ok, Err, refl, sym, ap}
+use Rattle.std.proofs.Common.{◌≡◌, ℕ, zero, suc, ◌+◌, ◌<◌, ◌≤◌, Bool, true, false, cond, List, [], ◌∷◌, ◌++◌, length, drop, filter, map, Option, Some, None, Result, Ok, Err, refl, sym, ap}
 use Rattle.std.proofs.Common.{subst, ◌∙◌, append_assoc, append-nil, arith}
 use Rattle.std.specs.Prelude.{All, IfSome, MatchResult, OnOk, option_and_then, option_map, slice_get, is_some}
 use Rattle.std.specs.List.{enumerate_from}
 use Rattle.std.specs.Result.{result_unwrap_or}
 use Rattle.std.proofs.lemmas.List.{drop_all, drop_more}
 use Rattle.std.proofs.lemmas.List.Elements.{All-cons, All-nil}
-use Rattle.std.proofs.lemmas.Option.{get_or_from_slice_get, slice_get-get_or, slice_get_within}
+use Rattle.std.proofs.lemmas.Option.{get_or_from_slice_get, slice_get_within}
 use Rattle.ob_base.specs.Tally.{Tally, ticked, ticked_times}
 use Rattle.ob_base.specs.declared.id.Cell.{Cell}
 use Rattle.ob_base.specs.declared.id.FieldNo.{FieldNo}
@@ -17,9 +17,9 @@ use Rattle.ob_base.specs.declared.value.Value.{Value}
 use Rattle.ob_base.specs.declared.value.Value.TheVariants as value
 use Rattle.ob_codec.specs.RowForm.{HoldAll}
 use Rattle.ob_expr.specs.Computing.{Lack}
-use Rattle.ob_schema.specs.Built.{id_info}
 use Rattle.ob_schema.specs.Fields.{Column, columns, is_kept, kept_fields}
-use Rattle.ob_schema.specs.Models.{HasField, field_at, model_at, numbered}
+use Rattle.ob_schema.specs.Built.{numbered}
+use Rattle.ob_schema.specs.Models.{HasField, field_at, fields_of, model_at}
 use Rattle.ob_schema.specs.declared.info.FieldInfo.{FieldInfo}
 use Rattle.ob_schema.specs.declared.info.ModelInfo.{ModelInfo}
 use Rattle.ob_orm.specs.Create.{cell_of}
@@ -29,6 +29,7 @@ use Rattle.ob_orm.specs.Kept.{kept_values}
 use Rattle.ob_orm.specs.Scratch.{val, val_or_unset}
 use Rattle.ob_orm.specs.Sound.{HasValue}
 use Rattle.ob_orm.specs.Tables.{Row}
+use Rattle.ob_orm.proofs.OwnFields.{slice_get-before, there_at}
 use Rattle.ob_orm.proofs.CreateColumns.{Contains-columns}
 use Rattle.ob_orm.proofs.CreateFields.{GivesAt, tell, told}
 
@@ -170,6 +171,10 @@ pub record StepIn (models : List ModelInfo) (model : ModelNo) (fields : List Fie
 numbered-more : (fields : List FieldInfo) (i : ℕ) → numbered fields (i + 1) ≡ slice_get fields i
 numbered-more fields i = ap (numbered fields) (let e : i + 1 ≡ suc i = omega arith in e)
 
+-- what has it among the named fields has it among all
+field_of-more : (info : ModelInfo) (i : ℕ) (f : FieldInfo) → slice_get info.fields i ≡ Some f → numbered (fields_of info) (i + 1) ≡ Some f
+field_of-more info i f at = numbered-more (fields_of info) i ∙ slice_get-before info.fields info.hidden i f at
+
 -- where there is one
 pub step_in : (models : List ModelInfo) (model : ModelNo) (fields : List FieldInfo) (i : ℕ) → option_map (λ info. info.fields) (model_at models model) ≡ Some fields → i < length fields → StepIn models model fields i
 step_in models model fields i same lt = by (model_at models model) refl same where
@@ -178,15 +183,14 @@ step_in models model fields i same lt = by (model_at models model) refl same whe
   by (Some info) is same =
       let own : info.fields ≡ fields = cc in
       let inside : i < length info.fields = subst (λ (fs : List FieldInfo). i < length fs) (sym own) lt in
-      let f : FieldInfo = get_or info.fields i id_info in
-      let field_is : slice_get info.fields i ≡ Some f = slice_get-get_or info.fields i id_info inside in
+      let (f, field_is) = there_at info.fields i inside in
       record {
         info = info;
         f = f;
         model_is = is;
         fields_is = own;
         field_is = field_is;
-        at = ap (λ (o : Option ModelInfo). option_and_then (λ info. numbered info.fields (i + 1)) o) is ∙ numbered-more info.fields i ∙ field_is;
+        at = ap (λ (o : Option ModelInfo). option_and_then (λ own. numbered (fields_of own) (i + 1)) o) is ∙ field_of-more info i f field_is;
       }
 
 -- so there is the field

@@ -1,13 +1,13 @@
 -- The plain values of a new row, field by field.
 use Rattle.std.proofs.Common.{◌≡◌, ℕ, ℤ, zero, suc, ◌+◌, ◌-◌, ◌<◌, ◌||◌, Bool, true, false, cond, List, [], ◌∷◌, ◌++◌, length, get_or, map, filter, codes, Option, Some, None, Result, Ok, Err}
 use Rattle.std.proofs.Common.{option_map, refl, sym, ap, subst, ◌∙◌, arith, inl, inr}
-use Rattle.std.specs.Prelude.{Contains, IfSome, slice_get}
+use Rattle.std.specs.Prelude.{Any, Contains, IfSome, slice_get}
 use Rattle.std.specs.Cmp.Lexicographic.{slice_cmp}
 use Rattle.std.specs.List.{enumerate_from}
 use Rattle.std.specs.Ordering.{nat_cmp}
 use Rattle.std.specs.Str.{bytes_eq}
 use Rattle.std.specs.declared.cmp.Ordering.TheVariants.{Less, Equal}
-use Rattle.std.proofs.lemmas.Bool.{cases_lt, false≢true}
+use Rattle.std.proofs.lemmas.Bool.{cases_lt}
 use Rattle.std.proofs.lemmas.Cmp.{nat_list_cmp_total, tied_itself}
 use Rattle.std.proofs.lemmas.List.{get_or_append_left, get_or_push, get_or-map, length-map}
 use Rattle.std.proofs.lemmas.Option.{get_or_from_slice_get, slice_get_within}
@@ -20,11 +20,11 @@ use Rattle.ob_base.specs.declared.refusal.Refusal.{Refusal}
 use Rattle.ob_base.specs.declared.refusal.Refusal.TheVariants as refusal
 use Rattle.ob_base.specs.declared.value.Value.{Value}
 use Rattle.ob_base.specs.declared.value.Value.TheVariants as value
-use Rattle.ob_schema.specs.Built.{id_info, moment_info}
+use Rattle.ob_definition.specs.Members.{moment_def}
+use Rattle.ob_definition.specs.declared.definition.FieldDef.{FieldDef}
 use Rattle.ob_schema.specs.Fields.{Column, Holds, is_plain_kept, plain_columns}
-use Rattle.ob_schema.specs.Models.{IsModel, field_at, model_at}
-use Rattle.ob_definition.specs.Types.{is_list, is_relation}
-use Rattle.ob_definition.specs.declared.field_type.FieldType.{FieldType}
+use Rattle.ob_schema.specs.Models.{IsField, IsModel, field_at, model_at}
+use Rattle.ob_definition.specs.Types.{is_relation}
 use Rattle.ob_definition.specs.declared.field_type.FieldType.TheVariants as type
 use Rattle.ob_schema.specs.declared.info.FieldInfo.{FieldInfo}
 use Rattle.ob_schema.specs.declared.info.ModelInfo.{ModelInfo}
@@ -35,32 +35,22 @@ use Rattle.ob_call.specs.Results.{IsResultOf}
 use Rattle.ob_orm.specs.Served.{IsServed}
 use Rattle.ob_orm.specs.Sound.{HasForms}
 use Rattle.ob_orm.specs.Tables.{Row}
-use Rattle.ob_orm.proofs.CreateColumns.{taken, All-at}
+use Rattle.ob_orm.proofs.OwnFields.{fields_valid}
+use Rattle.ob_orm.proofs.CreateFormulas.{no_list_from}
+use Rattle.ob_orm.proofs.CreateColumns.{taken}
+use Rattle.ob_orm.proofs.CreateColumns.{All-at}
 use Rattle.ob_orm.proofs.CreateFields.{tell, told}
 use Rattle.ob_orm.proofs.CreateKept.{StepIn, step_in}
 
 -- ---- fields to which a create gives values
-
--- what is no relation is no list
-no_list_from : (t : FieldType) → is_relation t ≡ false → is_list t ≡ false
-no_list_from type.Boolean e = refl
-no_list_from type.Integer e = refl
-no_list_from type.Char e = refl
-no_list_from type.Text e = refl
-no_list_from type.Date e = refl
-no_list_from type.Datetime e = refl
-no_list_from type.Selection e = refl
-no_list_from type.Many2one e = refl
-no_list_from type.One2many e = absurd (false≢true (sym e))
-no_list_from type.Many2many e = absurd (false≢true (sym e))
 
 -- the name of a field at a place
 name_at : (fields : List FieldInfo) (i : ℕ) (d : FieldInfo) → i < length fields → get_or (map (λ field. field.name) fields) i d.name ≡ (get_or fields i d).name
 name_at fields i d lt = get_or-map (λ (field : FieldInfo). field.name) fields i d d.name lt
 
 -- no two fields have one name
-in_order : (info : ModelInfo) (i j : ℕ) (d : FieldInfo) → IsModel info → i < j → j < length info.fields → (get_or info.fields i d).name ≡ (get_or info.fields j d).name → ⊥
-in_order info i j d valid lt inside same =
+in_order : (models : List ModelInfo) (model : ModelNo) (info : ModelInfo) (i j : ℕ) (d : FieldInfo) → IsModel models model info → i < j → j < length info.fields → (get_or info.fields i d).name ≡ (get_or info.fields j d).name → ⊥
+in_order models model info i j d valid lt inside same =
     let names = map (λ (field : FieldInfo). field.name) info.fields in
     let less : slice_cmp nat_cmp (get_or names i d.name) (get_or names j d.name) ≡ Less = valid.ordered i j d.name lt (omega (arith, length-map info.fields (λ (field : FieldInfo). field.name))) in
     let alike : get_or names i d.name ≡ get_or names j d.name = name_at info.fields i d (omega arith) ∙ same ∙ sym (name_at info.fields j d inside) in
@@ -69,34 +59,38 @@ in_order info i j d valid lt inside same =
     cc
 
 -- a field of a name is the one of it
-pub one_of_name : (info : ModelInfo) (i : ℕ) (f g : FieldInfo) → IsModel info → slice_get info.fields i ≡ Some f → Contains info.fields g → f.name ≡ g.name → f ≡ g
-one_of_name info i f g valid at (k, inside, is) same =
+pub one_of_name : (models : List ModelInfo) (model : ModelNo) (info : ModelInfo) (i : ℕ) (f g : FieldInfo) → IsModel models model info → slice_get info.fields i ≡ Some f → Contains info.fields g → f.name ≡ g.name → f ≡ g
+one_of_name models model info i f g valid at (k, inside, is) same =
     let lt = slice_get_within info.fields i f at in
     let here : get_or info.fields i g ≡ f = get_or_from_slice_get info.fields i f g at in
     elim (cases_lt i k) [
-      | inl before ↦ absurd (in_order info i k g valid before inside (ap (λ (h : FieldInfo). h.name) here ∙ same ∙ sym (ap (λ (h : FieldInfo). h.name) is)))
+      | inl before ↦ absurd (in_order models model info i k g valid before inside (ap (λ (h : FieldInfo). h.name) here ∙ same ∙ sym (ap (λ (h : FieldInfo). h.name) is)))
       | inr after ↦ elim (cases_lt k i) [
-        | inl later ↦ absurd (in_order info k i g valid later lt (ap (λ (h : FieldInfo). h.name) is ∙ sym same ∙ sym (ap (λ (h : FieldInfo). h.name) here)))
+        | inl later ↦ absurd (in_order models model info k i g valid later lt (ap (λ (h : FieldInfo). h.name) is ∙ sym same ∙ sym (ap (λ (h : FieldInfo). h.name) here)))
         | inr tied ↦ (let e : i ≡ k = omega arith in sym here ∙ ap (λ (n : ℕ). get_or info.fields n g) e ∙ is)
       ]
     ]
 
 -- a stamp is a moment
-stamp_type : (info : ModelInfo) (i : ℕ) (f : FieldInfo) → IsModel info → slice_get info.fields i ≡ Some f → is_stamp f.name ≡ true → f.field_type ≡ type.Datetime
-stamp_type info i f valid at stamp = by (bytes_eq f.name (codes "create_date")) refl stamp where
-  named : (name : List ℕ) → Contains info.fields (moment_info name) → bytes_eq f.name name ≡ true → f.field_type ≡ type.Datetime
-  named name there same = ap (λ (g : FieldInfo). g.field_type) (one_of_name info i f (moment_info name) valid at there ((bytes_eq-Decides f.name name).0 same))
+stamp_type : (models : List ModelInfo) (model : ModelNo) (info : ModelInfo) (i : ℕ) (f : FieldInfo) → IsModel models model info → slice_get info.fields i ≡ Some f → is_stamp f.name ≡ true → f.field_type ≡ type.Datetime
+stamp_type models model info i f valid at stamp = by (bytes_eq f.name (codes "create_date")) refl stamp where
+  named : (name : List ℕ) → Any (λ g. (g.name ≡ name) × (g.field_type ≡ type.Datetime)) info.fields → bytes_eq f.name name ≡ true → f.field_type ≡ type.Datetime
+  named name (k, g, inside, is, own) same =
+      ap (λ (h : FieldInfo). h.field_type) (one_of_name models model info i f g valid at (k, inside, is) ((bytes_eq-Decides f.name name).0 same ∙ sym own.0)) ∙ own.1
+
+  first : FieldDef
+  first = moment_def (codes "create_date")
 
   by : (b : Bool) → bytes_eq f.name (codes "create_date") ≡ b → (b || bytes_eq f.name (codes "write_date")) ≡ true → f.field_type ≡ type.Datetime
-  by true same e = named (codes "create_date") (valid.automatic 0 id_info (omega arith)) same
-  by false same e = named (codes "write_date") (valid.automatic 2 id_info (omega arith)) e
+  by true same e = named (codes "create_date") (valid.automatic 0 first (omega arith)) same
+  by false same e = named (codes "write_date") (valid.automatic 2 first (omega arith)) e
 
 -- each field of a served model is one
-pub IsGivable-at : (info : ModelInfo) (i : ℕ) (f : FieldInfo) → IsModel info → IsServed info → slice_get info.fields i ≡ Some f → IsGivable f
-IsGivable-at info i f valid served at = record {
+pub IsGivable-at : (models : List ModelInfo) (model : ModelNo) (info : ModelInfo) (i : ℕ) (f : FieldInfo) → IsModel models model info → IsServed info → slice_get info.fields i ≡ Some f → IsGivable f
+IsGivable-at models model info i f valid served at = record {
   no_list = no_list_from f.field_type (All-at (λ g. is_relation g.field_type ≡ false) info.fields i f at served.no_relation);
-  stamp = stamp_type info i f valid at;
-  default = All-at (λ g. IfSome g.default (Holds g)) info.fields i f at valid.defaults;
+  stamp = stamp_type models model info i f valid at;
+  default = (All-at (IsField models model info) info.fields i f at (fields_valid models model info valid served)).default;
 }
 
 -- ---- rows of given values
@@ -250,11 +244,11 @@ taken_refused models model fields i now place ms values why same lt takes far Of
 
 -- a create may give a value to each field of a served model
 pub givable_at : (models : List ModelInfo) (model : ModelNo) (fields : List FieldInfo) (i : ℕ) → option_map (λ info. info.fields) (model_at models model) ≡ Some fields → i < length fields
-    → IfSome (model_at models model) IsModel → IfSome (model_at models model) IsServed
+    → IfSome (model_at models model) (IsModel models model) → IfSome (model_at models model) IsServed
     → IfSome (field_at models model (record { 0 = i + 1 })) IsGivable
 givable_at models model fields i same lt valid served =
     let there = step_in models model fields i same lt in
     let o = model_at models model in
     let number : FieldNo = record { 0 = i + 1 } in
     tell (field_at models model number) there.f IsGivable there.at
-    (IsGivable-at there.info i there.f (told o there.info IsModel there.model_is valid) (told o there.info IsServed there.model_is served) there.field_is)
+    (IsGivable-at models model there.info i there.f (told o there.info (IsModel models model) there.model_is valid) (told o there.info IsServed there.model_is served) there.field_is)

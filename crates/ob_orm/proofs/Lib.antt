@@ -10,6 +10,7 @@ pub mod ReadObjects
 pub mod ReadFetched
 pub mod ReadSteps
 pub mod ReadAnswers
+pub mod OwnFields
 pub mod CreateColumns
 pub mod PlainReads
 pub mod NeverUnread

@@ -16,7 +16,8 @@ use Rattle.ob_expr.specs.declared.typed.Aggregate.{Aggregate}
 use Rattle.ob_expr.specs.declared.typed.Aggregate.TheVariants.{Count, Any, All, Sum, Extreme}
 use Rattle.ob_expr.specs.declared.typed.Link.{Link}
 use Rattle.ob_expr.specs.Chain.{and_then, each}
-use Rattle.ob_expr.specs.Computing.{Lack, overflow, too_long, zero_divisor, unread, fitted, bytes_of, joined_value, digits_value, is_true, prefixed_value, decides, divided, floor_of, rest_of, operated_value, number_of, chosen_value, gathered_value, total}
+use Rattle.ob_expr.specs.Computing.{Lack, overflow, too_long, zero_divisor, unread, fitted, bytes_of, joined_value, digits_value, is_true, prefixed_value, decides, divided, floor_of, rest_of, operated_value, number_of}
+use Rattle.ob_expr.specs.Computing.{chosen_value, gathered_value, total}
 use Rattle.ob_expr.specs.Kinds.{empty_value}
 use Rattle.ob_expr.specs.Meaning.{at_end, follow, ids_of, meaning, path_value, row_at, values_of}
 use Rattle.ob_expr.specs.TypedTree.{TypedTree, TypedTrees, no_trees, one_more, row_id, integer, a_text, truth, unset, path, prefix, binary, chosen, choice, joined, digits, over, kind_of, typed_tree_of}
@@ -167,6 +168,7 @@ own_val origin.Id model column id row = tt
 own_val origin.Plain model column id row = tt
 own_val (origin.Computed formula) model column id row =
     own_limited column.1.field_type _ (own_meaning (λ cell. plain row cell.field.0) (record { model = model; id = record { 0 = id } }) (typed_tree_of formula.typed))
+own_val (origin.Delegated delegation) model column id row = tt
 
 -- each field of a row has a value, or is broken in a way that is told
 pub each_told : (model : ModelNo) (column : Column) (id : ℕ) (row : Row) → HasValueOrBreaks (val model column id row)

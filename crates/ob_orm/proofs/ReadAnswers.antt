@@ -13,7 +13,8 @@ use Rattle.ob_base.specs.declared.refusal.Refusal.{Refusal}
 use Rattle.ob_base.specs.declared.refusal.Refusal.TheVariants as refusal
 use Rattle.ob_io.specs.Store.{Store}
 use Rattle.ob_schema.specs.Fields.{Column, columns}
-use Rattle.ob_schema.specs.Models.{model_at, numbered}
+use Rattle.ob_schema.specs.Built.{numbered}
+use Rattle.ob_schema.specs.Models.{fields_of, model_at}
 use Rattle.ob_schema.specs.declared.info.FieldInfo.{FieldInfo}
 use Rattle.ob_schema.specs.declared.info.ModelInfo.{ModelInfo}
 use Rattle.serde_json.specs.Data.{Data, null, boolean, number, string, array, object}
@@ -34,6 +35,7 @@ use Rattle.ob_orm.specs.Tables.{Tables}
 use Rattle.ob_call.specs.declared.arguments.Given.{Given}
 use Rattle.ob_call.specs.declared.call.Call.{Call}
 use Rattle.ob_orm.proofs.Expected.{ReadGiven, at_info, read_given}
+use Rattle.ob_orm.proofs.OwnFields.{numbered-before}
 use Rattle.ob_orm.proofs.ReadFetched.{Told}
 use Rattle.ob_orm.proofs.ReadNumbers.{numbers_in}
 use Rattle.ob_orm.proofs.ReadOnce.{All-once}
@@ -120,7 +122,7 @@ same_columns info (n ∷ numbers) (c ∷ cs) e own =
 
 -- a field of this number is there
 abbrev IsThere : Option ModelInfo → FieldNo → Type 0
-IsThere found n = IsSome (option_and_then (λ info. numbered info.fields n.0) found)
+IsThere found n = IsSome (option_and_then (λ info. numbered (fields_of info) n.0) found)
 
 -- each of the numbers is that of a field
 there_each : (info : ModelInfo) (numbers : List FieldNo) (cs : List Column) → numbers_in numbers ≡ map (λ c. c.0) cs → All (IsOwn info) cs → All (IsThere (Some info)) numbers
@@ -130,7 +132,7 @@ there_each info (n ∷ numbers) (c ∷ cs) e own =
     let first : n.0 ≡ c.0 = cc in
     let rest : numbers_in numbers ≡ map (λ (x : Column). x.0) cs = cc in
     let here : numbered info.fields n.0 ≡ Some c.1 = ap (numbered info.fields) first ∙ All-head (IsOwn info) c cs own in
-    All-cons (IsThere (Some info)) n numbers (rw here refl) (there_each info numbers cs rest (All-tail (IsOwn info) c cs own))
+    All-cons (IsThere (Some info)) n numbers (rw (numbered-before info.fields info.hidden n.0 c.1 here) refl) (there_each info numbers cs rest (All-tail (IsOwn info) c cs own))
 
 -- the numbers are those of the fields that are asked for
 abbrev pub AreAsked : Option ModelInfo → Option Given → List FieldNo → Type 0

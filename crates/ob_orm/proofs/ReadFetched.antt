@@ -42,6 +42,7 @@ id_apart : (o : Origin) (field : FieldInfo) → field.origin ≡ o → is_id o �
 id_apart origin.Id field e own = rw e refl
 id_apart origin.Plain field e own = absurd cc
 id_apart (origin.Computed formula) field e own = absurd cc
+id_apart (origin.Delegated delegation) field e own = absurd cc
 
 -- ---- values that are spread hold their fields
 
@@ -73,6 +74,7 @@ id_value : (o : Origin) (model : ModelNo) (n : ℕ) (field : FieldInfo) (id : �
 id_value origin.Id model n field id row own = refl
 id_value origin.Plain model n field id row own = absurd cc
 id_value (origin.Computed formula) model n field id row own = absurd cc
+id_value (origin.Delegated delegation) model n field id row own = absurd cc
 
 -- the kept values, spread, are all values from scratch
 spread_same : (model : ModelNo) (fields : List FieldInfo) (n id : ℕ) (row : Row) → AreServed fields

@@ -1,7 +1,7 @@
 -- The numbers of fields that a list names.
 use Rattle.std.proofs.Common.{◌≡◌, ◌≢◌, ℕ, zero, suc, add-zero, ◌+◌, ◌-◌, ◌<◌, ◌≤◌, ◌||◌, ◌==◌, Bool, true, false, cond, List, [], ◌∷◌, ◌++◌, map, length, get_or, set, take, drop, Option, Some, None}
 use Rattle.std.proofs.Common.{option_map, option_and_then, Result, Ok, Err, Vec, Global, refl, sym, ap, ◌∙◌, arith}
-use Rattle.std.specs.Prelude.{IsSome, IfOk, IfSome, filter, slice_get}
+use Rattle.std.specs.Prelude.{IsSome, IfOk, IfSome, filter}
 use Rattle.std.specs.List.{enumerate_from}
 use Rattle.std.specs.Option.{option_map_or}
 use Rattle.std.proofs.Math.ListN.{replicate}
@@ -10,17 +10,19 @@ use Rattle.std.proofs.lemmas.Bool.{eq-eqb}
 use Rattle.std.proofs.lemmas.List.Folds.{list_any-append}
 use Rattle.std.proofs.lemmas.List.{length-replicate, length-set, map-append, take_all, take_more}
 use Rattle.serde_json.specs.Data.{Data}
+use Rattle.serde_json.specs.Find.{as_str}
 use Rattle.serde_json.specs.View.{view}
 use Rattle.serde_json.specs.declared.value.Value.{Value}
 use Rattle.ob_base.specs.declared.id.FieldNo.{FieldNo}
 use Rattle.ob_base.specs.declared.memory.NoMemory.{NoMemory}
 use Rattle.ob_schema.specs.Fields.{Column, columns}
-use Rattle.ob_schema.specs.Models.{numbered}
+use Rattle.ob_schema.specs.Models.{field_named}
 use Rattle.ob_schema.specs.declared.info.FieldInfo.{FieldInfo}
 use Rattle.ob_schema.specs.declared.info.ModelInfo.{ModelInfo}
 use Rattle.ob_call.specs.Forms.{number_from}
 use Rattle.ob_orm.specs.Read.{columns_named, is_named}
 use Rattle.ob_orm.specs.ReadParts.{flagged}
+use Rattle.ob_orm.proofs.OwnFields.{named-range}
 
 -- the numbers of fields
 abbrev pub numbers_in : List FieldNo → List ℕ
@@ -63,16 +65,12 @@ set_one p q (f ∷ fields) n (suc i) lt here same =
 
 -- ---- numbers of fields
 
--- what is there is within
-slice_get-past : (fields : List FieldInfo) (n : ℕ) → IsSome (slice_get fields n) → n < length fields
-slice_get-past [] n there = absurd cc
-slice_get-past (f ∷ fields) zero there = omega arith
-slice_get-past (f ∷ fields) (suc n) there = let more = slice_get-past fields n there in omega arith
-
--- a number that something has is from 1 to how many there are
-numbered-range : (fields : List FieldInfo) (n : ℕ) → IsSome (numbered fields n) → (0 < n) × (n ≤ length fields)
-numbered-range fields zero there = absurd cc
-numbered-range fields (suc n) there = let past = slice_get-past fields n there in (omega arith, omega arith)
+-- the number of a field that a text names is from 1 to how many there are
+pub text-range : (fields : List FieldInfo) (d : Data) (number : FieldNo) → Some number ≡ number_from fields d → (0 < number.0) × (number.0 ≤ length fields)
+text-range fields d number named = by (as_str d) named where
+  by : (o : Option (List ℕ)) → Some number ≡ option_and_then (field_named fields) o → (0 < number.0) × (number.0 ≤ length fields)
+  by None is = absurd cc
+  by (Some name) is = named-range fields name number is
 
 -- ---- the flags of the fields that items name
 
@@ -121,11 +119,11 @@ named_more info items i item number lt is =
 
 -- the flag of the field that an item names is set
 pub IsFlaggedTo-more : (found : Option ModelInfo) (items : List Value) (i : ℕ) (flags : List Bool) (item : Value) (number : FieldNo) → i < length items → item ≡ get_or items i item
-    → IsSome (option_and_then (λ info. numbered info.fields number.0) found) → IfSome found (λ info. Some number ≡ number_from info.fields (view item))
+    → IsSome found → IfSome found (λ info. Some number ≡ number_from info.fields (view item))
     → IsFlaggedTo found items i flags → IsFlaggedTo found items (i + 1) (set flags (number.0 - 1) true)
 IsFlaggedTo-more None items i flags item number lt is there given so_far = absurd cc
 IsFlaggedTo-more (Some info) items i flags item number lt is there given so_far =
-    let range = numbered-range info.fields number.0 there in
+    let range = text-range info.fields (view item) number given in
     let place : 1 + (number.0 - 1) ≡ number.0 = omega arith in
     let p = λ (k : ℕ). is_named info (map view (take i items)) k in
     let q = λ (k : ℕ). is_named info (map view (take (i + 1) items)) k in

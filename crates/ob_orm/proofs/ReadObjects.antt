@@ -22,7 +22,7 @@ use Rattle.ob_base.specs.declared.value.Value.TheVariants as value
 use Rattle.ob_codec.specs.CommandForms.{id_json}
 use Rattle.ob_codec.specs.JsonForm.{IsJsonOf}
 use Rattle.ob_schema.specs.Fields.{Column, columns}
-use Rattle.ob_schema.specs.Models.{numbered}
+use Rattle.ob_schema.specs.Built.{numbered}
 use Rattle.ob_schema.specs.declared.info.FieldInfo.{FieldInfo}
 use Rattle.ob_schema.specs.declared.info.ModelInfo.{ModelInfo}
 use Rattle.ob_schema.specs.declared.info.Origin.{Origin}
@@ -107,6 +107,7 @@ by_origin : (o : Origin) (model : ModelNo) (field : FieldInfo) (number : FieldNo
 by_origin origin.Id model field number id row at e = refl
 by_origin origin.Plain model field number id row at e = e
 by_origin (origin.Computed formula) model field number id row at e = e
+by_origin (origin.Delegated delegation) model field number id row at e = e
 
 -- the value that is told of a field is its value from scratch
 same_value : (model : ModelNo) (info : ModelInfo) (number : FieldNo) (field : FieldInfo) (id : ℕ) (row : Row) (values : List Value) → numbered info.fields number.0 ≡ Some field → values ≡ values_of model info id row

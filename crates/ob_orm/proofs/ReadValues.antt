@@ -12,7 +12,7 @@ use Rattle.ob_base.specs.declared.value.Value.{Value}
 use Rattle.ob_base.specs.declared.value.Value.TheVariants as value
 use Rattle.ob_codec.specs.RowForm.{HoldAll}
 use Rattle.ob_schema.specs.Fields.{Holds, is_kept}
-use Rattle.ob_schema.specs.Models.{numbered}
+use Rattle.ob_schema.specs.Built.{numbered}
 use Rattle.ob_schema.specs.declared.info.FieldInfo.{FieldInfo}
 use Rattle.ob_schema.specs.declared.info.ModelInfo.{ModelInfo}
 use Rattle.ob_orm.specs.ReadParts.{HaveAll, spread, value_told}

@@ -37,11 +37,12 @@ limited t (Ok v) = if is_short (text_limit t) v then Ok v else Err too_long
 abbrev pub formula_val : Formula → ModelNo → ℕ → Row → Result Value Lack
 formula_val formula model id row = meaning (λ cell. Some (plain row cell.field.0)) (record { model = model; id = record { 0 = id } }) (typed_tree_of formula.typed)
 
--- the value of a field by where it comes from: the id, what calls gave, or the formula's value
+-- the value of a field by where it comes from: the id, what calls gave, or the formula's value; no model that serves calls has a delegated one
 abbrev pub val_from : Origin → ModelNo → Column → ℕ → Row → Result Value Lack
 val_from origin.Id model column id row = Ok (value.Int (pos id))
 val_from origin.Plain model column id row = Ok (plain row column.0)
 val_from (origin.Computed formula) model column id row = limited column.1.field_type (formula_val formula model id row)
+val_from _ model column id row = Ok value.Nil
 
 -- the value of a field of the row of an id from scratch, or why it has none
 abbrev pub val : ModelNo → Column → ℕ → Row → Result Value Lack

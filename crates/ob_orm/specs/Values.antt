@@ -5,7 +5,8 @@ use Rattle.ob_base.specs.declared.place.PathStep.{PathStep}
 use Rattle.ob_base.specs.declared.place.PathStep.TheVariants.{Key}
 use Rattle.serde_json.specs.Data.{Data, object}
 use Rattle.ob_schema.specs.Fields.{is_plain_kept}
-use Rattle.ob_schema.specs.Models.{field_named, numbered}
+use Rattle.ob_schema.specs.Built.{numbered}
+use Rattle.ob_schema.specs.Models.{field_named}
 use Rattle.ob_schema.specs.declared.info.FieldInfo.{FieldInfo}
 use Rattle.ob_call.specs.Arguments.{entries}
 

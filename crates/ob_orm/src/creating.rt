@@ -107,7 +107,7 @@ pub fn create<K: Keeper, L: Ledger>(
 /// The refusal of an id past its limit.
 fn past_limit(schema: &Schema, model: ModelNo, id: u64) -> Refusal
     requires model { HasModel schema.now model }
-    requires valid { IfSome (model_at schema.now model) IsModel }
+    requires valid { IfSome (model_at schema.now model) (IsModel schema.now model) }
     ensures { IfSome (model_at schema.now model) (λ info. (column : Column)
         × IsIdColumn info column × (result ≡ Refusal.Constraint
         (record { kind = BrokenKind.Limit; cell = cell_of model id column.0 }))) }

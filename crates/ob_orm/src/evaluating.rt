@@ -107,7 +107,7 @@ fn field_value<L: Ledger>(
     steps: &mut Steps<L>,
 ) -> Result<Option<Value>, Refusal>
     requires field { HasField schema.now cell.model cell.field }
-    requires valid { IfSome (model_at schema.now cell.model) IsModel }
+    requires valid { IfSome (model_at schema.now cell.model) (IsModel schema.now cell.model) }
     requires served { IfSome (model_at schema.now cell.model) IsServed }
     requires id { cell.id.0 ≤ max_id }
     requires plain { IfSome (model_at schema.now cell.model) (λ info. ArePlain info plain.now) }
@@ -119,7 +119,8 @@ fn field_value<L: Ledger>(
 {
     let field = schema.info(cell.model, cell.field);
     match &field.origin {
-        Origin::Id => Ok(None),
+        // A model that serves calls has no delegated field.
+        Origin::Id | Origin::Delegated(_) => Ok(None),
         Origin::Plain => match plain[cell.field.0 as usize - 1].try_clone(alloc) {
             Ok(value) => Ok(Some(value)),
             Err(NoMemory) => Err(Refusal::NoMemory),

@@ -50,7 +50,7 @@ pub(crate) fn plain_values(
         (row_from info now (all_given_of given.now))) }
     ensures plain { IfOk result (λ values. IfSome (model_at schema.now model)
         (λ info. ArePlain info values.items)) }
-    ensures valid { OnOk result (IfSome (model_at schema.now model) IsModel) }
+    ensures valid { OnOk result (IfSome (model_at schema.now model) (IsModel schema.now model)) }
 {
     let Some(values) = &given[0] else {
         unreachable!();
@@ -82,7 +82,7 @@ fn all_values(
         (members_view row.entry.now.members.now.entries) (plain_columns info))) }
     ensures plain { IfOk result (λ values. IfSome (model_at schema.now model)
         (λ info. ArePlain info values.items)) }
-    ensures valid { OnOk result (IfSome (model_at schema.now model) IsModel) }
+    ensures valid { OnOk result (IfSome (model_at schema.now model) (IsModel schema.now model)) }
 {
     let mut values = Vec::new(alloc);
     let count = schema.model_info(model).fields.len();

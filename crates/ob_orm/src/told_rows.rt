@@ -12,7 +12,7 @@ ghost use Rattle.ob_schema.specs.Models.{HasField, field_at, model_at};
 ghost use Rattle.ob_orm.specs.Read.{TellsRow};
 ghost use Rattle.ob_orm.specs.ReadParts.{HaveAll, columns_at, spread, value_told};
 ghost use Rattle.ob_orm.specs.Scratch.{val_or_unset};
-ghost use Rattle.ob_orm.specs.Served.{is_id};
+ghost use Rattle.ob_orm.specs.Served.{IsServed, is_id};
 ghost use Rattle.ob_orm.specs.Tables.{Row};
 
 use ob_base::{FieldNo, ModelNo, NoMemory, Value};
@@ -66,6 +66,7 @@ pub(crate) fn row_object(
     id: u64,
     values: &[Value],
 ) -> Result<Json, NoMemory>
+    requires served { IfSome (model_at schema.now model) IsServed }
     requires fields { All (HasField schema.now model) fields.now }
     requires values { IfSome (model_at schema.now model) (λ info. HaveAll info.fields values.now) }
     ensures told { IfOk result (λ json. IfSome (model_at schema.now model) (λ info. (row : Row) →
@@ -92,6 +93,7 @@ fn told_value(
     id: u64,
     values: &[Value],
 ) -> Result<Json, NoMemory>
+    requires served { IfSome (model_at schema.now model) IsServed }
     requires field { HasField schema.now model number }
     requires values { IfSome (model_at schema.now model) (λ info. HaveAll info.fields values.now) }
     ensures { IfOk result (λ json. IfSome (field_at schema.now model number)

@@ -63,20 +63,21 @@ default_held f v fit given native = constant_held f.field_type f.selection v (by
 pub own_fits : (f : FieldDef) → fits f ≡ true → cond (is_computed f) (computed_fits f) (plain_fits f) ≡ true
 own_fits f fit = (and_parts (relation_fits f && ondelete_fits f) (cond (is_computed f) (computed_fits f) (plain_fits f)) fit).1
 
--- a computed field is no relation and no selection, and has no default
+-- a computed field is not required, no relation and no selection, and has no default
 pub record IsBare (f : FieldDef) : Type 0 where
+  pub required : is_set f.required ≡ false
   pub relation : is_relation f.field_type ≡ false
   pub selection : is_selection f.field_type ≡ false
   pub default : is_none f.default ≡ true
 
-bare : (a b relation selection default : Bool) → a && b && not relation && not selection && default ≡ true → (relation ≡ false) × (selection ≡ false) × (default ≡ true)
-bare true true false false true e = (refl, refl, refl)
+bare : (a required relation selection default : Bool) → a && not required && not relation && not selection && default ≡ true → (relation ≡ false) × (selection ≡ false) × (default ≡ true) × (required ≡ false)
+bare true false false false true e = (refl, refl, refl, refl)
 bare _ _ _ _ _ e = absurd (false≢true e)
 
 pub computed_bare : (f : FieldDef) → computed_fits f ≡ true → IsBare f
 computed_bare f fit =
-    let parts = bare (is_none f.related || (is_none f.compute && is_none f.depends)) (not (is_set f.required)) (is_relation f.field_type) (is_selection f.field_type) (is_none f.default) fit in
-    record { relation = parts.0; selection = parts.1; default = parts.2 }
+    let parts = bare (is_none f.related || (is_none f.compute && is_none f.depends)) (is_set f.required) (is_relation f.field_type) (is_selection f.field_type) (is_none f.default) fit in
+    record { required = parts.3; relation = parts.0; selection = parts.1; default = parts.2 }
 
 -- where the keys fit, the default does
 pub default_fits-from_fits : (f : FieldDef) → fits f ≡ true → default_fits f ≡ true

@@ -1,5 +1,5 @@
 -- What a look-up by name found is there.
-use Rattle.std.proofs.Common.{◌≡◌, ℕ, zero, suc, ◌<◌, Bool, true, false, cond, ltb, List, [], ◌∷◌, length, get_or, Option, Some, None, option_map, is_some, inl, inr, refl, sym, ap, ◌∙◌, ◌-◌, arith}
+use Rattle.std.proofs.Common.{◌≡◌, ℕ, zero, suc, ◌<◌, Bool, true, false, cond, ltb, List, [], ◌∷◌, ◌++◌, length, get_or, Option, Some, None, option_map, is_some, inl, inr, refl, sym, ap, subst, ◌∙◌, ◌-◌, arith}
 use Rattle.std.specs.Prelude.{IfSome, IsSome, slice_get}
 use Rattle.std.specs.List.{position, position_or_len}
 use Rattle.std.specs.Str.{bytes_eq}
@@ -10,7 +10,8 @@ use Rattle.ob_base.specs.declared.id.FieldNo.{FieldNo}
 use Rattle.ob_base.specs.declared.id.ModelNo.{ModelNo}
 use Rattle.ob_schema.specs.declared.info.FieldInfo.{FieldInfo}
 use Rattle.ob_schema.specs.declared.info.ModelInfo.{ModelInfo}
-use Rattle.ob_schema.specs.Models.{HasField, HasModel, field_named, model_at, model_named, numbered}
+use Rattle.ob_schema.specs.Built.{numbered}
+use Rattle.ob_schema.specs.Models.{HasField, HasModel, IsModel, IsRegistry, field_named, model_at, model_named}
 
 position-within : {X : Type 0} (p : X → Bool) (xs : List X) (i : ℕ) → position p xs ≡ Some i → i < length xs
 position-within p xs i found = by (ltb (position_or_len p xs) (length xs)) refl found
@@ -42,6 +43,16 @@ numbered-named fields name field found = by (position (λ f. bytes_eq f.name nam
         let same : number ≡ field = cc in
         rw (← same) (slice_get-some fields i (position-within (λ f. bytes_eq f.name name) fields i e))
 
+slice_get-front : {X : Type 0} (xs ys : List X) (i : ℕ) → IsSome (slice_get xs i) → IsSome (slice_get (xs ++ ys) i)
+slice_get-front [] ys i there = absurd (false≢true there)
+slice_get-front (x ∷ xs) ys zero there = there
+slice_get-front (x ∷ xs) ys (suc i) there = slice_get-front xs ys i there
+
+-- what has a number among the first has it among all
+pub numbered-front : {X : Type 0} (xs ys : List X) (n : ℕ) → IsSome (numbered xs n) → IsSome (numbered (xs ++ ys) n)
+numbered-front xs ys zero there = there
+numbered-front xs ys (suc i) there = slice_get-front xs ys i there
+
 -- a model that was found by its name is there
 HasModel-named : (models : List ModelInfo) (name : List ℕ) (model : ModelNo) → model_named models name ≡ Some model → HasModel models model
 HasModel-named models name model found = by (position (λ m. bytes_eq m.name name) models) refl found
@@ -61,4 +72,15 @@ IfSome-model_named models name (Some model) is = HasModel-named models name mode
 pub IfSome-field_named : (models : List ModelInfo) (model : ModelNo) (info : ModelInfo) (name : List ℕ) (found : Option FieldNo)
     → model_at models model ≡ Some info → found ≡ field_named info.fields name → IfSome found (HasField models model)
 IfSome-field_named models model info name None at named = tt
-IfSome-field_named models model info name (Some field) at named = rw at (numbered-named info.fields name field (sym named))
+IfSome-field_named models model info name (Some field) at named = rw at (numbered-front info.fields info.hidden field.0 (numbered-named info.fields name field (sym named)))
+
+-- what was found has the fact
+pub IfSome-found : {X : Type 0} (P : X → Type 0) (found : Option X) (x : X) → found ≡ Some x → P x → IfSome found P
+IfSome-found {X = X} P found x is holds = let Q : Option X → Type 0 = λ o. IfSome o P in subst Q (sym is) holds
+
+-- a model that is read at its number is right among all
+pub IsModel-read : (inside models : List ModelInfo) (model : ModelNo) (info : ModelInfo) → IsRegistry inside → inside ≡ models
+    → HasModel models model → info ≡ get_or models (model.0 - 1) info → IsModel models model info
+IsModel-read inside models model info registry same there is =
+    let P : List ModelInfo → Type 0 = λ (l : List ModelInfo). IsRegistry l in
+    (subst P same registry).each model info (numbered-read models model.0 info there is)

@@ -1,153 +1,197 @@
 -- What stands against definitions. A fault is there or not by the texts of the definitions alone.
-use Rattle.std.specs.Prelude.{◌≡◌, ◌≢◌, ◌<◌, ◌≤◌, ◌⊎◌, ◌||◌, ◌&&◌, ◌==◌, ℕ, List, [], length, Any, Contains, count_by, slice_get, Bool, true, false, not}
-use Rattle.std.specs.Prelude.{is_some, Option, Some, None, IsSomeAnd, Ok, Err}
-use Rattle.std.specs.List.{list_any}
+use Rattle.std.specs.Prelude.{◌≡◌, ◌≢◌, ◌<◌, ◌≤◌, ◌⊎◌, ◌||◌, ◌&&◌, ℕ, List, [], length, map, Any, Contains, Bool, true, false, not}
+use Rattle.std.specs.Prelude.{suc, is_none, is_some, codes, Option, Some, None, IsSomeAnd, Ok, Err}
+use Rattle.std.specs.List.{list_any, list_all}
 use Rattle.std.specs.Option.{option_map_or}
-use Rattle.std.specs.Cmp.Lexicographic.{slice_cmp}
-use Rattle.std.specs.Ordering.{nat_cmp, then_cmp, on}
 use Rattle.std.specs.Str.{bytes_eq}
-use Rattle.std.specs.declared.cmp.Ordering.{Ordering}
 use Rattle.std.specs.declared.cmp.Ordering.TheVariants.{Less}
-use Rattle.ob_base.specs.Limits.{max_expression_bytes, max_fields, max_models}
+use Rattle.ob_base.specs.Limits.{max_expression_bytes, max_fields, max_path_steps, max_stratum}
+use Rattle.ob_base.specs.declared.id.ModelNo.{ModelNo}
 use Rattle.ob_expr.specs.declared.checker.TypeFault.TheVariants as type_fault
-use Rattle.ob_expr.specs.Checking.{typed_of}
-use Rattle.ob_expr.specs.Route.{Route}
-use Rattle.ob_expr.specs.TypedTree.{TypedTree, kind_of, paths_of}
 use Rattle.ob_syntax.specs.declared.fault.ExprFault.{ExprFault}
 use Rattle.ob_syntax.specs.declared.fault.ExprFault.TheVariants as text_fault
-use Rattle.ob_syntax.specs.Grammar.{Tree, IsFirstFault, IsFirstTooDeep}
+use Rattle.ob_expr.specs.Checking.{typed_of}
+use Rattle.ob_syntax.specs.Grammar.{Tree, IsFirstFault, IsFirstTooDeep, offset_of_tree}
 use Rattle.ob_syntax.specs.Lexemes.{lexemes}
+use Rattle.ob_expr.specs.TypedTree.{TypedTree, kind_of}
 use Rattle.ob_definition.specs.declared.definition.FieldDef.{FieldDef}
 use Rattle.ob_definition.specs.declared.definition.ModelDef.{ModelDef}
 use Rattle.ob_definition.specs.declared.fault.SchemaFault.{SchemaFault}
 use Rattle.ob_definition.specs.declared.fault.SchemaFault.TheVariants as fault
 use Rattle.ob_definition.specs.declared.fault.Spot.{Spot}
-use Rattle.ob_definition.specs.Definitions.{is_automatic, is_computed, is_set, is_given_text}
-use Rattle.ob_schema.specs.Definitions.{field_count, field_def, has_field, model_def}
-use Rattle.ob_schema.specs.Formulas.{IsCovered, IsExpression, computed_numbers, depends_of, finds_in, kind_of_field, names_computed, own_model}
+use Rattle.ob_definition.specs.declared.field_type.FieldType.{FieldType}
+use Rattle.ob_definition.specs.declared.field_type.FieldType.TheVariants as type
+use Rattle.ob_schema.specs.declared.info.Step.{Step}
+use Rattle.ob_definition.specs.Definitions.{is_computed, is_set}
+use Rattle.ob_schema.specs.Finds.{found_at, kind_of_field, relation_of}
+use Rattle.ob_schema.specs.Formulas.{HasFormula, HasTree, IsCovered, Place, RelatedByPath, Spelled, declared_names, expression_text, formula_paths, read_paths}
+use Rattle.ob_definition.specs.EntryFaults.{HasNoParent, HasTakenLink, IsGatheringFault, MayNotInherit}
+use Rattle.ob_definition.specs.Ranking.{rank, rank_order}
+use Rattle.ob_definition.specs.Gathered.{Gathered, gathered}
 use Rattle.ob_definition.specs.Keys.{fits, is_many2one}
-use Rattle.ob_definition.specs.Names.{is_field_name, is_model_name}
+use Rattle.ob_definition.specs.Types.{is_one2many, is_list, is_relation}
+use Rattle.ob_definition.specs.Members.{Member, hidden_members, members_of, model_at, model_number, named, own_members, path_name, is_own, is_own_computed}
+use Rattle.ob_definition.specs.Names.{is_field_name}
 use Rattle.ob_definition.specs.Orders.{Term, order_terms}
-use Rattle.ob_definition.specs.Types.{is_list}
+use Rattle.ob_schema.specs.Paths.{PathFault, no_field, no_step, path_from}
+use Rattle.ob_schema.specs.Strata.{Chain, IsCircle, IsMember, IsRecursion, Reads}
 
--- the fact holds of an entry as a whole
-abbrev pub AtEntry : List ModelDef → Spot → (ModelDef → Type 0) → Type 0
-AtEntry defs spot P = (def : ModelDef) × (slice_get defs spot.entry ≡ Some def) × (spot.field ≡ []) × P def
+-- A model as a whole.
 
--- the fact holds of a field of an entry
-abbrev pub AtField : List ModelDef → Spot → (ModelDef → FieldDef → Type 0) → Type 0
-AtField defs spot P = (def : ModelDef) × (slice_get defs spot.entry ≡ Some def) × (f : FieldDef) × Contains def.fields f × (f.name ≡ spot.field) × P def f
+-- the fact holds of a model and what it was given by this entry as a whole
+abbrev pub AtModel : List ModelDef → Spot → (Gathered → Type 0) → Type 0
+AtModel defs spot P = (g : Gathered) × Contains (gathered defs) g × (spot.field ≡ []) × P g
 
--- the order has a term that a test refuses
-abbrev pub HasTerm : (List ℕ → Bool) → Option (List ℕ) → Type 0
-HasTerm test order = (text : List ℕ) × (terms : List Term) × (order ≡ Some text) × (order_terms text ≡ Some terms) × (list_any (λ t. test t.name) terms ≡ true)
+-- calls give the field's value, in rows of the model itself
+abbrev pub is_plain : Member → Bool
+is_plain m = is_own m.role && not (is_computed m.def) && not (bytes_eq m.def.name (codes "id"))
 
--- whether rows can't be ordered by a field: a list, or a computed one that isn't kept
-abbrev pub is_unordered_field : FieldDef → Bool
-is_unordered_field f = is_list f.field_type || (is_computed f && not (is_set f.store))
+-- and the row keeps it
+abbrev pub is_plain_kept : Member → Bool
+is_plain_kept m = is_plain m && not (is_one2many m.def.field_type) && is_none m.def.mirror
 
--- whether they can't be ordered by the field of this name
-abbrev pub is_unordered : ModelDef → List ℕ → Bool
-is_unordered def name = not (is_automatic name) && option_map_or is_unordered_field (field_def def name) false
+-- rows can be ordered by the field: it is no list, and a computed one is kept; a delegated one goes by its parent's
+abbrev pub orders_rows : FieldDef → Bool
+orders_rows f = not (is_list f.field_type) && (not (is_computed f) || is_set f.store)
 
--- the entry names no model
-abbrev pub NamesNoModel : ModelDef → Type 0
-NamesNoModel def = (def.name ≡ None) × (def.inherit ≡ None)
+-- a name that is no field among these
+abbrev pub is_unknown : List Member → List ℕ → Bool
+is_unknown members name = is_none (named members name)
 
--- the name or the order is of another form, or rows can't be ordered so
-abbrev pub HasWrongKey : ModelDef → Type 0
-HasWrongKey def = IsSomeAnd def.name (λ name. is_model_name name ≡ false) ⊎ IsSomeAnd def.order (λ text. order_terms text ≡ None) ⊎ HasTerm (is_unordered def) def.order
+-- one of the names is no field
+abbrev pub HasUnknown : List Member → List (List ℕ) → Type 0
+HasUnknown members names = list_any (is_unknown members) names ≡ true
 
--- an earlier entry has the name
-abbrev pub IsNamedBefore : List ModelDef → ℕ → ModelDef → Type 0
-IsNamedBefore defs n def = (i : ℕ) × (i < n) × (other : ModelDef) × (slice_get defs i ≡ Some other) × (name : List ℕ) × (def.name ≡ Some name) × (other.name ≡ Some name)
+-- names that are fields, of which a test refuses one
+abbrev pub HasRefused : List Member → (Member → Bool) → List (List ℕ) → Type 0
+HasRefused members test names = (list_any (is_unknown members) names ≡ false) × (list_all (λ name. option_map_or test (named members name) false) names ≡ false)
 
--- a key that isn't served yet
-abbrev pub is_unserved : ModelDef → Bool
-is_unserved def = is_some def.inherit || not (length def.inherits == 0) || is_some def.parent || not (length def.unique == 0) || not (length def.checks == 0) || is_some def.locked
+-- a unique set has no names, or that of a field that isn't plain and kept
+abbrev pub IsWrongSet : List Member → List (List ℕ) → Type 0
+IsWrongSet members names = (names ≡ []) ⊎ HasRefused members is_plain_kept names
 
--- an entry past the greatest number of models, with too many fields, or with a key that isn't served yet
-abbrev pub IsPastLimit : ℕ → ModelDef → Type 0
-IsPastLimit n def = (max_models ≤ n) ⊎ (max_fields < field_count def) ⊎ (is_unserved def ≡ true)
+abbrev pub names_of_terms : List Term → List (List ℕ)
+names_of_terms terms = map (λ t. t.name) terms
+
+-- an order has a name that is no field
+abbrev pub IsUnknownOrder : List Member → List ℕ → Type 0
+IsUnknownOrder members text = IsSomeAnd (order_terms text) (λ terms. HasUnknown members (names_of_terms terms))
+
+-- the text is no order, or names a field by which rows can't be ordered
+abbrev pub IsWrongOrder : List Member → List ℕ → Type 0
+IsWrongOrder members text = (order_terms text ≡ None) ⊎ IsSomeAnd (order_terms text) (λ terms. HasRefused members (λ m. orders_rows m.def) (names_of_terms terms))
+
+-- a unique set, or the order, that this entry gives
+abbrev pub HasSet : Gathered → ℕ → (List (List ℕ) → Type 0) → Type 0
+HasSet g n P = Any (λ u. (u.entry ≡ n) × P u.names) g.unique
+
+abbrev pub HasOrder : Gathered → ℕ → (List ℕ → Type 0) → Type 0
+HasOrder g n P = IsSomeAnd g.order (λ o. (o.entry ≡ n) × P o.text)
+
+-- this entry is the last that gives fields, of which there are too many
+abbrev pub HasTooManyFields : List Member → ℕ → Type 0
+HasTooManyFields members n = (max_fields < length members) × Any (λ m. m.entry ≡ n) members × ((m : Member) → Contains members m → m.entry ≤ n)
+
+module _ (models : List Gathered) where
+  -- a plain many2one to the model of a number
+  abbrev pub IsParentField : Option ModelNo → Member → Type 0
+  IsParentField number m = (is_plain m ≡ true) × (is_many2one m.def.field_type ≡ true) × (relation_of models m.def ≡ number)
+
+  abbrev pub HasUnknownParent : Gathered → Type 0
+  HasUnknownParent g = IsSomeAnd g.parent (λ name. is_unknown (members_of models g) name ≡ true)
+
+  -- the parent field is another than a plain many2one to the model itself
+  abbrev pub HasWrongParent : Gathered → Type 0
+  HasWrongParent g = IsSomeAnd g.parent (λ name. IsSomeAnd (named (members_of models g) name) (λ m. IsParentField (model_number models g.name) m → ⊥))
+
+-- a tree that declares its own path, at the entry that declares it
+abbrev pub DeclaresPath : List ModelDef → Spot → Type 0
+DeclaresPath defs spot =
+    (g : Gathered) × Contains (gathered defs) g × (spot.field ≡ path_name) × (is_some g.parent ≡ true) × Any (λ f. (f.def.name ≡ path_name) × (f.entry ≡ spot.entry)) g.fields
+
+-- A field.
+
+-- a field of a model that isn't delegated, with its place
+pub record AtField (defs : List ModelDef) (spot : Spot) (P : Place → Gathered → Type 0) : Type 0 where
+  pub model : Gathered
+  pub number : ModelNo
+  pub member : Member
+  pub there : model_at (gathered defs) number.0 ≡ Some model
+  pub among : Contains (own_members (gathered defs) model) member ⊎ Contains (hidden_members model) member
+  pub entry : member.entry ≡ spot.entry
+  pub name : member.def.name ≡ spot.field
+  pub holds : P (record { models = gathered defs; number = number; member = member }) model
 
 -- a relation to a model that nobody declares
-abbrev pub HasUnknownRelation : List ModelDef → FieldDef → Type 0
-HasUnknownRelation defs f = (name : List ℕ) × (f.relation ≡ Some name) × (model_def defs name ≡ None)
+abbrev pub HasUnknownRelation : Place → Type 0
+HasUnknownRelation p = (is_relation p.member.def.field_type ≡ true) × (is_some p.member.def.relation ≡ true) × (relation_of p.models p.member.def ≡ None)
 
--- the inverse as it is declared: the model of the relation, and the name
-pub record IsInverse (defs : List ModelDef) (f : FieldDef) (target : ModelDef) (inverse : List ℕ) : Type 0 where
-  pub relation : List ℕ
-  pub named : f.relation ≡ Some relation
-  pub found : model_def defs relation ≡ Some target
-  pub given : f.inverse ≡ Some inverse
+-- the field back that a key names, in the relation's model, if there is one
+abbrev pub LooksBack : Place → Option (List ℕ) → (Option Member → Type 0) → Type 0
+LooksBack p key P = IsSomeAnd key (λ name. IsSomeAnd (relation_of p.models p.member.def) (λ target. IsSomeAnd (model_at p.models target.0) (λ g. P (named (members_of p.models g) name))))
 
--- the inverse is no field of the relation's model
-abbrev pub HasUnknownInverse : List ModelDef → FieldDef → Type 0
-HasUnknownInverse defs f = (target : ModelDef) × (inverse : List ℕ) × IsInverse defs f target inverse × (has_field target inverse ≡ false)
+-- the field back isn't there
+abbrev pub HasUnknownBack : Place → Option (List ℕ) → Type 0
+HasUnknownBack p key = LooksBack p key (λ back. back ≡ None)
 
--- a plain many2one to this model
-abbrev pub leads_back : ModelDef → Option FieldDef → Bool
-leads_back def None = false
-leads_back def (Some back) = is_many2one back.field_type && not (is_computed back) && option_map_or (is_given_text def.name) back.relation false
+-- a field is a plain one of this type that leads to this model and is kept itself
+pub record LeadsBack (models : List Gathered) (number : ModelNo) (t : FieldType) (back : Member) : Type 0 where
+  pub plain : is_plain back ≡ true
+  pub of_type : back.def.field_type ≡ t
+  pub leads : relation_of models back.def ≡ Some number
+  pub kept : back.def.mirror ≡ None
 
--- the inverse is another field than a plain many2one back
-abbrev pub HasWrongInverse : List ModelDef → ModelDef → FieldDef → Type 0
-HasWrongInverse defs def f = (target : ModelDef) × (inverse : List ℕ) × IsInverse defs f target inverse × (has_field target inverse ≡ true) × ((is_automatic inverse || not (leads_back def (field_def target inverse))) ≡ true)
+-- the field back is another
+abbrev pub HasWrongBack : Place → Option (List ℕ) → FieldType → Type 0
+HasWrongBack p key t = LooksBack p key (λ back. IsSomeAnd back (λ m. LeadsBack p.models p.number t m → ⊥))
 
--- the text of a field's expression
-pub record HasExpression (f : FieldDef) (text : List ℕ) : Type 0 where
-  pub given : f.compute ≡ Some text
-  pub short : length text ≤ max_expression_bytes
+-- the name or a key of the field doesn't fit; a condition's name has no form
+abbrev pub HasWrongKeys : Place → Type 0
+HasWrongKeys p = ((is_own p.member.role && not (is_field_name p.member.def.name)) ≡ true) ⊎ (fits p.member.def ≡ false)
 
--- the expression and its tree
-pub record HasTree (f : FieldDef) (tree : Tree) : Type 0 where
-  pub text : List ℕ
-  pub expression : HasExpression f text
-  pub is_tree : IsExpression text tree
+-- a declared path of a right expression is none
+abbrev pub HasPathFault : Place → PathFault → Type 0
+HasPathFault p why =
+    (tree : Tree) × (typed : TypedTree) × HasFormula p tree typed × Any (λ names. path_from p.models p.number names ≡ Err why) (declared_names p.member.def tree)
 
--- the expression, checked
-pub record HasTyped (defs : List ModelDef) (def : ModelDef) (f : FieldDef) (typed : TypedTree) : Type 0 where
-  pub tree : Tree
-  pub has_tree : HasTree f tree
-  pub checked : typed_of (finds_in defs def) own_model tree ≡ Ok typed
-
--- a path of two steps or more
-abbrev pub is_dotted : List ℕ → Bool
-is_dotted path = list_any (λ b. b == 46) path
-
--- a name of the expression or of what it depends on is no field that may be used there
-abbrev pub NamesNoField : List ModelDef → ModelDef → FieldDef → Type 0
-NamesNoField defs def f =
-    ((tree : Tree) × HasTree f tree × (at : ℕ) × (typed_of (finds_in defs def) own_model tree ≡ Err (type_fault.Name at)))
-    ⊎ Any (λ path. (is_dotted path ≡ false) × (has_field def path ≡ false)) (depends_of f)
+-- a name of the expression is no field that may be used there
+abbrev pub HasUnknownName : Place → Type 0
+HasUnknownName p = (tree : Tree) × HasTree p.member.def tree × (is_own_computed p.member ≡ true) × (at : ℕ) × (typed_of (found_at p.models) p.number tree ≡ Err (type_fault.Name at))
 
 -- the expression is of another kind than its parts or its field
-abbrev pub HasWrongKind : List ModelDef → ModelDef → FieldDef → Type 0
-HasWrongKind defs def f =
-    ((tree : Tree) × HasTree f tree × (at : ℕ) × (typed_of (finds_in defs def) own_model tree ≡ Err (type_fault.Kind at)))
-    ⊎ ((typed : TypedTree) × HasTyped defs def f typed × (kind_of_field defs f ≢ Some (kind_of typed)))
+abbrev pub HasWrongKind : Place → Type 0
+HasWrongKind p =
+    (tree : Tree) × HasTree p.member.def tree × (is_own_computed p.member ≡ true)
+    × (((at : ℕ) × (typed_of (found_at p.models) p.number tree ≡ Err (type_fault.Kind at)))
+    ⊎ ((typed : TypedTree) × (typed_of (found_at p.models) p.number tree ≡ Ok typed) × (kind_of_field p.models p.member.def ≢ Some (kind_of typed))))
 
--- the name or a key of the field doesn't fit
-abbrev pub HasWrongKeys : FieldDef → Type 0
-HasWrongKeys f = (is_field_name f.name ≡ false) ⊎ (fits f ≡ false)
+-- the expression reads a path that no declared one covers
+abbrev pub HasUncovered : Place → Type 0
+HasUncovered p = (tree : Tree) × (typed : TypedTree) × HasFormula p tree typed × Any (λ read. IsCovered (formula_paths p tree typed) read → ⊥) (read_paths p.number typed)
 
--- the name is an automatic field's, or an earlier field's
-abbrev pub IsDeclaredTwice : ModelDef → FieldDef → Type 0
-IsDeclaredTwice def f = (is_automatic f.name ≡ true) ⊎ (1 < count_by (λ other. bytes_eq other.name f.name) def.fields)
+-- the number of the field
+abbrev pub IsFieldAt : Place → Gathered → Step → Type 0
+IsFieldAt p g at = (at.model ≡ p.number) × IsMember p.models at g p.member
 
--- a path that none of these covers, or that leads to a computed field
-abbrev pub IsMisread : ModelDef → List (List ℕ) → Route → Type 0
-IsMisread def paths route = (IsCovered def paths route → ⊥) ⊎ Contains (computed_numbers def) route.field
+-- it is in a circle
+abbrev pub HasCircle : Place → Gathered → Type 0
+HasCircle p g = (at : Step) × IsFieldAt p g at × IsCircle p.models at
 
--- the expression reads a path that no declared one covers, or a computed field; or a declared path names a computed one
-abbrev pub HasWrongPath : List ModelDef → ModelDef → FieldDef → Type 0
-HasWrongPath defs def f =
-    ((typed : TypedTree) × HasTyped defs def f typed × Any (IsMisread def (depends_of f)) (paths_of typed))
-    ⊎ Any (λ path. names_computed def path ≡ true) (depends_of f)
+-- it reads itself along its tree and doesn't say so
+abbrev pub IsUnmarked : Place → Gathered → Type 0
+IsUnmarked p g = (at : Step) × IsFieldAt p g at × Reads p.models at at × IsRecursion p.models at × (is_set p.member.def.recursive ≡ false)
 
--- a text past its limit, or a key that isn't served yet
-abbrev pub HasTooMuch : FieldDef → Type 0
-HasTooMuch f = IsSomeAnd f.compute (λ text. max_expression_bytes < length text) ⊎ (is_some f.related ≡ true) ⊎ (is_some f.mirror ≡ true) ⊎ Any (λ path. is_dotted path ≡ true) (depends_of f)
+-- the text of the expression is past its limit
+abbrev pub HasLongText : Place → Type 0
+HasLongText p = (is_own_computed p.member ≡ true) × IsSomeAnd (expression_text p.member.def) (λ text. max_expression_bytes < length text)
+
+-- a path on which the value depends has too many steps
+abbrev pub HasLongPath : Place → Type 0
+HasLongPath p = (tree : Tree) × (typed : TypedTree) × HasFormula p tree typed × Any (λ steps. max_path_steps < length steps) (formula_paths p tree typed)
+
+-- where no fields of the registry read one another in a circle, the field has a chain past the greatest stratum
+abbrev pub HasLongChain : Place → Gathered → Type 0
+HasLongChain p g = (at : Step) × IsFieldAt p g at × Chain p.models (suc max_stratum) at × ((other : Step) → IsCircle p.models other → ⊥)
 
 -- why a text is no expression
 abbrev pub IsTextFault : List ℕ → ExprFault → Type 0
@@ -155,43 +199,42 @@ IsTextFault text (text_fault.At offset) = IsFirstFault (length text) (lexemes te
 IsTextFault text (text_fault.TooDeep offset) = IsFirstTooDeep (lexemes text) offset
 IsTextFault text _ = ⊥
 
--- the definitions have this fault; the others aren't told yet
+-- why a field's text is none that it may have: it is no expression, or a related field's is no path, from its first token on
+abbrev pub HasTextFault : Place → ExprFault → Type 0
+HasTextFault p why =
+    ((text : List ℕ) × (expression_text p.member.def ≡ Some text) × (length text ≤ max_expression_bytes) × IsTextFault text why)
+    ⊎ ((tree : Tree) × Spelled p.member.def tree × (RelatedByPath p.member.def tree → ⊥) × (why ≡ text_fault.At (offset_of_tree tree)))
+
+-- a model has this fault as a whole
+abbrev pub IsModelFault : List ModelDef → SchemaFault → Type 0
+IsModelFault defs (fault.Model spot) = AtModel defs spot (λ g. (g.entry ≡ spot.entry) × HasNoParent (gathered defs) g)
+IsModelFault defs (fault.Field spot) =
+    AtModel defs spot (λ g. ((g.entry ≡ spot.entry) × HasUnknownParent (gathered defs) g)
+    ⊎ HasSet g spot.entry (HasUnknown (members_of (gathered defs) g)) ⊎ HasOrder g spot.entry (IsUnknownOrder (members_of (gathered defs) g)))
+IsModelFault defs (fault.Kind spot) =
+    AtModel defs spot (λ g. ((g.entry ≡ spot.entry) × HasWrongParent (gathered defs) g)
+    ⊎ HasSet g spot.entry (IsWrongSet (members_of (gathered defs) g)) ⊎ HasOrder g spot.entry (IsWrongOrder (members_of (gathered defs) g)))
+IsModelFault defs (fault.Twice spot) = AtModel defs spot (λ g. (g.entry ≡ spot.entry) × HasTakenLink (gathered defs) g) ⊎ DeclaresPath defs spot
+IsModelFault defs (fault.Inherits spot) = AtModel defs spot (λ g. (g.entry ≡ spot.entry) × MayNotInherit (gathered defs) g)
+IsModelFault defs (fault.Limit spot) = AtModel defs spot (λ g. HasTooManyFields (members_of (gathered defs) g) spot.entry)
+IsModelFault defs _ = ⊥
+
+-- a field has this fault
+abbrev pub IsFieldFault : List ModelDef → SchemaFault → Type 0
+IsFieldFault defs (fault.Model spot) = AtField defs spot (λ p g. HasUnknownRelation p)
+IsFieldFault defs (fault.Field spot) = AtField defs spot (λ p g. HasUnknownBack p p.member.def.inverse ⊎ HasUnknownBack p p.member.def.mirror ⊎ HasUnknownName p ⊎ HasPathFault p no_field)
+IsFieldFault defs (fault.Kind spot) = AtField defs spot (λ p g. HasWrongKeys p ⊎ HasWrongKind p)
+IsFieldFault defs (fault.Cycle spot) = AtField defs spot HasCircle
+IsFieldFault defs (fault.Recursion spot) = AtField defs spot IsUnmarked
+IsFieldFault defs (fault.Path spot) = AtField defs spot (λ p g. HasUncovered p ⊎ HasPathFault p no_step)
+IsFieldFault defs (fault.Inverse spot) = AtField defs spot (λ p g. HasWrongBack p p.member.def.inverse type.Many2one ⊎ HasWrongBack p p.member.def.mirror type.Many2many)
+IsFieldFault defs (fault.Limit spot) = AtField defs spot (λ p g. HasLongText p ⊎ HasLongPath p ⊎ HasLongChain p g)
+IsFieldFault defs (fault.Text spot why) = AtField defs spot (λ p g. (is_own_computed p.member ≡ true) × HasTextFault p why)
+IsFieldFault defs _ = ⊥
+
+-- the definitions have this fault: an entry in its turn, a model, or a field
 abbrev pub IsFaulty : List ModelDef → SchemaFault → Type 0
-IsFaulty defs (fault.Model spot) = AtEntry defs spot NamesNoModel ⊎ AtField defs spot (λ def f. HasUnknownRelation defs f)
-IsFaulty defs (fault.Field spot) = AtEntry defs spot (λ def. HasTerm (λ name. not (has_field def name)) def.order) ⊎ AtField defs spot (λ def f. HasUnknownInverse defs f ⊎ NamesNoField defs def f)
-IsFaulty defs (fault.Kind spot) = AtEntry defs spot HasWrongKey ⊎ AtField defs spot (λ def f. HasWrongKeys f ⊎ HasWrongKind defs def f)
-IsFaulty defs (fault.Twice spot) = AtEntry defs spot (IsNamedBefore defs spot.entry) ⊎ AtField defs spot IsDeclaredTwice
-IsFaulty defs (fault.Path spot) = AtField defs spot (HasWrongPath defs)
-IsFaulty defs (fault.Inverse spot) = AtField defs spot (HasWrongInverse defs)
-IsFaulty defs (fault.Limit spot) = AtEntry defs spot (IsPastLimit spot.entry) ⊎ AtField defs spot (λ def f. HasTooMuch f)
-IsFaulty defs (fault.Text spot why) = AtField defs spot (λ def f. (text : List ℕ) × HasExpression f text × IsTextFault text why)
-IsFaulty defs _ = ⊥
-
--- where a fault is, and its place among the variants
-pub record Rank : Type 0 where
-  pub entry : ℕ
-  pub field : List ℕ
-  pub variant : ℕ
-
--- the rank of a fault at a spot
-abbrev pub rank_at : Spot → ℕ → Rank
-rank_at spot variant = record { entry = spot.entry; field = spot.field; variant = variant }
-
--- the rank of a fault: variants count in their order; one that isn't told yet, and want of memory, comes last
-abbrev pub rank : SchemaFault → Rank
-rank (fault.Model spot) = rank_at spot 0
-rank (fault.Field spot) = rank_at spot 1
-rank (fault.Kind spot) = rank_at spot 2
-rank (fault.Twice spot) = rank_at spot 3
-rank (fault.Path spot) = rank_at spot 6
-rank (fault.Inverse spot) = rank_at spot 7
-rank (fault.Limit spot) = rank_at spot 9
-rank (fault.Text spot why) = rank_at spot 10
-rank _ = record { entry = 0; field = []; variant = 11 }
-
--- by entry, then field by bytes, then variant in the order of declaration
-abbrev pub rank_order : Rank → Rank → Ordering
-rank_order = then_cmp (on (λ r. r.entry) nat_cmp) (then_cmp (on (λ r. r.field) (slice_cmp nat_cmp)) (on (λ r. r.variant) nat_cmp))
+IsFaulty defs why = IsGatheringFault defs why ⊎ IsModelFault defs why ⊎ IsFieldFault defs why
 
 -- the first fault: it is there, and none comes before it
 pub record IsFirst (defs : List ModelDef) (first : SchemaFault) : Type 0 where

@@ -2,8 +2,6 @@
 use Rattle.std.specs.List.{enumerate_from}
 use Rattle.std.specs.Prelude.{ℕ, ◌&&◌, List, Bool, true, false, not, is_none, filter}
 use Rattle.ob_base.specs.declared.value.Value.{Value}
-use Rattle.ob_definition.specs.declared.field_type.FieldType.TheVariants as type
-use Rattle.ob_definition.specs.declared.field_type.FieldType.{FieldType}
 use Rattle.ob_schema.specs.declared.info.FieldInfo.{FieldInfo}
 use Rattle.ob_schema.specs.declared.info.ModelInfo.{ModelInfo}
 use Rattle.ob_schema.specs.declared.info.Origin.{Origin}
@@ -25,6 +23,10 @@ is_kept_from _ field = false
 abbrev pub is_plain_from : Origin → Bool
 is_plain_from origin.Plain = true
 is_plain_from _ = false
+
+-- it has a value in each row: all but a computed field that isn't kept, and one delegated to such a field
+abbrev pub has_value_of : FieldInfo → Bool
+has_value_of field = field.store
 
 -- a row's kept form has the field
 abbrev pub is_kept : FieldInfo → Bool

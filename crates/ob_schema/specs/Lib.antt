@@ -1,13 +1,19 @@
 -- What contracts of public functions cite.
-pub mod Fields
-pub mod Models
-pub mod Definitions
+pub mod Finds
+pub mod Paths
 pub mod Formulas
+pub mod Chains
+pub mod Strata
 pub mod Faults
+pub mod Fields
 pub mod Built
+pub mod Models
 -- Private: the words by which the rooms of the crate are joined.
-pub mod Counts
-pub mod OrderEntries
-pub mod Findings
-pub mod Making
+pub mod Telling
+pub mod Graphs
+pub mod Building
+pub mod Resolving
+pub mod ModelFields
+pub mod Modelling
 pub mod NameIndex
+pub mod RegistryOf

@@ -1,194 +1,225 @@
-//! The registry of definitions against which nothing stands: its models, each with its
-//! fields by name. What a field is made of stands in `field_building`.
+//! The registry of models against which nothing stands: its models, each with its fields by
+//! number. What a field is made of stands in `field_building`.
 
-ghost use Rattle.std.specs.Prelude.{◌≡◌, ◌≤◌, All, Contains, IfOk, length, map};
-ghost use Rattle.std.specs.Cmp.Lexicographic.{slice_cmp};
 ghost use Rattle.std.specs.List.{AllZip};
-ghost use Rattle.std.specs.List.Sorted.{IsPermutation, IsSortedByKey};
-ghost use Rattle.std.specs.Ordering.{nat_cmp};
-ghost use Rattle.ob_base.specs.Limits.{max_fields};
-ghost use Rattle.ob_schema.specs.Definitions.{field_count};
-ghost use Rattle.ob_schema.specs.Built.{IsBuilt, IsFieldOf, IsModelOf, bare_info, id_info, moment_info};
-ghost use Rattle.ob_schema.specs.Faults.{IsFaultless};
-ghost use Rattle.ob_schema.specs.Making.{AreSorted, AreUnsorted, HasSoundOrigin, HoldsDefault, numbered_order, numbered_term};
-ghost use Rattle.ob_schema.specs.Models.{IsModel, IsRegistry};
-ghost use Rattle.ob_definition.specs.Orders.{terms_of};
+ghost use Rattle.std.specs.Prelude.{◌≡◌, ◌++◌, All, IfOk, Some, length, map};
+ghost use Rattle.ob_base.specs.declared.id.ModelNo.{ModelNo};
+ghost use Rattle.ob_schema.specs.Building.{AreFieldsOf, AreNumbers, ArePlaced, AreResolved, HasNativeDefault, IsResolved, parent_found};
+ghost use Rattle.ob_schema.specs.Built.{IsModelOf, given_terms};
+ghost use Rattle.ob_definition.specs.ByName.{given_order, sets_of};
+ghost use Rattle.ob_schema.specs.Faults.{HasUnknown, names_of_terms};
+ghost use Rattle.ob_definition.specs.Gathered.{Gathered};
+ghost use Rattle.ob_schema.specs.Graphs.{AreFormulas, HaveStrata};
+ghost use Rattle.ob_definition.specs.Members.{links_of, model_number, number_named};
+ghost use Rattle.ob_schema.specs.ModelFields.{named_in};
+ghost use Rattle.ob_schema.specs.Modelling.{IsModelled};
+ghost use Rattle.ob_schema.specs.Models.{IsRegistry};
+ghost use Rattle.ob_schema.specs.RegistryOf.{IsRegistryOf};
 
-use crate::definitions::number_of;
-use crate::entry_faults::Order;
 use crate::field_building::field_info;
-use crate::info::{FieldInfo, ModelInfo, OrderTerm, Origin};
+use crate::info::{FieldInfo, Formula, ModelInfo, OrderTerm, ParentInfo};
+use crate::model::Model;
+use crate::models::Models;
 use crate::schema::Schema;
-use ob_base::{NoMemory, Sequence, Word};
-use ob_definition::{FieldType, ModelDef, OnDelete, OrderEntry, is_set};
+use crate::strata::Formulas;
+use ob_base::{FieldNo, NoMemory, Sequence, Word};
+use ob_definition::{GivenOrder, Inherits, UniqueSet, order_entries};
 use std::alloc::Global;
 
-/// The registry of definitions.
-pub(crate) fn registry(alloc: Global, defs: &[ModelDef]) -> Result<Schema, NoMemory>
-    requires { IsFaultless defs.now }
-    ensures built { IfOk result (λ schema. IsBuilt defs.now schema) }
+/// The registry of models, with their formulas.
+pub(crate) fn registry(
+    alloc: Global,
+    models: &Models<'_>,
+    formulas: Formulas,
+) -> Result<Schema, NoMemory>
+    requires resolved { AreResolved models.now }
+    requires formulas { AreFormulas models.now formulas.items }
+    requires strata { HaveStrata models.now formulas.items }
+    ensures built { IfOk result (AllZip (IsModelOf models.now) models.now) }
     ensures sound { IfOk result IsRegistry }
 {
-    let mut models = Sequence::new(alloc);
-    for def in defs {
-        models.push(model_info(alloc, defs, def)?)?;
+    let infos = infos_of(alloc, models, formulas)?;
+    Schema::from_models(alloc, infos)
+}
+
+/// The models of the registry by number, with their formulas.
+fn infos_of(
+    alloc: Global,
+    models: &Models<'_>,
+    formulas: Formulas,
+) -> Result<Sequence<ModelInfo>, NoMemory>
+    requires resolved { AreResolved models.now }
+    requires formulas { AreFormulas models.now formulas.items }
+    requires strata { HaveStrata models.now formulas.items }
+    ensures of { IfOk result (AllZip (IsModelOf models.now) models.now) }
+    ensures places { IfOk result (IsRegistryOf models.now) }
+{
+    let list = models.list.as_slice();
+    let mut infos = Sequence::new(alloc);
+    let mut place = 0;
+    for own in formulas {
+        let model = &list[place];
+        infos.push(model_info(alloc, models, model, own)?)?;
+        place += 1;
     }
-    Schema::from_models(alloc, models)
+    Ok(infos)
 }
 
 /// A model of the registry.
-fn model_info(alloc: Global, defs: &[ModelDef], def: &ModelDef) -> Result<ModelInfo, NoMemory>
-    requires faultless { IsFaultless defs.now }
-    requires among { Contains defs.now def.now }
-    ensures model { IfOk result (λ info. IsModelOf defs.now def.now info) }
-    ensures fit { IfOk result IsModel }
+fn model_info(
+    alloc: Global,
+    models: &Models<'_>,
+    model: &Model<'_>,
+    formulas: Vec<Option<Formula>>,
+) -> Result<ModelInfo, NoMemory>
+    requires { length formulas.items ≡ length model.now.members.items }
+    ensures native { IfOk result (λ info. All HasNativeDefault (info.fields ++ info.hidden)) }
+    ensures of { IfOk result (λ info. (g : Gathered) (number : ModelNo)
+        → ArePlaced models.now model.now formulas.items g number
+        → model_number models.now g.name ≡ Some number
+        → IsModelled models.now g model.now → IsResolved models.now g
+        → IsModelOf models.now g info) }
 {
-    let Some(name) = &def.name else {
-        unreachable!();
-    };
+    let gathered = model.gathered;
+    let (fields, hidden) = fields_of(alloc, models, model, formulas)?;
     Ok(ModelInfo {
-        name: name.try_clone(alloc)?,
-        fields: fields_of(alloc, defs, def)?,
-        order: order_of(alloc, def)?,
-        managed: is_set(def.managed),
+        name: Word::from_text(alloc, gathered.name)?,
+        fields,
+        hidden,
+        inherits: parents_of(alloc, models, model)?,
+        parent: match gathered.parent {
+            Some(name) => model.number(name),
+            None => None,
+        },
+        unique: unique_sets(alloc, model, gathered.unique.as_slice())?,
+        order: order_of(alloc, model, gathered.order)?,
+        managed: gathered.managed,
     })
 }
 
-/// The terms of a model's order.
-fn order_of(alloc: Global, def: &ModelDef) -> Result<Sequence<OrderTerm>, NoMemory>
-    requires { field_count def.now ≤ max_fields }
-    ensures { IfOk result (λ order. order ≡ numbered_order def.now) }
-{
-    match Order::read(alloc, &def.order) {
-        Ok(Order::Terms(entries)) => numbered_terms(alloc, def, entries.as_slice()),
-        Ok(_) => Ok(Sequence::new(alloc)),
-        Err(why) => Err(why),
-    }
-}
-
-/// The terms of an order that is read.
-fn numbered_terms(
-    alloc: Global,
-    def: &ModelDef,
-    entries: &[OrderEntry<'_>],
-) -> Result<Sequence<OrderTerm>, NoMemory>
-    requires { field_count def.now ≤ max_fields }
-    ensures { IfOk result (λ terms. terms ≡ map (numbered_term def.now) (terms_of entries.now)) }
-{
-    let mut terms = Sequence::new(alloc);
-    for entry in entries {
-        terms.push(OrderTerm {
-            field: number_of(def, entry.name),
-            descending: entry.descending,
-        })?;
-    }
-    Ok(terms)
-}
-
-/// The fields of a model, by name.
+/// The fields of a model by number: the named ones, and the hidden ones behind them.
 fn fields_of(
     alloc: Global,
-    defs: &[ModelDef],
-    def: &ModelDef,
-) -> Result<Sequence<FieldInfo>, NoMemory>
-    requires faultless { IsFaultless defs.now }
-    requires among { Contains defs.now def.now }
-    ensures { IfOk result (AreSorted defs.now def.now) }
+    models: &Models<'_>,
+    model: &Model<'_>,
+    formulas: Vec<Option<Formula>>,
+) -> Result<(Sequence<FieldInfo>, Sequence<FieldInfo>), NoMemory>
+    requires { length formulas.items ≡ length model.now.members.items }
+    ensures named { IfOk result (λ both. length both.0 ≡ model.now.named) }
+    ensures all { IfOk result (λ both. length (both.0 ++ both.1) ≡ length model.now.members.items) }
+    ensures fields { IfOk result (λ both. (g : Gathered) (number : ModelNo)
+        → ArePlaced models.now model.now formulas.items g number
+        → AreFieldsOf models.now model.now g number (both.0 ++ both.1)) }
+    ensures native { IfOk result (λ both. All HasNativeDefault (both.0 ++ both.1)) }
 {
-    let fields = unsorted_fields(alloc, defs, def)?;
-    let sorted = by_name(fields)?;
-    Ok(Sequence::from_vec(sorted))
-}
-
-/// The fields by name.
-fn by_name(fields: Vec<FieldInfo>) -> Result<Vec<FieldInfo>, NoMemory>
-    ensures permutation { IfOk result (λ sorted. IsPermutation fields.items sorted.items) }
-    ensures sorted { IfOk result
-        (λ sorted. IsSortedByKey (λ info. info.name) (slice_cmp nat_cmp) sorted.items) }
-{
-    let mut sorted = fields;
-    sorted.sort_by(|a, b| a.name.as_str().cmp(b.name.as_str()))?;
-    Ok(sorted)
-}
-
-/// The declared fields of a model, and then the automatic ones.
-fn unsorted_fields(
-    alloc: Global,
-    defs: &[ModelDef],
-    def: &ModelDef,
-) -> Result<Vec<FieldInfo>, NoMemory>
-    requires faultless { IsFaultless defs.now }
-    requires among { Contains defs.now def.now }
-    ensures { IfOk result (λ fields. AreUnsorted defs.now def.now fields.items) }
-{
-    let mut fields = declared_fields(alloc, defs, def)?;
-    fields.push(moment_info(alloc, "create_date")?)?;
-    fields.push(id_info(alloc)?)?;
-    fields.push(moment_info(alloc, "write_date")?)?;
-    Ok(fields)
-}
-
-/// The declared fields of a model, in their order.
-fn declared_fields(
-    alloc: Global,
-    defs: &[ModelDef],
-    def: &ModelDef,
-) -> Result<Vec<FieldInfo>, NoMemory>
-    requires faultless { IsFaultless defs.now }
-    requires among { Contains defs.now def.now }
-    ensures of { IfOk result
-        (λ fields. AllZip (IsFieldOf defs.now def.now) def.now.fields fields.items) }
-    ensures held { IfOk result (λ fields. All HoldsDefault fields.items) }
-    ensures sound { IfOk result (λ fields. All (HasSoundOrigin defs.now def.now) fields.items) }
-{
-    let mut fields = Vec::new(alloc);
-    for field in def.fields.as_slice() {
-        fields.push(field_info(alloc, defs, def, field)?)?;
+    let mut fields = Sequence::new(alloc);
+    let mut hidden = Sequence::new(alloc);
+    let mut place = 0;
+    for formula in formulas {
+        let member = &model.members[place];
+        let info = field_info(alloc, models, model, member, formula)?;
+        if place < model.named {
+            fields.push(info)?;
+        } else {
+            hidden.push(info)?;
+        }
+        place += 1;
     }
-    Ok(fields)
+    Ok((fields, hidden))
 }
 
-/// The row's id.
-fn id_info(alloc: Global) -> Result<FieldInfo, NoMemory>
-    ensures { IfOk result (λ info. info ≡ id_info) }
-{
-    bare_info(alloc, "id", FieldType::Integer, Origin::Id, false)
-}
-
-/// The moment at which a row was made, or last changed.
-fn moment_info(alloc: Global, name: &str) -> Result<FieldInfo, NoMemory>
-    ensures { IfOk result (λ info. info ≡ moment_info name.now) }
-{
-    bare_info(alloc, name, FieldType::Datetime, Origin::Plain, true)
-}
-
-/// A field with no key but its type.
-fn bare_info(
+/// The parents of a model.
+fn parents_of(
     alloc: Global,
-    name: &str,
-    field_type: FieldType,
-    origin: Origin,
-    managed: bool,
-) -> Result<FieldInfo, NoMemory>
-    ensures { IfOk result (λ info. info ≡ bare_info name.now field_type origin managed) }
+    models: &Models<'_>,
+    model: &Model<'_>,
+) -> Result<Sequence<ParentInfo>, NoMemory>
+    ensures links { IfOk result (λ parents. (g : Gathered) → IsModelled models.now g model.now
+        → map (λ i. Some i.link) parents
+        ≡ map (λ i. number_named models.now g i.link) (links_of models.now g)) }
+    ensures models { IfOk result (λ parents. (g : Gathered) → IsModelled models.now g model.now
+        → map (λ i. Some i.model) parents
+        ≡ map (λ i. model_number models.now i.model) (links_of models.now g)) }
 {
-    Ok(FieldInfo {
-        name: Word::from_text(alloc, name)?,
-        field_type,
-        origin,
-        string: Word::from_text(alloc, name)?,
-        required: false,
-        default: None,
-        store: true,
-        recursive: false,
-        relation: None,
-        inverse: None,
-        mirror: None,
-        ondelete: OnDelete::SetNull,
-        selection: Sequence::new(alloc),
-        groups: Sequence::new(alloc),
-        managed,
-        fixed: false,
-        secret: false,
+    let mut parents = Sequence::new(alloc);
+    for link in model.links {
+        if let Some(parent) = parent_of(models, model, link.parent) {
+            parents.push(parent)?;
+        }
+    }
+    Ok(parents)
+}
+
+/// The parent to which a link leads, where its field and its model are there.
+fn parent_of(models: &Models<'_>, model: &Model<'_>, link: &Inherits) -> Option<ParentInfo>
+    ensures { result ≡ parent_found models.now (named_in model.now.named model.now.members.items) link.now }
+{
+    let field = model.number(link.link.as_str())?;
+    let target = models.number(link.model.as_str())?;
+    Some(ParentInfo {
+        link: field,
+        model: target,
     })
+}
+
+/// The sets of fields that no two rows share.
+fn unique_sets(
+    alloc: Global,
+    model: &Model<'_>,
+    sets: &[UniqueSet<'_>],
+) -> Result<Sequence<Sequence<FieldNo>>, NoMemory>
+    ensures { IfOk result (AllZip
+        (λ u. AreNumbers (named_in model.now.named model.now.members.items) u.names) (sets_of sets.now)) }
+{
+    let mut unique = Sequence::new(alloc);
+    for set in sets {
+        unique.push(numbers(alloc, model, set.names)?)?;
+    }
+    Ok(unique)
+}
+
+/// The numbers of fields by name.
+fn numbers(alloc: Global, model: &Model<'_>, names: &[Word]) -> Result<Sequence<FieldNo>, NoMemory>
+    ensures { IfOk result
+        (AreNumbers (named_in model.now.named model.now.members.items) names.now) }
+{
+    let mut numbers = Sequence::new(alloc);
+    for name in names {
+        if let Some(number) = model.number(name.as_str()) {
+            numbers.push(number)?;
+        }
+    }
+    Ok(numbers)
+}
+
+/// The terms of a model's order; none where it isn't given.
+fn order_of(
+    alloc: Global,
+    model: &Model<'_>,
+    order: Option<GivenOrder<'_>>,
+) -> Result<Sequence<OrderTerm>, NoMemory>
+    ensures fields { IfOk result (λ terms. AreNumbers
+        (named_in model.now.named model.now.members.items)
+        (names_of_terms (given_terms (given_order order.entry))) (map (λ t. t.field) terms)) }
+    ensures directions { IfOk result (λ terms.
+        (HasUnknown (named_in model.now.named model.now.members.items)
+        (names_of_terms (given_terms (given_order order.entry))) → ⊥)
+        → map (λ t. t.descending) terms
+        ≡ map (λ t. t.descending) (given_terms (given_order order.entry))) }
+{
+    let mut terms = Sequence::new(alloc);
+    let text = match order {
+        Some(order) => order.text,
+        None => return Ok(terms),
+    };
+    let Some(entries) = order_entries(alloc, text)? else {
+        return Ok(terms);
+    };
+    for entry in entries.as_slice() {
+        if let Some(field) = model.number(entry.name) {
+            let descending = entry.descending;
+            terms.push(OrderTerm { field, descending })?;
+        }
+    }
+    Ok(terms)
 }

@@ -1,8 +1,9 @@
 //! What the registry knows of models and fields: their definitions with every name
 //! resolved. A new key of the module format gets its meaning here.
 
-ghost use Rattle.std.specs.Prelude.{◌≡◌};
+ghost use Rattle.std.specs.Prelude.{◌≡◌, ◌↔◌, IsTrue};
 ghost use Rattle.ob_schema.specs.Fields.{is_kept, is_plain_kept};
+ghost use Rattle.ob_schema.specs.Paths.{EndsIn};
 
 use ob_base::{FieldNo, ModelNo, Sequence, Value, Word};
 use ob_definition::{Choice, FieldType, OnDelete};
@@ -14,10 +15,26 @@ use ob_expr::Typed;
 pub struct ModelInfo {
     pub name: Word,
     pub fields: Sequence<FieldInfo>,
+    /// The conditions of each row, by name, and then when it is locked: computed Booleans
+    /// that aren't kept, numbered on from the fields.
+    pub hidden: Sequence<FieldInfo>,
+    /// The parents whose fields are delegated.
+    pub inherits: Sequence<ParentInfo>,
+    /// The many2one to the model itself that makes its rows a tree.
+    pub parent: Option<FieldNo>,
+    /// Sets of plain fields that no two rows share.
+    pub unique: Sequence<Sequence<FieldNo>>,
     /// The order of a search; by id where it is empty.
     pub order: Sequence<OrderTerm>,
     /// Whether calls may not create, write or delete its rows.
     pub managed: bool,
+}
+
+/// A parent model, and the field that links to its row.
+#[derive(Clone, Copy, Debug, PartialEq, Eq)]
+pub struct ParentInfo {
+    pub link: FieldNo,
+    pub model: ModelNo,
 }
 
 /// A field by which rows are ordered.
@@ -65,8 +82,18 @@ pub enum Origin {
     Id,
     /// Calls give it.
     Plain,
+    /// A row of a parent has it.
+    Delegated(Delegation),
     /// An expression gives it.
     Computed(Formula),
+}
+
+/// Where a delegated field's value stands: behind a link, as a field of the parent's model.
+#[derive(Clone, Copy, Debug, PartialEq, Eq)]
+pub struct Delegation {
+    pub link: FieldNo,
+    pub model: ModelNo,
+    pub field: FieldNo,
 }
 
 /// The expression of a computed field.
@@ -75,13 +102,31 @@ pub struct Formula {
     pub typed: Typed,
     /// The paths on which its value depends.
     pub depends: Sequence<Path>,
+    /// The length of the longest chain of other computed fields that are read in turn.
+    pub stratum: u16,
 }
 
-/// The steps from a row to a cell: each field but the last is a relation, and each
-/// further one a field of its model.
+/// The steps from a row to a cell: each but the last through a relation to rows of the next
+/// one's model.
 #[derive(Debug, Drop)]
 pub struct Path {
-    pub steps: Sequence<FieldNo>,
+    pub steps: Sequence<Step>,
+}
+
+/// A field of a model, through which a path leads or at which it ends.
+#[derive(Clone, Copy, Debug, PartialEq, Eq)]
+pub struct Step {
+    pub model: ModelNo,
+    pub field: FieldNo,
+}
+
+impl Path {
+    /// Whether this is its last step.
+    pub(crate) fn ends_in(&self, step: Step) -> bool
+        ensures { IsTrue result ↔ EndsIn self.now.steps step }
+    {
+        self.steps.as_slice().last().copied() == Some(step)
+    }
 }
 
 impl FieldInfo {
@@ -91,7 +136,7 @@ impl FieldInfo {
         ensures { result ≡ is_kept self.now }
     {
         match self.origin {
-            Origin::Id => false,
+            Origin::Id | Origin::Delegated(_) => false,
             Origin::Plain => self.is_own(),
             Origin::Computed(_) => self.store,
         }

@@ -1,32 +1,33 @@
-//! The registry that is built from definitions, with every name resolved. Expressions are
-//! the whole language; so far they may read plain fields of their own row. Its contract:
-//! `build` accepts only definitions without a fault, else it names their first fault in the
-//! stated order, where memory suffices; and each look-up is that of the list of models.
+//! The registry: models with every name resolved, built from their definitions, or the first
+//! thing that stands against these.
 //!
 //! Rooms: `info` (models and fields with names resolved), `schema` (the registry and its
-//! look-ups), `build` (the registry from definitions). Behind it stand `definitions`
-//! (look-ups in what is declared), `finding` (what is wrong with an expression),
-//! `entry_faults`, `field_faults` and `faults` (which fault is the first), `building` and
-//! `field_building` (the registry's parts). The definitions that contracts cite stand in
-//! specs/; what is declared stands in `ob_definition`.
+//! look-ups), `build` (the registry from definitions). Behind it stand `model` and `models` (models with
+//! all their fields, and what names stand for), `model_faults`, `field_faults`, `paths`,
+//! `formulas`, `graph` and `strata` (what is wrong with models, keys, paths, expressions and
+//! circles), `building` and `field_building` (the registry's parts). The definitions that
+//! contracts cite stand in specs/; what is declared stands in `ob_definition`.
 #![tactic(auto)]
 
 mod build;
 mod building;
-mod definitions;
-mod entry_faults;
-mod faults;
 mod field_building;
 mod field_faults;
-mod finding;
+mod formulas;
+mod graph;
 mod info;
+mod model;
+mod model_faults;
+mod models;
+mod paths;
 mod schema;
+mod strata;
 #[cfg(test)]
 mod tests;
-mod wrong;
 
-pub use faults::no_expression_has_one;
-pub use info::{FieldInfo, Formula, ModelInfo, OrderTerm, Origin, Path};
+pub use info::{
+    Delegation, FieldInfo, Formula, ModelInfo, OrderTerm, Origin, ParentInfo, Path, Step,
+};
 pub use ob_definition::{
     Check, Choice, FieldDef, FieldType, Inherits, ModelDef, OnDelete, SchemaFault, Spot,
 };

@@ -3,10 +3,11 @@
 
 ghost use Rattle.std.specs.Prelude.{◌≡◌, ◌≤◌, All, IfOk, IfSome, option_map, Some, length, map};
 ghost use Rattle.ob_base.specs.Limits.{max_fields, max_models, max_name_bytes};
-ghost use Rattle.ob_schema.specs.Models.{AreInOrder, HasField, HasModel, IsModel, IsRegistry, field_at, field_named, model_at, model_named, numbered};
+ghost use Rattle.ob_schema.specs.Built.{numbered};
+ghost use Rattle.ob_schema.specs.Models.{AreInOrder, HasField, HasModel, IsModel, IsRegistry, field_at, field_named, model_at, model_named, stratum_of};
 ghost use Rattle.ob_schema.specs.NameIndex.{IsIndexOf};
 
-use crate::info::{FieldInfo, ModelInfo};
+use crate::info::{FieldInfo, ModelInfo, Origin};
 use ob_base::{FieldNo, ModelNo, NoMemory, Sequence};
 use std::alloc::Global;
 use std::collections::BTreeMap;
@@ -77,12 +78,17 @@ impl Schema {
         numbered(self.models.as_slice(), model.0)
     }
 
-    /// The field of a number of a model, where there are both.
+    /// The field of a number of a model, a hidden one too, where there are both.
     pub fn find_field(&self, model: ModelNo, field: FieldNo) -> Option<&FieldInfo>
         ensures { option_map (λ info. info.now) result ≡ field_at self.now model field }
     {
         let info = self.find_model(model)?;
-        numbered(info.fields.as_slice(), field.0)
+        let named = info.fields.as_slice();
+        let place = usize::from(field.0).checked_sub(1)?;
+        match place.checked_sub(named.len()) {
+            None => named.get(place),
+            Some(behind) => info.hidden.as_slice().get(behind),
+        }
     }
 
     /// A model.
@@ -90,7 +96,7 @@ impl Schema {
         requires { HasModel self.now model }
         ensures at { model_at self.now model ≡ Some result.now }
         // Its formulas and defaults fit its fields.
-        ensures fit { IsModel result.now }
+        ensures fit { IsModel self.now model result.now }
     {
         &self.models.as_slice()[model.0 as usize - 1]
     }
@@ -108,12 +114,26 @@ impl Schema {
             .as_slice()
     }
 
-    /// A field of a model.
+    /// A field of a model, a hidden one too.
     pub fn info(&self, model: ModelNo, field: FieldNo) -> &FieldInfo
         requires { HasField self.now model field }
         ensures { field_at self.now model field ≡ Some result.now }
     {
-        &self.model_info(model).fields.as_slice()[field.0 as usize - 1]
+        match self.find_field(model, field) {
+            Some(info) => info,
+            None => unreachable!(),
+        }
+    }
+
+    /// The stratum of a field of a model: 0 of one that isn't computed.
+    pub fn stratum(&self, model: ModelNo, field: FieldNo) -> u16
+        requires { HasField self.now model field }
+        ensures { option_map stratum_of (field_at self.now model field) ≡ Some result }
+    {
+        match &self.info(model, field).origin {
+            Origin::Computed(formula) => formula.stratum,
+            _ => 0,
+        }
     }
 }
 

@@ -1,9 +1,11 @@
 //! A registry with each of its look-ups, and what stands against definitions, a case a line.
 //! Expected values are worked by hand from the documented forms.
 
-use crate::{FieldDef, FieldType, ModelDef, OrderTerm, Schema, SchemaFault, Spot};
+use crate::{
+    Check, Delegation, FieldDef, FieldType, Inherits, ModelDef, OrderTerm, Origin, Schema,
+    SchemaFault, Spot,
+};
 use ob_base::{FieldNo, ModelNo, NoMemory, Sequence, Word};
-use ob_syntax::ExprFault;
 use std::alloc::Global;
 use std::test::Fail;
 
@@ -11,32 +13,16 @@ use std::test::Fail;
 /// and inverse, and what a build of the model tells.
 const CASES: &str = "
     total | qty * price | qty price         |           |      | none
-    total | price       | order_id.qty      |           |      | 0/total: wrong path
-    total | price       | price order_id.qty |          |      | 0/total: past a limit
+    total | price       | qty               |           |      | 0/total: wrong path
+    total | price       | price qty.name    |           |      | 0/total: wrong path
+    total | price       | price order_id.qty |          |      | 0/total: unknown field
+    total | total + 1   | total             |           |      | 0/total: cycle
     total | qty * cost  | qty               |           |      | 0/total: unknown field
     total | qty * name  | qty name          |           |      | 0/total: wrong kind
     total | qty *       | qty               |           |      | 0/total: wrong expression
     name  |             |                   |           |      | 0/name: declared twice
     owner |             |                   | demo.none |      | 0/owner: unknown model
     lines |             |                   | demo.line | name | 0/lines: wrong inverse
-";
-
-/// A field `total` beside `done`, `qty`, `parent_id` and `parts`: its expression, its declared
-/// paths, and what a build of the model tells.
-const EXPRESSIONS: &str = "
-    if(done, qty, -qty)                  | done qty  | none
-    count(parts)                         | parts     | none
-    id + 1                               |           | none
-    min2(qty, 12) * 2 - (qty + 1) mod 5  | qty       | none
-    if(done, qty, 'none')                | done qty  | 0/total: wrong kind
-    done and qty > 1                     | done qty  | 0/total: wrong kind
-    unset                                |           | 0/total: wrong kind
-    qty.done                             | qty done  | 0/total: wrong kind
-    parent_id.qty                        | parent_id | 0/total: wrong path
-    count(parts, done)                   | parts     | 0/total: wrong path
-    parent_id.cost                       | parent_id | 0/total: unknown field
-    cost(qty)                            | qty       | 0/total: unknown field
-    if(done, qty                         | done qty  | 0/total: wrong expression
 ";
 
 /// A key that is given where its text isn't empty.
@@ -99,31 +85,20 @@ fn line_model(alloc: Global, field: FieldDef) -> Result<ModelDef, NoMemory> {
     })
 }
 
-/// `demo.part`, a tree of parts, with `done`, `qty` and one field more.
-fn part_model(alloc: Global, field: FieldDef) -> Result<ModelDef, NoMemory> {
-    let mut fields = Sequence::new(alloc);
-    fields.push(FieldDef::plain(alloc, "done", FieldType::Boolean)?)?;
-    fields.push(FieldDef::plain(alloc, "qty", FieldType::Integer)?)?;
-    fields.push(relation_field(alloc, "parent_id", "demo.part", "")?)?;
-    fields.push(relation_field(alloc, "parts", "demo.part", "parent_id")?)?;
-    fields.push(field)?;
-    Ok(ModelDef {
-        fields,
-        ..ModelDef::plain(alloc, "demo.part")?
-    })
-}
-
 fn spot(fault: &SchemaFault) -> Option<&Spot> {
     match fault {
         SchemaFault::Model(spot)
         | SchemaFault::Field(spot)
         | SchemaFault::Kind(spot)
         | SchemaFault::Twice(spot)
+        | SchemaFault::Cycle(spot)
+        | SchemaFault::Recursion(spot)
         | SchemaFault::Path(spot)
         | SchemaFault::Inverse(spot)
+        | SchemaFault::Inherits(spot)
         | SchemaFault::Limit(spot)
         | SchemaFault::Text(spot, _) => Some(spot),
-        _ => None,
+        SchemaFault::NoMemory => None,
     }
 }
 
@@ -161,32 +136,6 @@ fn faults_of_fields(rt: HostRuntime) -> Result<(), Fail> {
 }
 
 #[test]
-fn expressions(rt: HostRuntime) -> Result<(), Fail> {
-    for line in EXPRESSIONS.lines() {
-        let cells: Vec<&str> = line.split('|').map(|cell| cell.trim()).collect(rt.alloc())?;
-        let [compute, depends, wanted] = cells.as_slice() else {
-            assert_eq!(rt; line.trim(), "");
-            continue;
-        };
-        let field = computed_field(rt.alloc(), "total", compute, depends)?;
-        let defs = [part_model(rt.alloc(), field)?];
-        assert_eq!(rt; told(rt.alloc(), &defs)?.as_str(), *wanted, "{line}");
-    }
-    Ok(())
-}
-
-#[test]
-fn place_of_a_wrong_token(rt: HostRuntime) -> Result<(), Fail> {
-    let field = computed_field(rt.alloc(), "total", "if(done, qty]", "done qty")?;
-    let defs = [part_model(rt.alloc(), field)?];
-    let Err(SchemaFault::Text(_, why)) = Schema::build(rt.alloc(), &defs) else {
-        return Err(Fail::new("no fault of the text"));
-    };
-    assert_eq!(rt; why, ExprFault::At(12));
-    Ok(())
-}
-
-#[test]
 fn faults_of_entries(rt: HostRuntime) -> Result<(), Fail> {
     let first = line_model(
         rt.alloc(),
@@ -200,6 +149,50 @@ fn faults_of_entries(rt: HostRuntime) -> Result<(), Fail> {
         told(rt.alloc(), &[first, second])?.as_str(),
         "1/: declared twice"
     );
+    Ok(())
+}
+
+/// How a tree's `depth` reads itself: its expression, declared paths, whether it says so, and
+/// what a build tells.
+const TREES: &str = "
+    parent_id.depth + 1                     | parent_id.depth                 | yes | none
+    parent_id.depth + 1                     | parent_id.depth                 |     | 0/depth: not marked recursive
+    sum(child_ids, depth) + 1               | child_ids.depth                 | yes | none
+    sum(child_ids, depth) + 1               | child_ids.depth                 |     | 0/depth: not marked recursive
+    parent_id.depth + sum(child_ids, depth) | parent_id.depth child_ids.depth | yes | 0/depth: cycle
+    sum(other_ids, depth)                   | other_ids.depth                 | yes | 0/depth: cycle
+";
+
+/// A tree by `parent_id`, with `depth`.
+fn tree_model(alloc: Global, depth: FieldDef) -> Result<ModelDef, NoMemory> {
+    let mut fields = Sequence::new(alloc);
+    fields.push(relation_field(alloc, "parent_id", "demo.tree", "")?)?;
+    fields.push(relation_field(alloc, "child_ids", "demo.tree", "parent_id")?)?;
+    fields.push(relation_field(alloc, "other_id", "demo.tree", "")?)?;
+    fields.push(relation_field(alloc, "other_ids", "demo.tree", "other_id")?)?;
+    fields.push(depth)?;
+    Ok(ModelDef {
+        parent: key(alloc, "parent_id")?,
+        fields,
+        ..ModelDef::plain(alloc, "demo.tree")?
+    })
+}
+
+#[test]
+fn trees(rt: HostRuntime) -> Result<(), Fail> {
+    for line in TREES.lines() {
+        let cells: Vec<&str> = line.split('|').map(|cell| cell.trim()).collect(rt.alloc())?;
+        let [compute, depends, recursive, wanted] = cells.as_slice() else {
+            assert_eq!(rt; line, "");
+            continue;
+        };
+        let depth = FieldDef {
+            recursive: Some(!recursive.is_empty()),
+            ..computed_field(rt.alloc(), "depth", compute, depends)?
+        };
+        let defs = [tree_model(rt.alloc(), depth)?];
+        assert_eq!(rt; told(rt.alloc(), &defs)?.as_str(), *wanted, "{line}");
+    }
     Ok(())
 }
 
@@ -247,6 +240,65 @@ fn look_ups(rt: HostRuntime) -> Result<(), Fail> {
     assert_eq!(rt;
         schema.model_info(model).order.as_slice().first().copied(),
         Some(first)
+    );
+    Ok(())
+}
+
+/// A copy of `demo.line`, and a model that has its fields through a link.
+fn heirs(alloc: Global) -> Result<(ModelDef, ModelDef), NoMemory> {
+    let copy = ModelDef {
+        inherit: key(alloc, "demo.line")?,
+        ..ModelDef::plain(alloc, "demo.copy")?
+    };
+    let mut heir = ModelDef::plain(alloc, "demo.heir")?;
+    heir.inherits.push(Inherits {
+        model: Word::from_text(alloc, "demo.copy")?,
+        link: Word::from_text(alloc, "copy_id")?,
+    })?;
+    heir.fields
+        .push(computed_field(alloc, "twice", "total + total", "total")?)?;
+    heir.checks.push(Check {
+        name: Word::from_text(alloc, "few")?,
+        expression: Word::from_text(alloc, "twice < 9")?,
+    })?;
+    Ok((copy, heir))
+}
+
+#[test]
+fn inheritance(rt: HostRuntime) -> Result<(), Fail> {
+    let total = computed_field(rt.alloc(), "total", "qty * price", "price qty")?;
+    let (copy, heir) = heirs(rt.alloc())?;
+    let defs = [line_model(rt.alloc(), total)?, copy, heir];
+    let schema = Schema::build(rt.alloc(), &defs)?;
+    let copied = names(rt.alloc(), &schema, ModelNo(2))?;
+    assert_eq!(rt;
+        copied.as_str(),
+        "create_date id name price qty total write_date "
+    );
+    let Some(heir) = schema.model("demo.heir") else {
+        return Err(Fail::new("no model"));
+    };
+    let inherited = names(rt.alloc(), &schema, heir)?;
+    assert_eq!(rt;
+        inherited.as_str(),
+        "copy_id create_date id name price qty total twice write_date "
+    );
+    let total = schema.find_field(heir, FieldNo(7));
+    let stands = Delegation {
+        link: FieldNo(1),
+        model: ModelNo(2),
+        field: FieldNo(6),
+    };
+    assert!(rt;
+        matches!(total, Some(info) if matches!(info.origin, Origin::Delegated(at) if at == stands))
+    );
+    let Some(twice) = schema.field(heir, "twice") else {
+        return Err(Fail::new("no field"));
+    };
+    assert_eq!(rt; schema.stratum(heir, twice), 1);
+    let few = schema.find_field(heir, FieldNo(10));
+    assert!(rt;
+        matches!(few, Some(info) if matches!(&info.origin, Origin::Computed(formula) if formula.stratum == 2))
     );
     Ok(())
 }

@@ -19,3 +19,10 @@ pub mod RegistryFaultless
 pub mod RegistryPlaces
 pub mod RegistryLine
 pub mod ServedLine
+pub mod RegistryShape
+pub mod RegistryEntries
+pub mod RegistryFields
+pub mod RegistryFormula
+pub mod RegistryStrata
+pub mod RegistryOwn
+pub mod RegistryKept

@@ -10,6 +10,7 @@
 //! | `expression TEXT` | `read`, or the fault |
 //! | `kinds MODEL TEXT` | the expression's kind and the paths that it reads, or the fault |
 //! | `evaluate MODEL ID with CELL .. \| TEXT` | its kind, its value in that row or the fault, how many steps it took, and the cells that were read, in their order |
+//! | `schema DEFINITIONS` | the registry that they make, or their first fault, with its entry and its field |
 //! | `takes ORDER WANT STOCK ..` | `quant:amount` of each take |
 //! | `lines NOW NEXT QUANT .. \| LINE ..` | the quants after the lines, or `short at` a line's number |
 //! | `state RESERVED DEMAND WAITS` | the state of such a move |
@@ -30,14 +31,18 @@
 //! `cells` says how a value is written. Without cells ` with ` may be left out. A cell that
 //! the line doesn't give has no value: to read it is a fault, `no value`.
 //!
+//! DEFINITIONS are entries with ` || ` between them, such as
+//! `name=m.a order=b | b integer | c integer compute=b\s+\s1 depends=b || inherit=m.a | d char`;
+//! `definitions` says which keys there are, `told_schema` how a registry is told.
+//!
 //! A connection in memory sends the bytes HEX, at most CUT in a read (`whole`: all). Of the
 //! door's calls the one of number FAILS fails (0: none; 1 lets the connection come). An item
 //! is `post:keep:"BODY"` or `post:close:"BODY"`, `bad:STATUS`, `ended`, `cut`, or `failed`;
 //! each message is answered by `{}`.
 //!
-//! `times N` before `row`, `body`, `value`, `expression`, `kinds`, `evaluate`, `takes`,
+//! `times N` before `row`, `body`, `value`, `expression`, `kinds`, `evaluate`, `schema`, `takes`,
 //! `lines`, `chain` or `http` makes that call N times and tells the last answer; `evaluate`
-//! then reads and checks its text once.
+//! then reads and checks its text once, and `schema` reads its definitions once.
 
 use crate::connections::connection;
 use crate::expressions::{evaluated, expression, kinds};
@@ -47,6 +52,7 @@ use crate::removals::taken;
 use crate::routes::{chain, push};
 use crate::rows::{body_again, row_values};
 use crate::texts::{day, moment};
+use crate::told_schema::built;
 use crate::values::{order, value};
 use ob_base::NoMemory;
 use ob_schema::Schema;
@@ -72,6 +78,7 @@ pub(crate) fn answer(alloc: Global, schema: &Schema, line: &str) -> Result<Strin
         "expression" => expression(alloc, times, rest),
         "kinds" => kinds(alloc, times, rest),
         "evaluate" => evaluated(alloc, times, rest),
+        "schema" => built(alloc, times, rest),
         "http" => connection(alloc, times, rest),
         _ => stock_answer(alloc, times, word, rest),
     }

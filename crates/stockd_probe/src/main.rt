@@ -6,6 +6,7 @@
 //! Rooms: `registry` has the model whose fields and rows are asked for, `answer` tells a
 //! word from another, `rows` and `values` ask ob_codec, `texts` asks ob_dates, `expressions`
 //! asks ob_syntax and ob_expr, over the models of `fields` and the cells of `cells`,
+//! `told_schema` asks ob_schema what the definitions that `definitions` reads make,
 //! `removals` and `quants` ask wh_quant, `moves` asks wh_move, `routes` asks wh_route,
 //! `connections` asks ob_http. `told` writes values and commands, `items` reads words of
 //! several parts, `askable` says what `move_lines` may be asked. A further library gets its
@@ -16,6 +17,7 @@ mod answer;
 mod askable;
 mod cells;
 mod connections;
+mod definitions;
 mod expressions;
 mod fields;
 mod items;
@@ -27,6 +29,7 @@ mod routes;
 mod rows;
 mod texts;
 mod told;
+mod told_schema;
 mod values;
 
 use crate::answer::answer;

@@ -11,7 +11,7 @@ pub(crate) fn put_value(alloc: Global, text: &mut String, value: &Value) -> Resu
         Value::Nil => write!(text, "unset")?,
         Value::Bool(flag) => write!(text, "{flag}")?,
         Value::Int(number) => write!(text, "{number}")?,
-        Value::Word(word) => put_json(alloc, text, &Json::try_from_str(alloc, word.as_str())?)?,
+        Value::Word(word) => put_text(alloc, text, word.as_str())?,
         Value::Day(day) => write!(text, "day:{day}")?,
         Value::Moment(moment) => write!(text, "moment:{moment}")?,
         Value::Ref(id) => put_id(text, "id:", *id)?,
@@ -42,6 +42,11 @@ pub(crate) fn put_command(
         Command::Clear => Ok(write!(text, "clear")?),
         Command::Set(ids) => put_ids(text, "set:", ids.as_slice()),
     }
+}
+
+/// Adds a text as JSON has it.
+pub(crate) fn put_text(alloc: Global, text: &mut String, word: &str) -> Result<(), NoMemory> {
+    put_json(alloc, text, &Json::try_from_str(alloc, word)?)
 }
 
 /// Adds JSON.

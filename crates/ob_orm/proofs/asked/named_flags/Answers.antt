@@ -16,7 +16,7 @@ loop-item-preserved c =
     let below : i < length items = omega arith in
     elim c.match-field_named.branch [
       | in-Some w ↦ (let written : c.match-field_named.flags.items ≡ set c.loop-item.flags.items (w.in-Some.number.0 - 1) true = ap (λ v. v.items) w.flags-is in
-          rw written (IsFlaggedTo-more found items i c.loop-item.flags.items item w.in-Some.number below c.item-item.is w.in-Some.ensures.there w.in-Some.ensures.named c.loop-item.invariant))
+          rw written (IsFlaggedTo-more found items i c.loop-item.flags.items item w.in-Some.number below c.item-item.is c.requires w.in-Some.ensures.named c.loop-item.invariant))
       | in_default w ↦ rw w.flags-is (IsFlaggedTo-pass found items i c.loop-item.flags.items item below c.item-item.is w.in_default.ensures.named c.loop-item.invariant)
     ]
 

@@ -16,7 +16,7 @@ use Rattle.ob_orm.proofs.new_row.all_values.Goals as goal
 pub value_at-requires-clause-givable : goal.value_at-requires-clause-givable
 value_at-requires-clause-givable c =
     givable_at c.args.schema.now c.args.model c.model_info.result.now.fields c.loop-index.index (fields_at c.args.schema.now c.args.model c.model_info.result.now c.model_info.ensures.at)
-    (omega arith) (tell (model_at c.args.schema.now c.args.model) c.model_info.result.now IsModel c.model_info.ensures.at c.model_info.ensures.fit) c.requires.served
+    (omega arith) (tell (model_at c.args.schema.now c.args.model) c.model_info.result.now (IsModel c.args.schema.now c.args.model) c.model_info.ensures.at c.model_info.ensures.fit) c.requires.served
 
 pub returns-in_err-value-clause-value : goal.returns-in_err-value-clause-value
 returns-in_err-value-clause-value c =

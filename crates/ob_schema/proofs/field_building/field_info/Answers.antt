@@ -1,17 +1,35 @@
--- There are few models, and the keys of a field fit.
-use Rattle.std.proofs.Common.{List, subst, sym}
-use Rattle.std.specs.Prelude.{IfSome}
-use Rattle.ob_definition.specs.declared.field_type.Choice.{Choice}
-use Rattle.ob_definition.specs.Values.{IsValueOf}
-use Rattle.ob_schema.proofs.Clean.{few_models, sound_fits}
-use Rattle.ob_schema.proofs.Defaults.{default_fits-from_fits}
+-- A field as it is made from its definition.
+use Rattle.std.proofs.Common.{◌||◌, rules, Bool, not, ap, sym, ◌∙◌}
+use Rattle.ob_definition.specs.Definitions.{is_set}
+use Rattle.ob_schema.specs.Formulas.{Place}
+use Rattle.ob_schema.specs.ModelFields.{member_of}
+use Rattle.ob_schema.proofs.Origins.{named_back-number}
+use Rattle.ob_schema.proofs.field_building.field_info.Goals.{then-not-is_computed, else-not-is_computed}
 use Rattle.ob_schema.proofs.field_building.field_info.Goals as goal
 
-pub relation_number-requires : goal.relation_number-requires
-relation_number-requires c = few_models c.args.defs.now c.requires.faultless
-
-pub default_of-requires : goal.default_of-requires
-default_of-requires c = default_fits-from_fits c.args.field.now (sound_fits c.args.defs.now c.args.def.now c.args.field.now c.requires.faultless c.requires.among c.requires.declared)
-
-pub returns-clause-held : goal.returns-clause-held
-returns-clause-held c = subst (λ (choices : List Choice). IfSome c.in_ok-default_of.field-0 (IsValueOf c.args.field.now.field_type choices)) (sym c.in_ok-selection_of.ensures) c.in_ok-default_of.ensures.held
+pub returns-clause-of : goal.returns-clause-of
+returns-clause-of c = λ g number place placed.
+    let def = c.args.member.now.def.now in
+    let at : Place = record { models = c.args.models.now; number = number; member = member_of c.args.member.now } in
+    record {
+      name = search rules;
+      field_type = search rules;
+      origin = c.origin_of.ensures g number place placed;
+      string = search rules;
+      required = search rules;
+      default = search rules;
+      store = elim c.if-not-is_computed.branch [
+        | then-not-is_computed w ↦ w.result-is ∙ ap not w.if-not-is_computed.true ∙ sym (ap (λ (b : Bool). not b || is_set def.store) (sym c.is_computed.ensures ∙ w.if-not-is_computed.true))
+        | else-not-is_computed w ↦ w.result-is ∙ w.is_set-else-not-is_computed.ensures ∙ sym (ap (λ (b : Bool). not b || is_set def.store) (sym c.is_computed.ensures ∙ w.if-not-is_computed.false))
+      ];
+      recursive = search rules;
+      relation = search rules;
+      inverse = c.back_number.ensures ∙ named_back-number at def.inverse placed.resolved.inverse;
+      mirror = c.back_number-2.ensures ∙ named_back-number at def.mirror placed.resolved.mirror;
+      ondelete = search rules;
+      selection = search rules;
+      groups = search rules;
+      managed = search rules;
+      fixed = search rules;
+      secret = search rules;
+    }

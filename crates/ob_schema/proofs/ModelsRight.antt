@@ -1,0 +1,567 @@
+-- Each model of the registry is right among all, and so is the registry.
+use Rattle.std.proofs.Common.{◌≡◌, ◌≢◌, ℕ, zero, suc, ◌+◌, ◌<◌, ◌≤◌, ◌&&◌, ◌||◌, Bool, true, false, cond, ltb, not, is_none, is_some, Option, Some, None, option_map, List, [], ◌∷◌, ◌++◌, length}
+use Rattle.std.proofs.Common.{length-append, get_or, map, inl, inr, refl, sym, ap, subst, ◌∙◌, arith}
+use Rattle.std.specs.Prelude.{All, Any, Contains, IfSome, IsSome, IsSomeAnd, option_and_then, slice_get, unwrap_or}
+use Rattle.std.specs.Cmp.Lexicographic.{slice_cmp}
+use Rattle.std.specs.List.{AllPairs, AllZip, list_all, list_any, position_or_len}
+use Rattle.std.specs.Option.{option_map_or}
+use Rattle.std.specs.Ordering.{nat_cmp}
+use Rattle.std.specs.Str.{bytes_eq}
+use Rattle.std.specs.declared.cmp.Ordering.TheVariants.{Less}
+use Rattle.std.proofs.lemmas.Bool.{false_from_ne_true, and_parts, false≢true}
+use Rattle.std.proofs.lemmas.List.{get_or-map, length-map}
+use Rattle.std.proofs.lemmas.List.Elements.{All-contains, All-contains_itself, All-map, All-nil, All-same, Contains-append_left, Contains-append_right}
+use Rattle.std.proofs.lemmas.List.Folds.{Any-from_list_any}
+use Rattle.std.proofs.lemmas.Option.{get_or_from_slice_get, same_Some, slice_get-get_or, slice_get-map, slice_get_within}
+use Rattle.std.proofs.lemmas.Slice.Eq.{bytes_eq-Decides}
+use Rattle.ob_base.specs.Limits.{max_checks, max_name_bytes}
+use Rattle.ob_base.specs.declared.id.FieldNo.{FieldNo}
+use Rattle.ob_base.specs.declared.id.ModelNo.{ModelNo}
+use Rattle.ob_definition.specs.declared.definition.FieldDef.{FieldDef}
+use Rattle.ob_definition.specs.declared.definition.Inherits.{Inherits}
+use Rattle.ob_definition.specs.declared.field_type.FieldType.{FieldType}
+use Rattle.ob_definition.specs.declared.field_type.FieldType.TheVariants as type
+use Rattle.ob_definition.specs.declared.field_type.OnDelete.TheVariants as ondelete
+use Rattle.ob_definition.specs.declared.fault.SchemaFault.TheVariants as fault
+use Rattle.ob_definition.specs.declared.wrong.Wrong.TheVariants as wrong
+use Rattle.ob_definition.specs.Definitions.{is_computed, is_set}
+use Rattle.ob_definition.specs.Findings.{IsFaultAt, fault_at}
+use Rattle.ob_definition.specs.Gathered.{Declared, DeclaredOrder, DeclaredSet, Gathered, is_declared}
+use Rattle.ob_definition.specs.Keys.{is_many2one}
+use Rattle.ob_definition.specs.Making.{IsPathFault}
+use Rattle.ob_definition.specs.Members.{Member, automatic_defs, check_member, check_members, count_below, given_members, hidden_members, hidden_number, is_own_computed, link_def, links_from, links_of, locked_members}
+use Rattle.ob_definition.specs.Members.{members_of, model_at, model_number, named, names_of}
+use Rattle.ob_definition.specs.Members.{number_of, own_member, own_members, path_def, path_members, path_name}
+use Rattle.ob_definition.specs.Orders.{Term, order_terms}
+use Rattle.ob_definition.specs.Rooms.{spot_at}
+use Rattle.ob_definition.specs.Types.{is_list, is_one2many}
+use Rattle.ob_definition.proofs.Copies.{zip_length}
+use Rattle.ob_schema.specs.declared.info.FieldInfo.{FieldInfo}
+use Rattle.ob_schema.specs.declared.info.Formula.{Formula}
+use Rattle.ob_schema.specs.declared.info.ModelInfo.{ModelInfo}
+use Rattle.ob_schema.specs.declared.info.OrderTerm.{OrderTerm}
+use Rattle.ob_schema.specs.declared.info.Origin.TheVariants as origin
+use Rattle.ob_schema.specs.declared.info.ParentInfo.{ParentInfo}
+use Rattle.ob_schema.specs.Built.{IsFieldOf, IsModelOf, given_terms, numbered}
+use Rattle.ob_schema.specs.Faults.{HasRefused, HasUnknown, IsParentField, is_plain, is_plain_kept as is_kept_member, is_unknown, names_of_terms, orders_rows}
+use Rattle.ob_schema.specs.Fields.{is_plain_from, is_plain_kept}
+use Rattle.ob_schema.specs.Finds.{relation_of}
+use Rattle.ob_schema.specs.Models.{AreInOrder, FieldHas, IsCondition, IsFormulaIn, IsModel, IsParentIn, IsPlainTo, IsRegistry, IsTreePath, Orders, field_at, fields_of, model_at as info_at, model_named}
+use Rattle.ob_schema.specs.Paths.{step_at}
+use Rattle.ob_schema.specs.RegistryOf.{HasFieldInfo, IsInfoFrom, IsRegistryOf}
+use Rattle.ob_schema.specs.Strata.IsMember.{by_name}
+use Rattle.ob_schema.specs.Telling.{IsOrderWrong, IsParentWrong}
+use Rattle.ob_schema.proofs.AllSteps.{element_at}
+use Rattle.ob_schema.proofs.Delegated.{hidden_computed, link_inherits, link_member, link_model, own_among}
+use Rattle.ob_schema.proofs.FieldsRight.{IsParentOf, IsUnkept, computed_info, field_right, has, hidden_unkept, named_info, number_there, other_name, parents_of, plain_info}
+use Rattle.ob_schema.proofs.MadeFields.{slice_get-front}
+use Rattle.ob_schema.proofs.ModelNames.{IfSome-found}
+use Rattle.ob_schema.proofs.ModelPlaces.{zip_some}
+use Rattle.ob_schema.proofs.NamedFields.{member_parts}
+use Rattle.ob_schema.proofs.NumbersRise.{field_no, hidden_high, named_place, place_rank, rises}
+use Rattle.ob_schema.proofs.OneWrong.{known_by}
+use Rattle.ob_schema.proofs.OwnInfos.{relation_plain, well_named}
+use Rattle.ob_schema.proofs.OwnNames.{own_apart}
+use Rattle.ob_schema.proofs.RegistryPlaces.{model_place, value_there}
+use Rattle.ob_schema.proofs.Resolved.{model_resolved, right_key}
+use Rattle.ob_schema.proofs.Somes.{read_within}
+use Rattle.ob_schema.proofs.Sourced.{short_name}
+use Rattle.ob_schema.proofs.Stable.{stable_model, stable_true}
+use Rattle.ob_schema.proofs.StrataRight.{stratified}
+use Rattle.ob_schema.proofs.WithinLimits.{few_fields}
+use Rattle.ob_schema.proofs.LookUps.{contains-mapped}
+
+-- ---- lists of names
+
+not_false : (b : Bool) → (b ≡ false → ⊥) → b ≡ true
+not_false true refuted = refl
+not_false false refuted = absurd (refuted refl)
+
+passes : {X : Type 0} (p : X → Bool) (xs : List X) → list_all p xs ≡ true → All (λ x. p x ≡ true) xs
+passes p [] all k d within = absurd (omega arith)
+passes p (x ∷ xs) all zero d within = (and_parts (p x) (list_all p xs) all).0
+passes p (x ∷ xs) all (suc k) d within = passes p xs (and_parts (p x) (list_all p xs) all).1 k d (omega arith)
+
+all_unmap : {X Y : Type 0} (P : Y → Type 0) (f : X → Y) (xs : List X) → All P (map f xs) → All (λ x. P (f x)) xs
+all_unmap P f xs all k d within = let size = length-map xs f in subst P (get_or-map f xs k d (f d) within) (all k (f d) (omega arith))
+
+slice_get-behind : {X : Type 0} (xs ys : List X) (k : ℕ) (x : X) → slice_get ys k ≡ Some x → slice_get (xs ++ ys) (length xs + k) ≡ Some x
+slice_get-behind [] ys k x at = let e : k ≡ 0 + k = omega arith in subst (λ (n : ℕ). slice_get ys n ≡ Some x) e at
+slice_get-behind (y ∷ xs) ys k x at =
+    let e : suc (length xs + k) ≡ length (y ∷ xs) + k = omega arith in
+    subst (λ (n : ℕ). slice_get (y ∷ xs ++ ys) n ≡ Some x) e (slice_get-behind xs ys k x at)
+
+-- a field of the name passes the test
+abbrev pub IsNamedBy : List Member → (Member → Bool) → List ℕ → Type 0
+IsNamedBy members test name = IsSomeAnd (named members name) (λ m. test m ≡ true)
+
+named_by : (members : List Member) (test : Member → Bool) (names : List (List ℕ)) → (HasUnknown members names → ⊥) → (HasRefused members test names → ⊥) → All (IsNamedBy members test) names
+named_by members test names known right =
+    let p : List ℕ → Bool = λ name. option_map_or test (named members name) false in
+    let all : list_all p names ≡ true = not_false (list_all p names) (λ e. right (false_from_ne_true (list_any (is_unknown members) names) known, e)) in
+    λ k d within. by (named members (get_or names k d)) (passes p names all k d within)
+  where
+    by : (o : Option Member) → option_map_or test o false ≡ true → IsSomeAnd o (λ m. test m ≡ true)
+    by None e = absurd (false≢true e)
+    by (Some m) e = e
+
+many2one : (t : FieldType) → is_many2one t ≡ true → t ≡ type.Many2one
+many2one type.Many2one e = refl
+many2one _ e = absurd (false≢true e)
+
+none_of : {X : Type 0} (o : Option X) → is_none o ≡ true → o ≡ None
+none_of None e = refl
+none_of (Some x) e = absurd (false≢true e)
+
+first_none : {X : Type 0} (xs : List X) → is_none (slice_get xs 0) ≡ true → xs ≡ []
+first_none [] e = refl
+first_none (x ∷ xs) e = absurd (false≢true e)
+
+map_none : {X Y : Type 0} (f : X → Y) (xs : List X) → map f xs ≡ [] → xs ≡ []
+map_none f [] e = refl
+map_none f (x ∷ xs) e = absurd (cc)
+
+all_true : (a b c : Bool) → a ≡ true → b ≡ true → c ≡ true → (a && (b && c)) ≡ true
+all_true true true true p q r = refl
+all_true false b c p q r = absurd (false≢true p)
+all_true true false c p q r = absurd (false≢true q)
+all_true true true false p q r = absurd (false≢true r)
+
+-- models of one name have one place in both lists
+places_alike : (all : List Gathered) (name : List ℕ) (models : List Gathered) (infos : List ModelInfo) → AllZip (IsModelOf all) models infos
+    → position_or_len (λ (m : Gathered). bytes_eq m.name name) models ≡ position_or_len (λ (m : ModelInfo). bytes_eq m.name name) infos
+places_alike all name [] [] zip = refl
+places_alike all name [] (i ∷ infos) zip = absurd zip
+places_alike all name (m ∷ models) [] zip = absurd zip
+places_alike all name (m ∷ models) (i ∷ infos) zip =
+    ap (λ (n : List ℕ). cond (not (bytes_eq n name)) (1 + position_or_len (λ (m : Gathered). bytes_eq m.name name) models) 0) (sym zip.0.name)
+    ∙ ap (λ (k : ℕ). cond (not (bytes_eq i.name name)) (1 + k) 0) (places_alike all name models infos zip.1)
+
+abbrev model_no_at : Option ℕ → Option ModelNo
+model_no_at o = option_map (λ i. let n : ModelNo = record { 0 = suc i } in n) o
+
+numbers_alike : (models : List Gathered) (infos : List ModelInfo) → AllZip (IsModelOf models) models infos → (name : List ℕ) → model_number models name ≡ model_named infos name
+numbers_alike models infos zip name =
+    let there = position_or_len (λ (m : ModelInfo). bytes_eq m.name name) infos in
+    ap (λ (k : ℕ). model_no_at (cond (ltb k (length models)) (Some k) None)) (places_alike models name models infos zip)
+    ∙ ap (λ (size : ℕ). model_no_at (cond (ltb there size) (Some there) None)) (sym (zip_length (IsModelOf models) models infos zip))
+
+module _ (models : List Gathered) (infos : List ModelInfo) (registry : IsRegistryOf models infos) (zip : AllZip (IsModelOf models) models infos)
+    (formulas_in : (number : ModelNo) (field : FieldNo) (info : FieldInfo) (formula : Formula) → field_at infos number field ≡ Some info → info.origin ≡ origin.Computed formula → IsFormulaIn infos number info formula) where
+  module _ (number : ModelNo) (info : ModelInfo) (at : info_at infos number ≡ Some info) where
+    from : IsInfoFrom models number info
+    from = registry.model_back number info at
+
+    abbrev g : Gathered
+    g = from.model
+
+    abbrev there : model_at models number.0 ≡ Some g
+    there = from.there
+
+    abbrev is : IsModelOf models g info
+    is = from.is
+
+    abbrev members : List Member
+    members = members_of models g
+
+    -- the name is its own
+    alone : model_named infos info.name ≡ Some number
+    alone =
+        ap (model_named infos) is.name ∙ sym (numbers_alike models infos zip g.name) ∙ is.is_number
+        ∙ ap (λ (n : ModelNo). Some n) from.same
+
+    -- ---- limits
+
+    name_short : length info.name ≤ max_name_bytes
+    name_short =
+        let place = model_place models number g there in
+        let P : Gathered → Type 0 = λ h. length h.name ≤ max_name_bytes in
+        let short : P g = subst P (get_or_from_slice_get models place.0 g g place.2) (registry.resolved.short_names place.0 g (slice_get_within models place.0 g place.2)) in
+        subst (λ (name : List ℕ). length name ≤ max_name_bytes) (sym is.name) short
+
+    few_hidden : length info.hidden ≤ suc max_checks
+    few_hidden =
+        let place = model_place models number g there in
+        let P : Gathered → Type 0 = λ h. length h.checks ≤ max_checks in
+        let checks : length g.checks ≤ max_checks = subst P (get_or_from_slice_get models place.0 g g place.2) (registry.resolved.few_checks place.0 g (slice_get_within models place.0 g place.2)) in
+        let all : length (hidden_members g) ≡ length (check_members g) + length (locked_members g g.locked) = length-append (check_members g) (locked_members g g.locked) in
+        let same : length (check_members g) ≡ length g.checks = length-map g.checks check_member in
+        let one = last g.locked in
+        let count = is.hidden_count in
+        omega arith
+      where
+        last : (o : Option (List ℕ)) → length (locked_members g o) ≤ 1
+        last None = omega arith
+        last (Some text) = omega arith
+
+    -- ---- named fields by place
+
+    field_read : (k : ℕ) (field : FieldInfo) → slice_get (fields_of info) k ≡ Some field → field_at infos number (field_no k) ≡ Some field
+    field_read k field e = ap (λ (o : Option ModelInfo). option_and_then (λ own. numbered (fields_of own) (suc k)) o) at ∙ e
+
+    record IsNamedAt (k : ℕ) (field : FieldInfo) : Type 0 where
+      member : Member
+      here : Contains members member
+      place : number_of models g member.def.name ≡ field_no k
+      name : field.name ≡ member.def.name
+
+    named_at : (k : ℕ) (field : FieldInfo) → slice_get info.fields k ≡ Some field → IsNamedAt k field
+    named_at k field e =
+        let low : k < length info.fields = slice_get_within info.fields k field e in
+        let found = registry.field_back number (field_no k) field (field_read k field (slice_get-front info.fields info.hidden k low ∙ e)) in
+        let parts = member_parts models (step_at number (field_no k)) found.model found.member found.is_member in
+        let same : found.model ≡ g = same_Some found.model g (sym parts.0 ∙ there) in
+        elim parts.1 [
+          | inl named ↦ record {
+            member = found.member;
+            here = subst (λ (h : Gathered). Contains (members_of models h) found.member) same named.0;
+            place = ap (λ (h : Gathered). number_of models h found.member.def.name) (sym same) ∙ named.1;
+            name = found.is.name;
+          }
+          | inr condition ↦
+              (let behind = hidden_high models found.model found.member.def.name k condition.1 in
+              let size : length (members_of models found.model) ≡ length members = ap (λ (h : Gathered). length (members_of models h)) same in
+              let count = is.named_count in
+              absurd (omega arith))
+        ]
+
+    short : All (λ field. length field.name ≤ max_name_bytes) info.fields
+    short k d within =
+        let own = named_at k (get_or info.fields k d) (slice_get-get_or info.fields k d within) in
+        subst (λ (l : List ℕ). length l ≤ max_name_bytes) (sym own.name) (short_name models registry.resolved number g there own.member own.here)
+
+    ordered : AreInOrder (map (λ field. field.name) info.fields)
+    ordered i j d lt within =
+        let name : FieldInfo → List ℕ = λ field. field.name in
+        let size : length (map name info.fields) ≡ length info.fields = length-map info.fields name in
+        let high : j < length info.fields = omega arith in
+        let low : i < length info.fields = omega arith in
+        let a = element_at info.fields i low in
+        let b = element_at info.fields j high in
+        let first = named_at i a.0 a.1 in
+        let second = named_at j b.0 b.1 in
+        let one : get_or (map name info.fields) i d ≡ first.member.def.name = get_or-map name info.fields i a.0 d low ∙ ap name (get_or_from_slice_get info.fields i a.0 a.0 a.1) ∙ first.name in
+        let two : get_or (map name info.fields) j d ≡ second.member.def.name = get_or-map name info.fields j b.0 d high ∙ ap name (get_or_from_slice_get info.fields j b.0 b.0 b.1) ∙ second.name in
+        let below : count_below (names_of members) first.member.def.name ≡ i = place_rank models g first.member.def.name i first.place in
+        let above : count_below (names_of members) second.member.def.name ≡ j = place_rank models g second.member.def.name j second.place in
+        let less : slice_cmp nat_cmp first.member.def.name second.member.def.name ≡ Less = rises (names_of members) first.member.def.name second.member.def.name (omega arith) in
+        ap (λ (l : List ℕ). slice_cmp nat_cmp l (get_or (map name info.fields) j d)) one ∙ ap (λ (l : List ℕ). slice_cmp nat_cmp first.member.def.name l) two ∙ less
+
+    -- a field of the model is there
+    given_there : (m : Member) → Contains (given_members g) m → (P : FieldInfo → Type 0)
+        → ((field : FieldNo) (own : FieldInfo) → IsFieldOf (record { models = models; number = number; member = m }) g field own → P own) → Any P info.fields
+    given_there m given P holds =
+        let here : Contains members m = own_among models g m (Contains-append_left (given_members g) _ m given) in
+        let place = named_place models g m here in
+        let own = registry.field number (field_no place.0) g m (by_name (step_at number (field_no place.0)) g m there here place.1) in
+        let count = is.named_count in
+        let low : place.0 < length info.fields = omega (arith, place.2) in
+        let found : slice_get (fields_of info) place.0 ≡ Some own.info = sym (ap (λ (o : Option ModelInfo). option_and_then (λ own. numbered (fields_of own) (suc place.0)) o) at) ∙ own.at in
+        let front : slice_get info.fields place.0 ≡ Some own.info = sym (slice_get-front info.fields info.hidden place.0 low) ∙ found in
+        (place.0, own.info, low, get_or_from_slice_get info.fields place.0 own.info own.info front, holds (field_no place.0) own.info own.is)
+
+    automatic : All (λ own. Any (λ field. (field.name ≡ own.name) × (field.field_type ≡ own.field_type)) info.fields) automatic_defs
+    automatic k d within =
+        let def : FieldDef = get_or automatic_defs k d in
+        let m : Member = own_member g.entry def in
+        let among : Contains (map (own_member g.entry) automatic_defs) m = contains-mapped (own_member g.entry) automatic_defs def (All-contains_itself automatic_defs k d within) in
+        given_there m (Contains-append_left (map (own_member g.entry) automatic_defs) _ m among) (λ field. (field.name ≡ def.name) × (field.field_type ≡ def.field_type)) (λ field own of. (of.name, of.field_type))
+
+    -- ---- the path in a tree
+
+    path_free : is_some g.parent ≡ true → is_declared g.fields path_name ≡ false
+    path_free given = by (is_declared g.fields path_name) refl
+      where
+        by : (b : Bool) → is_declared g.fields path_name ≡ b → b ≡ false
+        by false e = refl
+        by true e =
+            let found = Any-from_list_any (λ (f : Declared). bytes_eq f.def.name path_name) g.fields e in
+            let named : found.1.def.name ≡ path_name = (bytes_eq-Decides found.1.def.name path_name).0 found.4 in
+            let why = fault.Twice (spot_at found.1.entry path_name) in
+            let place = model_place models number g there in
+            let takes : IsPathFault g why = (given, (found.0, found.1, found.2, found.3, (named, refl))) in
+            absurd (registry.resolved.made why (place.0, g, slice_get_within models place.0 g place.2, get_or_from_slice_get models place.0 g g place.2, inl takes))
+
+    tree_right : IsSome info.parent → Any IsTreePath info.fields
+    tree_right given = by g.parent refl (sym (ap (λ (o : Option FieldNo). is_some o) is.parent) ∙ given)
+      where
+        by : (o : Option (List ℕ)) → g.parent ≡ o → is_some (option_map (number_of models g) o) ≡ true → Any IsTreePath info.fields
+        by None e some = absurd (false≢true some)
+        by (Some parent) e some =
+            let m : Member = own_member g.entry (path_def parent) in
+            let free = path_free (ap (λ (o : Option (List ℕ)). is_some o) e) in
+            let one : path_members g g.parent ≡ m ∷ [] = ap (path_members g) e ∙ ap (λ (b : Bool). cond b [] (m ∷ [])) free in
+            let last : Contains (path_members g g.parent) m = subst (λ (l : List Member). Contains l m) (sym one) (0, omega arith, refl) in
+            let automatic = map (own_member g.entry) automatic_defs in
+            let declared = map (λ (f : Declared). own_member f.entry f.def) g.fields in
+            given_there m (Contains-append_right automatic _ m (Contains-append_right declared (path_members g g.parent) m last)) IsTreePath (λ field own of. record {
+              named = of.name;
+              text = of.field_type;
+              computed = computed_info (record { models = models; number = number; member = m }) g field own.origin refl refl of.origin;
+              kept = of.store;
+            })
+
+    -- ---- conditions
+
+    record IsHiddenAt (k : ℕ) (field : FieldInfo) : Type 0 where
+      member : Member
+      here : Contains (hidden_members g) member
+      place : hidden_number models g member.def.name ≡ field_no (length info.fields + k)
+      own : IsFieldOf (record { models = models; number = number; member = member }) g (field_no (length info.fields + k)) field
+
+    hidden_at : (k : ℕ) (field : FieldInfo) → slice_get info.hidden k ≡ Some field → IsHiddenAt k field
+    hidden_at k field e =
+        let n = length info.fields + k in
+        let found = registry.field_back number (field_no n) field (field_read n field (slice_get-behind info.fields info.hidden k field e)) in
+        let m = found.member in
+        let parts = member_parts models (step_at number (field_no n)) found.model m found.is_member in
+        let same : found.model ≡ g = same_Some found.model g (sym parts.0 ∙ there) in
+        elim parts.1 as (λ _. IsHiddenAt k field) [
+          | inl named ↦
+              (let place = named_place models found.model m named.0 in
+              let both : field_no place.0 ≡ field_no n = sym place.1 ∙ named.1 in
+              let high : suc place.0 ≡ suc n = ap (λ (f : FieldNo). f.0) both in
+              let size : length (members_of models found.model) ≡ length members = ap (λ (h : Gathered). length (members_of models h)) same in
+              let low : place.0 < length (members_of models found.model) = place.2 in
+              let count = is.named_count in
+              absurd (omega arith))
+          | inr condition ↦ record {
+            member = m;
+            here = subst (λ (h : Gathered). Contains (hidden_members h) m) same condition.0;
+            place = ap (λ (h : Gathered). hidden_number models h m.def.name) (sym same) ∙ condition.1;
+            own = subst (λ (h : Gathered). IsFieldOf (record { models = models; number = number; member = m }) h (field_no n) field) same found.is;
+          }
+        ]
+
+    conditions : All IsCondition info.hidden
+    conditions k d within =
+        let field = get_or info.hidden k d in
+        let at : IsHiddenAt k field = hidden_at k field (slice_get-get_or info.hidden k d within) in
+        let m = at.member in
+        let unkept = All-contains IsUnkept (hidden_members g) m (hidden_unkept g) at.here in
+        let computed : is_own_computed m ≡ true = (hidden_computed g m at.here).1 in
+        record {
+          named = elim unkept.3 [ inl check ↦ inl (check.0, at.own.name ∙ check.1) | inr locked ↦ inr (at.own.name ∙ locked) ];
+          boolean = at.own.field_type ∙ unkept.1;
+          computed = computed_info (record { models = models; number = number; member = m }) g (field_no (length info.fields + k)) field.origin computed (other_name m.def.name unkept.0) at.own.origin;
+          unkept = at.own.store ∙ unkept.2;
+        }
+
+    conditions_apart : AllPairs (λ a b. a.name ≢ b.name) info.hidden
+    conditions_apart i j d lt within same =
+        let low : i < length info.hidden = omega arith in
+        let a = hidden_at i (get_or info.hidden i d) (slice_get-get_or info.hidden i d low) in
+        let b = hidden_at j (get_or info.hidden j d) (slice_get-get_or info.hidden j d within) in
+        let names : a.member.def.name ≡ b.member.def.name = sym a.own.name ∙ same ∙ b.own.name in
+        let two : field_no (length info.fields + i) ≡ field_no (length info.fields + j) = sym a.place ∙ ap (hidden_number models g) names ∙ b.place in
+        let numbers : suc (length info.fields + i) ≡ suc (length info.fields + j) = ap (λ (f : FieldNo). f.0) two in
+        omega arith
+
+    -- ---- keys
+
+    parent_right : IfSome info.parent (FieldHas infos (λ field. IsPlainTo number field × (field.field_type ≡ type.Many2one)) number)
+    parent_right = by g.parent refl (model_resolved models registry.resolved number g there).parent
+      where
+        Right : FieldInfo → Type 0
+        Right field = IsPlainTo number field × (field.field_type ≡ type.Many2one)
+
+        of : (name : List ℕ) → g.parent ≡ Some name → (b : Member) → named members name ≡ Some b → ((IsParentField models (Some number) b → ⊥) → ⊥) → IfSome info.parent (FieldHas infos Right number)
+        of name e b found twice =
+            let own = named_info models infos registry number g there name b found in
+            let plain : is_plain b ≡ true = stable_true (is_plain b) (λ no. twice (λ p. no p.0)) in
+            let t : is_many2one b.def.field_type ≡ true = stable_true (is_many2one b.def.field_type) (λ no. twice (λ p. no p.1)) in
+            let leads : relation_of models b.def ≡ Some number = stable_model (relation_of models b.def) number (λ no. twice (λ p. no p.2)) in
+            let holds : Right own.info = (
+              record { plain = plain_info (record { models = models; number = number; member = b }) g (number_of models g name) own.info.origin plain own.is.origin; leads = own.is.relation ∙ leads },
+              own.is.field_type ∙ many2one b.def.field_type t,
+            ) in
+            IfSome-found (FieldHas infos Right number) info.parent (number_of models g name) (is.parent ∙ ap (option_map (number_of models g)) e)
+            (has models infos registry number (number_of models g name) g b own Right holds)
+
+        by : (o : Option (List ℕ)) → g.parent ≡ o → IfSome o (λ name. IsSome (named members name)) → IfSome info.parent (FieldHas infos Right number)
+        by None e known = subst (λ (o : Option FieldNo). IfSome o (FieldHas infos Right number)) (sym (is.parent ∙ ap (option_map (number_of models g)) e)) tt
+        by (Some name) e known = some (named members name) refl known
+          where
+            some : (o : Option Member) → named members name ≡ o → IsSome o → IfSome info.parent (FieldHas infos Right number)
+            some None f none = absurd (false≢true none)
+            some (Some b) f known =
+                let why = fault_at wrong.Kind (spot_at g.entry []) in
+                let P : Option (List ℕ) → Type 0 = λ o. IsSomeAnd o (λ name. IsFaultAt (spot_at g.entry []) (IsParentWrong models number (named members name)) why) in
+                of name e b f (λ no. right_key models registry.resolved number g there why (inr (inl (subst P (sym e)
+                (wrong.Kind, known_by (named members name) (λ m. IsParentField models (Some number) m → ⊥) b f no, refl)))))
+
+    parents_right : All (IsParentIn infos number) info.inherits
+    parents_right k d within = one (get_or info.inherits k d) (slice_get-get_or info.inherits k d within)
+      where
+        one : (parent : ParentInfo) → slice_get info.inherits k ≡ Some parent → IsParentIn infos number parent
+        one parent e =
+            let linked = value_there (λ i. IsParentOf models g i parent) (slice_get (links_of models g) k) (zip_some (IsParentOf models g) (links_of models g) info.inherits (parents_of models g info is) k parent e) in
+            let i = linked.0 in
+            let both = linked.2 in
+            let among : Contains (links_of models g) i = (k, slice_get_within (links_of models g) k i linked.1, get_or_from_slice_get (links_of models g) k i i linked.1) in
+            let m : Member = own_member g.entry (link_def i) in
+            let mine : Contains (own_members models g) m = link_member models g i among in
+            let own = registry.field number parent.link g m (by_name (step_at number parent.link) g m there (own_among models g m mine) (sym both.0)) in
+            let P : FieldInfo → Type 0 = λ field. IsPlainTo parent.model field × (field.field_type ≡ type.Many2one) × (field.required ≡ true) × (field.ondelete ≡ ondelete.Cascade) in
+            let holds : P own.info = (
+              record { plain = relation_plain models registry.resolved number g there m mine refl parent.link own.info.origin own.is.origin; leads = own.is.relation ∙ both.1 },
+              own.is.field_type,
+              own.is.required,
+              own.is.ondelete,
+            ) in
+            let p = link_model models g i among in
+            let known : model_at models parent.model.0 ≡ Some p.0 = number_there models i.model parent.model p.0 both.1 p.1 in
+            let other = registry.model parent.model p.0 known in
+            let may = subst (λ (o : Option Gathered). option_map_or (λ q. not (bytes_eq q.name g.name) && is_none (slice_get q.inherits 0)) o false ≡ true) p.1 (link_inherits models g i among) in
+            let none : p.0.inherits ≡ [] = first_none p.0.inherits (and_parts (not (bytes_eq p.0.name g.name)) (is_none (slice_get p.0.inherits 0)) may).1 in
+            let no_links : links_of models p.0 ≡ [] = ap (links_from models p.0 (names_of (given_members p.0))) none in
+            let no_parents : other.info.inherits ≡ [] = map_none (λ (i : ParentInfo). Some i.link) other.info.inherits (other.is.inherits ∙ ap (map (λ (i : Inherits). Some (number_of models p.0 i.link))) no_links) in
+            record {
+              link = has models infos registry number parent.link g m own P holds;
+              single = known_by (info_at infos parent.model) (λ info. info.inherits ≡ []) other.info other.at no_parents;
+            }
+
+    -- no two links are one field
+    record IsLinked (k : ℕ) (parent : ParentInfo) : Type 0 where
+      through : Inherits
+      own : slice_get (own_members models g) (length (given_members g) + k) ≡ Some (own_member g.entry (link_def through))
+      is_link : parent.link ≡ number_of models g through.link
+      field : HasFieldInfo models infos number (number_of models g through.link) g (own_member g.entry (link_def through))
+
+    linked : (k : ℕ) (parent : ParentInfo) → slice_get info.inherits k ≡ Some parent → IsLinked k parent
+    linked k parent e =
+        let links = links_of models g in
+        let by_link = value_there (λ i. IsParentOf models g i parent) (slice_get links k) (zip_some (IsParentOf models g) links info.inherits (parents_of models g info is) k parent e) in
+        let i = by_link.0 in
+        let made : Inherits → Member = λ j. own_member g.entry (link_def j) in
+        let behind : slice_get (map made links) k ≡ Some (made i) = slice_get-map made links k ∙ ap (option_map made) by_link.1 in
+        let among : Contains links i = (k, slice_get_within links k i by_link.1, get_or_from_slice_get links k i i by_link.1) in
+        let at = number_of models g i.link in
+        record {
+          through = i;
+          own = slice_get-behind (given_members g) (map made links) k (made i) behind;
+          is_link = by_link.2.0;
+          field = registry.field number at g (made i) (by_name (step_at number at) g (made i) there (own_among models g (made i) (link_member models g i among)) refl);
+        }
+
+    links_apart : AllPairs (λ a b. a.link ≢ b.link) info.inherits
+    links_apart i j d lt within same =
+        let low : i < length info.inherits = omega arith in
+        let a = linked i (get_or info.inherits i d) (slice_get-get_or info.inherits i d low) in
+        let b = linked j (get_or info.inherits j d) (slice_get-get_or info.inherits j d within) in
+        let mine = own_members models g in
+        let front = length (given_members g) in
+        let x : Member = own_member g.entry (link_def a.through) in
+        let y : Member = own_member g.entry (link_def b.through) in
+        let one : get_or mine (front + i) x ≡ x = get_or_from_slice_get mine (front + i) x x a.own in
+        let two : get_or mine (front + j) x ≡ y = get_or_from_slice_get mine (front + j) y x b.own in
+        let inside : front + j < length mine = slice_get_within mine (front + j) y b.own in
+        let above : front + i < front + j = omega arith in
+        let numbers : number_of models g a.through.link ≡ number_of models g b.through.link = sym a.is_link ∙ same ∙ b.is_link in
+        let alike : a.field.info ≡ b.field.info = same_Some a.field.info b.field.info (sym a.field.at ∙ ap (field_at infos number) numbers ∙ b.field.at) in
+        let names : x.def.name ≡ y.def.name = sym a.field.is.name ∙ ap (λ (f : FieldInfo). f.name) alike ∙ b.field.is.name in
+        own_apart models g (well_named models registry.resolved number.0 g there) (front + i) (front + j) x above inside
+        (ap (λ (m : Member). m.def.name) one ∙ names ∙ sym (ap (λ (m : Member). m.def.name) two))
+
+    -- what is known of the field of a name is known of the registry's field
+    named_has : (test : Member → Bool) (P : FieldInfo → Type 0) → ((field : FieldNo) (m : Member) (own : FieldInfo) → test m ≡ true → IsFieldOf (record { models = models; number = number; member = m }) g field own → P own)
+        → (name : List ℕ) → IsNamedBy members test name → FieldHas infos P number (number_of models g name)
+    named_has test P implies name by =
+        let found = value_there (λ m. test m ≡ true) (named members name) by in
+        let own = named_info models infos registry number g there name found.0 found.1 in
+        has models infos registry number (number_of models g name) g found.0 own P (implies (number_of models g name) found.0 own.info found.2 own.is)
+
+    kept_info : (field : FieldNo) (m : Member) (own : FieldInfo) → is_kept_member m ≡ true → IsFieldOf (record { models = models; number = number; member = m }) g field own → is_plain_kept own ≡ true
+    kept_info field m own kept of =
+        let last = and_parts (is_plain m && not (is_one2many m.def.field_type)) (is_none m.def.mirror) kept in
+        let first = and_parts (is_plain m) (not (is_one2many m.def.field_type)) last.0 in
+        let back : own.mirror ≡ None = of.mirror ∙ ap (Rattle.ob_schema.specs.Built.back_number models m.def) (none_of m.def.mirror last.1) in
+        all_true (is_plain_from own.origin) (not (is_one2many own.field_type)) (is_none own.mirror)
+        (plain_info (record { models = models; number = number; member = m }) g field own.origin first.0 of.origin)
+        (ap (λ (t : FieldType). not (is_one2many t)) of.field_type ∙ first.1)
+        (ap is_none back)
+
+    unique_right : All (All (FieldHas infos (λ field. is_plain_kept field ≡ true) number)) info.unique
+    unique_right =
+        let Has : FieldNo → Type 0 = FieldHas infos (λ field. is_plain_kept field ≡ true) number in
+        All-same (All Has) info.unique (map (λ (u : DeclaredSet). map (number_of models g) u.names) g.unique) is.unique
+        (All-map (All Has) (λ (u : DeclaredSet). map (number_of models g) u.names) g.unique (λ k d within.
+        (let u = get_or g.unique k d in
+        let why = fault_at wrong.Kind (spot_at u.entry []) in
+        let all : All (IsNamedBy members is_kept_member) u.names = named_by members is_kept_member u.names
+        ((model_resolved models registry.resolved number g there).unique k d within)
+        (λ refused. right_key models registry.resolved number g there why (inr (inr (inl (k, u, within, read_within g.unique k u d within, (wrong.Kind, inr refused, refl)))))) in
+        All-map Has (number_of models g) u.names (λ j e low. named_has is_kept_member (λ field. is_plain_kept field ≡ true) kept_info (get_or u.names j e) (all j e low)))))
+
+    set_given : All (λ set. set ≢ []) info.unique
+    set_given =
+        let IsGiven : List FieldNo → Type 0 = λ set. set ≢ [] in
+        All-same IsGiven info.unique (map (λ (u : DeclaredSet). map (number_of models g) u.names) g.unique) is.unique
+        (All-map IsGiven (λ (u : DeclaredSet). map (number_of models g) u.names) g.unique (λ k d within none.
+        (let u = get_or g.unique k d in
+        let why = fault_at wrong.Kind (spot_at u.entry []) in
+        right_key models registry.resolved number g there why
+        (inr (inr (inl (k, u, within, read_within g.unique k u d within, (wrong.Kind, inl (map_none (number_of models g) u.names none), refl))))))))
+
+    orders_info : (field : FieldNo) (m : Member) (own : FieldInfo) → orders_rows m.def ≡ true → IsFieldOf (record { models = models; number = number; member = m }) g field own → Orders own
+    orders_info field m own orders of =
+        let both = and_parts (not (is_list m.def.field_type)) (not (is_computed m.def) || is_set m.def.store) orders in
+        (ap is_list of.field_type ∙ not_list (is_list m.def.field_type) both.0, of.store ∙ both.1)
+      where
+        not_list : (b : Bool) → not b ≡ true → b ≡ false
+        not_list true e = absurd (false≢true e)
+        not_list false e = refl
+
+    order_right : All (λ term. FieldHas infos Orders number term.field) info.order
+    order_right =
+        let Has : OrderTerm → Type 0 = λ term. FieldHas infos Orders number term.field in
+        let made : Term → OrderTerm = λ t. record { field = number_of models g t.name; descending = t.descending } in
+        All-same Has info.order (map made (given_terms g.order)) is.order (All-map Has made (given_terms g.order) (by g.order refl (model_resolved models registry.resolved number g there).order))
+      where
+        HasTerm : Term → Type 0
+        HasTerm t = FieldHas infos Orders number (number_of models g t.name)
+
+        of : (o : DeclaredOrder) → g.order ≡ Some o → (t : Option (List Term)) → order_terms o.text ≡ t → IsSomeAnd t (λ terms. HasUnknown members (names_of_terms terms) → ⊥) → All HasTerm (unwrap_or t [])
+        of o e None f known = All-nil HasTerm
+        of o e (Some terms) f known =
+            let why = fault_at wrong.Kind (spot_at o.entry []) in
+            let test : Member → Bool = λ m. orders_rows m.def in
+            let P : Option DeclaredOrder → Type 0 = λ o. IsSomeAnd o (λ o. IsFaultAt (spot_at o.entry []) (IsOrderWrong members o.text) why) in
+            let all : All (IsNamedBy members test) (names_of_terms terms) = named_by members test (names_of_terms terms) known
+            (λ refused. right_key models registry.resolved number g there why (inr (inr (inr (subst P (sym e)
+            (wrong.Kind, inr (known_by (order_terms o.text) (λ terms. HasRefused members test (names_of_terms terms)) terms f refused), refl)))))) in
+            all_unmap (λ name. FieldHas infos Orders number (number_of models g name)) (λ (t : Term). t.name) terms
+            (λ k d within. named_has test Orders orders_info (get_or (names_of_terms terms) k d) (all k d within))
+
+        by : (o : Option DeclaredOrder) → g.order ≡ o → IfSome o (λ o. IsSomeAnd (order_terms o.text) (λ terms. HasUnknown members (names_of_terms terms) → ⊥)) → All HasTerm (given_terms o)
+        by None e known = All-nil HasTerm
+        by (Some o) e known = of o e (order_terms o.text) refl known
+
+    model_right : IsModel infos number info
+    model_right = record {
+      alone = alone;
+      short_name = name_short;
+      few = let count = is.named_count in let low = few_fields models registry.resolved number g there in omega arith;
+      few_hidden = few_hidden;
+      short = short;
+      ordered = ordered;
+      automatic = automatic;
+      fields = λ k d within. field_right models infos registry formulas_in number info at (field_no k) (get_or (fields_of info) k d) (field_read k (get_or (fields_of info) k d) (slice_get-get_or (fields_of info) k d within));
+      strata = λ field own formula here from. stratified models infos registry number info at parent_right field own formula here from (formulas_in number field own formula here from);
+      conditions = conditions;
+      conditions_apart = conditions_apart;
+      parent = parent_right;
+      tree = tree_right;
+      parents = parents_right;
+      links_apart = links_apart;
+      unique = unique_right;
+      set_given = set_given;
+      order = order_right;
+    }
+
+  -- the registry is right
+  pub registry_right : IsRegistry infos
+  registry_right = record {
+    few = let few = registry.resolved.few in let same = zip_length (IsModelOf models) models infos zip in omega arith;
+    each = model_right;
+  }

@@ -1,0 +1,31 @@
+use Rattle.std.proofs.Common.{None, refl, sym, subst, arith}
+use Rattle.std.proofs.lemmas.Result.{IfErr-weaker, on_ok_weaker}
+use Rattle.ob_definition.specs.EntryFaults.{IsGatheringFault}
+use Rattle.ob_schema.specs.Resolving.{AreFew}
+use Rattle.ob_schema.proofs.AllVerdict.{verdict}
+use Rattle.ob_schema.proofs.FewModels.{few_models}
+use Rattle.ob_schema.proofs.NothingFound.{none_found}
+use Rattle.ob_schema.proofs.Verdict.{IsFaultless-from, IsFirst-from}
+use Rattle.ob_schema.proofs.schema.Schema.build.Goals as goal
+
+pub registry_of-requires : goal.registry_of-requires
+registry_of-requires c = record {
+  few = omega (arith, c.in_ok-gathering.ensures.few, c.if-defs-gt-MAX_NUMBERS.false);
+  named = c.in_ok-gathering.ensures.named;
+  limits = λ none. subst AreFew (sym c.in_ok-gathering.ensures.models)
+      (few_models c.args.defs.now (none_found (IsGatheringFault c.args.defs.now) c.new-first.result c.gather.new.first c.in_ok-gathering.ensures.faults none));
+}
+
+pub returns-clause-faultless : goal.returns-clause-faultless
+returns-clause-faultless c =
+    on_ok_weaker c.registry_of.result
+    (λ adds. IsFaultless-from c.args.defs.now None
+    (verdict c.args.defs.now c.in_ok-gathering.gathering c.in_ok-gathering.ensures.models c.in_ok-gathering.ensures.named c.new-first.result c.gather.new.first _ c.new-first.ensures c.in_ok-gathering.ensures.faults adds) refl)
+    c.registry_of.ensures.faultless
+
+pub returns-clause-fault : goal.returns-clause-fault
+returns-clause-fault c =
+    IfErr-weaker c.registry_of.result _ _
+    (λ why adds real. IsFirst-from c.args.defs.now _ why
+    (verdict c.args.defs.now c.in_ok-gathering.gathering c.in_ok-gathering.ensures.models c.in_ok-gathering.ensures.named c.new-first.result c.gather.new.first _ c.new-first.ensures c.in_ok-gathering.ensures.faults (adds real)) refl)
+    c.registry_of.ensures.fault

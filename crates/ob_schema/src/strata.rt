@@ -1,0 +1,300 @@
+//! The strata of computed fields, and what is wrong where they read one another in a circle.
+//! A field reads the computed fields at the ends of its paths. Its stratum is the length of
+//! the longest chain of other fields that are read in turn.
+
+ghost use Rattle.std.specs.Prelude.{◌≡◌, ◌≢◌, ◌<◌, ◌↔◌, Any, Contains, IfOk, IsSome, IsTrue, List, None, Some, length, option_map, slice_get, suc};
+ghost use Rattle.ob_base.specs.Limits.{max_stratum};
+ghost use Rattle.ob_definition.specs.Findings.{Adds, fault_at, Tells};
+ghost use Rattle.ob_definition.specs.Gathered.{Gathered};
+ghost use Rattle.ob_schema.specs.Graphs.{AreFormulas, AreHeights, GoesBy, HaveStrata, IsChainWrong, IsCycleWrong, IsGraph, IsLongWrong, IsSelfWrong, IsStepFault, LeadsToItselfBy, all_steps, formula_in, with_stratum};
+ghost use Rattle.ob_definition.specs.Members.{model_at};
+ghost use Rattle.ob_schema.specs.ModelFields.{member_of};
+ghost use Rattle.ob_schema.specs.Strata.{IsMember, IsOnCycle, IsPathOf, IsRecursion, IsToChildren, IsToParent, Reads, parent_of};
+ghost use Rattle.ob_schema.specs.Telling.{spot_of, steps_in};
+
+use crate::graph::Graph;
+use crate::info::{Formula, Path, Step};
+use crate::model::Member;
+use crate::models::Models;
+use ob_base::limits::MAX_STRATUM;
+use ob_base::{FieldNo, ModelNo, NoMemory};
+use ob_definition::{First, GatheredModel, Wrong, is_set};
+use ob_syntax::one_tree;
+use std::alloc::Global;
+
+/// The formulas of the fields of each model, by number.
+pub(crate) type Formulas = Vec<Vec<Option<Formula>>>;
+
+/// Gives each formula its stratum, and finds what is wrong with how fields read one another.
+pub(crate) fn stratify(
+    alloc: Global,
+    models: &Models<'_>,
+    formulas: &mut Formulas,
+    first: &mut First,
+) -> Result<(), NoMemory>
+    requires { AreFormulas models.now formulas.old.items }
+    ensures faults { IfOk result
+        (λ _. Adds (IsStepFault models.now (IsChainWrong models.now)) first.old first.new) }
+    ensures formulas { IfOk result (λ _. AreFormulas models.now formulas.new.items) }
+    ensures strata { IfOk result (λ _. first.new ≡ None → HaveStrata models.now formulas.new.items) }
+{
+    let graph = Graph::new(alloc, models, formulas)?;
+    let heights = graph.heights(alloc, MAX_STRATUM + 1)?;
+    let has_wrong_self = self_readers(models, formulas, &graph, first)?;
+    let has_circle = circles(alloc, models, &graph, heights.as_slice(), first)?;
+    if has_wrong_self || has_circle {
+        return Ok(());
+    }
+    give_strata(models, formulas, &graph, heights.as_slice(), first)
+}
+
+/// Gives each formula its stratum, where no fields read one another in a circle.
+fn give_strata(
+    models: &Models<'_>,
+    formulas: &mut Formulas,
+    graph: &Graph,
+    heights: &[u16],
+    first: &mut First,
+) -> Result<(), NoMemory>
+    requires formulas { AreFormulas models.now formulas.old.items }
+    requires graph { IsGraph models.now graph.now }
+    requires heights { AreHeights graph.now.reads.items (suc max_stratum) heights.now }
+    ensures faults { IfOk result
+        (λ _. Adds (IsStepFault models.now (IsLongWrong models.now)) first.old first.new) }
+    ensures formulas { IfOk result (λ _. AreFormulas models.now formulas.new.items) }
+    ensures strata { IfOk result (λ _. first.new ≡ None → HaveStrata models.now formulas.new.items) }
+{
+    for (node, height) in heights.iter().enumerate() {
+        let step = graph.step(node);
+        let member = member_at(models, step);
+        if *height > MAX_STRATUM {
+            first.at_field(member.entry, member.def.name.as_str(), Some(Wrong::Limit))?;
+        }
+        set_stratum(formulas, step, *height);
+    }
+    Ok(())
+}
+
+/// Finds the fields that read one another in a circle; whether there are any. From each there
+/// are chains of every length.
+fn circles(
+    alloc: Global,
+    models: &Models<'_>,
+    graph: &Graph,
+    heights: &[u16],
+    first: &mut First,
+) -> Result<bool, NoMemory>
+    requires graph { IsGraph models.now graph.now }
+    requires heights { AreHeights graph.now.reads.items (suc max_stratum) heights.now }
+    ensures is { IfOk result (λ is. IsTrue is ↔ Any (IsOnCycle models.now) (all_steps models.now)) }
+    ensures faults { IfOk result
+        (λ _. Adds (IsStepFault models.now (IsCycleWrong models.now)) first.old first.new) }
+{
+    let mut has_circle = false;
+    for (node, height) in heights.iter().enumerate() {
+        if *height > MAX_STRATUM && graph.is_on_cycle(alloc, node)? {
+            has_circle = true;
+            note(models, graph, node, Wrong::Cycle, first)?;
+        }
+    }
+    Ok(has_circle)
+}
+
+/// Gives the formula of a field its stratum, if it has one.
+fn set_stratum(formulas: &mut Formulas, step: Step, stratum: u16)
+    requires { IsSome (formula_in formulas.old.items step) }
+    ensures there { formula_in formulas.new.items step
+        ≡ option_map (option_map (with_stratum stratum)) (formula_in formulas.old.items step) }
+    ensures others { (other : Step) → other ≢ step
+        → formula_in formulas.new.items other ≡ formula_in formulas.old.items other }
+    ensures count { length formulas.new.items ≡ length formulas.old.items }
+{
+    let of_model = &mut formulas[step.model.0 as usize - 1];
+    if let Some(formula) = &mut of_model[step.field.0 as usize - 1] {
+        formula.stratum = stratum;
+    }
+}
+
+/// Finds what is wrong with the field of a node.
+fn note(
+    models: &Models<'_>,
+    graph: &Graph,
+    node: usize,
+    wrong: Wrong,
+    first: &mut First,
+) -> Result<(), NoMemory>
+    requires graph { IsGraph models.now graph.now }
+    requires node { node < length graph.now.steps.items }
+    ensures { IfOk result (λ _. (at : Step) (g : Gathered) (m : Rattle.ob_definition.specs.Members.Member)
+        → slice_get graph.now.steps.items node ≡ Some at → IsMember models.now at g m
+        → Adds (λ why. why ≡ fault_at wrong (spot_of m)) first.old first.new) }
+{
+    let member = member_at(models, graph.step(node));
+    first.at_field(member.entry, member.def.name.as_str(), Some(wrong))
+}
+
+/// The field of a step.
+fn member_at<'m, 'a>(models: &'m Models<'a>, step: Step) -> &'m Member<'a>
+    requires { Contains (all_steps models.now) step }
+    ensures there { (g : Gathered) × IsMember models.now step g (member_of result.now) }
+    ensures single { (g : Gathered) (m : Rattle.ob_definition.specs.Members.Member)
+        → IsMember models.now step g m → m ≡ member_of result.now }
+{
+    models.model(step.model).member(step.field)
+}
+
+/// Finds what is wrong with fields that read themselves; whether one may not.
+fn self_readers(
+    models: &Models<'_>,
+    formulas: &Formulas,
+    graph: &Graph,
+    first: &mut First,
+) -> Result<bool, NoMemory>
+    requires formulas { AreFormulas models.now formulas.now.items }
+    requires graph { IsGraph models.now graph.now }
+    ensures is { IfOk result (λ is. IsTrue is
+        ↔ Any (λ at. Reads models.now at at × (IsRecursion models.now at → ⊥)) (all_steps models.now)) }
+    ensures faults { IfOk result
+        (λ _. Adds (IsStepFault models.now (IsSelfWrong models.now)) first.old first.new) }
+{
+    let mut has_cycle = false;
+    for node in 0..graph.len() {
+        let step = graph.step(node);
+        let member = member_at(models, step);
+        let wrong = wrong_itself(models, formulas, member, step);
+        has_cycle = has_cycle || is_cycle(&wrong);
+        first.at_field(member.entry, member.def.name.as_str(), wrong)?;
+    }
+    Ok(has_cycle)
+}
+
+/// Whether a circle is wrong.
+fn is_cycle(wrong: &Option<Wrong>) -> bool
+    ensures { IsTrue result ↔ (wrong.now ≡ Some Wrong.Cycle) }
+{
+    matches!(wrong, Some(Wrong::Cycle))
+}
+
+/// What is wrong with how a field reads itself, if it does.
+fn wrong_itself(
+    models: &Models<'_>,
+    formulas: &Formulas,
+    member: &Member<'_>,
+    own: Step,
+) -> Option<Wrong>
+    requires formulas { AreFormulas models.now formulas.now.items }
+    requires member { (g : Gathered) × IsMember models.now own g (member_of member.now) }
+    ensures { Tells (IsSelfWrong models.now own (member_of member.now)) result }
+{
+    one_tree();
+    match &formulas[own.model.0 as usize - 1][own.field.0 as usize - 1] {
+        Some(formula) => wrong_self(models, formula.depends.as_slice(), member, own),
+        None => None,
+    }
+}
+
+/// What is wrong with how a field reads itself by its paths, if it does: it does so in another
+/// way than along its tree, or doesn't say so.
+fn wrong_self(models: &Models<'_>, paths: &[Path], member: &Member<'_>, own: Step) -> Option<Wrong>
+    requires { IsSome (model_at models.now own.model.0) }
+    ensures { (g : Gathered) → IsMember models.now own g (member_of member.now)
+        → ((path : List Step) → IsPathOf models.now own path ↔ Contains (steps_in paths.now) path)
+        → Tells (IsSelfWrong models.now own (member_of member.now)) result }
+{
+    if !paths.iter().any(|path| path.ends_in(own)) {
+        return None;
+    }
+    if !reads_up(models, paths, own) && !reads_down(models, paths, own) {
+        return Some(Wrong::Cycle);
+    }
+    if is_set(member.def.recursive) {
+        None
+    } else {
+        Some(Wrong::Recursion)
+    }
+}
+
+/// Whether every path that leads to this field leads there by parents.
+fn reads_up(models: &Models<'_>, paths: &[Path], own: Step) -> bool
+    requires { IsSome (model_at models.now own.model.0) }
+    ensures { IsTrue result
+        ↔ LeadsToItselfBy (IsToParent models.now own.model) own (steps_in paths.now) }
+{
+    paths.iter().all(|path| !path.ends_in(own)
+        || leads_up(models, path.steps.as_slice(), own.model))
+}
+
+/// Whether every path that leads to this field leads there by children.
+fn reads_down(models: &Models<'_>, paths: &[Path], own: Step) -> bool
+    requires { IsSome (model_at models.now own.model.0) }
+    ensures { IsTrue result
+        ↔ LeadsToItselfBy (IsToChildren models.now own.model) own (steps_in paths.now) }
+{
+    paths.iter().all(|path| !path.ends_in(own)
+        || leads_down(models, path.steps.as_slice(), own.model))
+}
+
+/// Whether all steps of a path but the last lead from a row of the model to its parent, and
+/// there is one at least.
+fn leads_up(models: &Models<'_>, steps: &[Step], number: ModelNo) -> bool
+    requires { IsSome (model_at models.now number.0) }
+    ensures { IsTrue result ↔ GoesBy (IsToParent models.now number) steps.now }
+{
+    match steps {
+        [before @ .., _] => {
+            !before.is_empty() && before.iter().all(|step| is_parent(models, *step, number))
+        }
+        [] => false,
+    }
+}
+
+/// Whether all steps of a path but the last lead from a row of the model to its children, and
+/// there is one at least.
+fn leads_down(models: &Models<'_>, steps: &[Step], number: ModelNo) -> bool
+    requires { IsSome (model_at models.now number.0) }
+    ensures { IsTrue result ↔ GoesBy (IsToChildren models.now number) steps.now }
+{
+    match steps {
+        [before @ .., _] => {
+            !before.is_empty() && before.iter().all(|step| is_child(models, *step, number))
+        }
+        [] => false,
+    }
+}
+
+/// The field by which the rows of a model name their parents, if they do.
+fn parent_of(models: &Models<'_>, number: ModelNo) -> Option<FieldNo>
+    requires { IsSome (model_at models.now number.0) }
+    ensures { result ≡ parent_of models.now number }
+{
+    let model = models.model(number);
+    let gathered: &GatheredModel<'_> = model.gathered;
+    model.number(gathered.parent?)
+}
+
+/// Whether a step leads from a row of the model to its parent.
+fn is_parent(models: &Models<'_>, step: Step, number: ModelNo) -> bool
+    requires { IsSome (model_at models.now number.0) }
+    ensures { IsTrue result ↔ IsToParent models.now number step }
+{
+    step.model == number && parent_of(models, number) == Some(step.field)
+}
+
+/// Whether a step leads to the rows of the model whose parent field names the row.
+fn is_child(models: &Models<'_>, step: Step, number: ModelNo) -> bool
+    requires { IsSome (model_at models.now number.0) }
+    ensures { IsTrue result ↔ IsToChildren models.now number step }
+{
+    let Some(member) = models.find(step) else {
+        return false;
+    };
+    let Some(parent) = parent_of(models, number) else {
+        return false;
+    };
+    let def = member.def;
+    let inverse = match &def.inverse {
+        Some(name) => models.model(number).number(name.as_str()),
+        None => None,
+    };
+    def.field_type.is_one2many() && models.relation(def) == Some(number) && inverse == Some(parent)
+}
