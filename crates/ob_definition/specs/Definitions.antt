@@ -1,7 +1,6 @@
 -- What definitions declare, by name.
 use Rattle.std.specs.Prelude.{◌||◌, ℕ, List, [], ◌∷◌, codes, Bool, false, is_some, Option, Some, None}
 use Rattle.std.specs.List.{list_any}
-use Rattle.std.specs.Option.{option_map_or}
 use Rattle.std.specs.Str.{bytes_eq}
 use Rattle.ob_definition.specs.declared.definition.FieldDef.{FieldDef}
 use Rattle.ob_definition.specs.declared.definition.ModelDef.{ModelDef}
@@ -18,10 +17,6 @@ is_one_of names name = list_any (bytes_eq name) names
 -- a name that each model has
 abbrev pub is_automatic : List ℕ → Bool
 is_automatic name = is_one_of automatic_names name
-
--- whether an optional text is this one
-abbrev pub is_given_text : Option (List ℕ) → List ℕ → Bool
-is_given_text given text = option_map_or (λ own. bytes_eq own text) given false
 
 -- an expression or a path gives its value
 abbrev pub is_computed : FieldDef → Bool

@@ -1,8 +1,9 @@
 //! Why definitions make no registry. The order of the variants is that in which the
 //! faults of one spot are told: add a variant only where the documented order has it.
 
-ghost use Rattle.std.specs.Prelude.{◌≡◌};
+ghost use Rattle.std.specs.Prelude.{◌≡◌, IfSome, IsNone};
 ghost use Rattle.ob_definition.specs.declared.fault.SchemaFault.TheVariants.{NoMemory as no_memory};
+ghost use Rattle.ob_definition.specs.Ranking.{rank};
 
 use ob_base::{NoMemory, Word};
 use ob_syntax::ExprFault;
@@ -60,6 +61,30 @@ pub enum SchemaFault {
     /// An allocation failed.
     #[error("no memory")]
     NoMemory,
+}
+
+impl SchemaFault {
+    /// Where it is; want of memory is nowhere.
+    pub fn spot(&self) -> Option<&Spot>
+        ensures entry { IfSome result (λ spot. spot.now.entry ≡ (rank self.now).entry) }
+        ensures field { IfSome result (λ spot. spot.now.field ≡ (rank self.now).field) }
+        ensures none { IsNone result → self.now ≡ SchemaFault.NoMemory }
+    {
+        match self {
+            SchemaFault::Model(spot)
+            | SchemaFault::Field(spot)
+            | SchemaFault::Kind(spot)
+            | SchemaFault::Twice(spot)
+            | SchemaFault::Cycle(spot)
+            | SchemaFault::Recursion(spot)
+            | SchemaFault::Path(spot)
+            | SchemaFault::Inverse(spot)
+            | SchemaFault::Inherits(spot)
+            | SchemaFault::Limit(spot)
+            | SchemaFault::Text(spot, _) => Some(spot),
+            SchemaFault::NoMemory => None,
+        }
+    }
 }
 
 impl From<NoMemory> for SchemaFault {

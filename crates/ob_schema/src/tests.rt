@@ -3,7 +3,6 @@
 
 use crate::{
     Check, Delegation, FieldDef, FieldType, Inherits, ModelDef, OrderTerm, Origin, Schema,
-    SchemaFault, Spot,
 };
 use ob_base::{FieldNo, ModelNo, NoMemory, Sequence, Word};
 use std::alloc::Global;
@@ -85,30 +84,13 @@ fn line_model(alloc: Global, field: FieldDef) -> Result<ModelDef, NoMemory> {
     })
 }
 
-fn spot(fault: &SchemaFault) -> Option<&Spot> {
-    match fault {
-        SchemaFault::Model(spot)
-        | SchemaFault::Field(spot)
-        | SchemaFault::Kind(spot)
-        | SchemaFault::Twice(spot)
-        | SchemaFault::Cycle(spot)
-        | SchemaFault::Recursion(spot)
-        | SchemaFault::Path(spot)
-        | SchemaFault::Inverse(spot)
-        | SchemaFault::Inherits(spot)
-        | SchemaFault::Limit(spot)
-        | SchemaFault::Text(spot, _) => Some(spot),
-        SchemaFault::NoMemory => None,
-    }
-}
-
 /// The entry, the field and the text of the first fault, or `none`.
 fn told(alloc: Global, defs: &[ModelDef]) -> Result<String, Fail> {
     let fault = match Schema::build(alloc, defs) {
         Ok(_) => return Ok(String::from_str(alloc, "none")?),
         Err(fault) => fault,
     };
-    match spot(&fault) {
+    match fault.spot() {
         Some(spot) => Ok(format!(in alloc; "{}/{}: {fault}", spot.entry, spot.field.as_str())?),
         None => Ok(format!(in alloc; "{fault}")?),
     }

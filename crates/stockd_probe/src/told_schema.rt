@@ -34,23 +34,13 @@ pub(crate) fn built(alloc: Global, times: u32, line: &str) -> Result<String, NoM
 
 /// A fault, with its variant's words.
 fn told_fault(alloc: Global, fault: &SchemaFault) -> Result<String, NoMemory> {
+    let Some(spot) = fault.spot() else {
+        return Err(NoMemory);
+    };
     let mut text = format!(in alloc; "{fault}")?;
-    match fault {
-        SchemaFault::Model(spot)
-        | SchemaFault::Field(spot)
-        | SchemaFault::Kind(spot)
-        | SchemaFault::Twice(spot)
-        | SchemaFault::Cycle(spot)
-        | SchemaFault::Recursion(spot)
-        | SchemaFault::Path(spot)
-        | SchemaFault::Inverse(spot)
-        | SchemaFault::Inherits(spot)
-        | SchemaFault::Limit(spot) => put_spot(alloc, &mut text, spot)?,
-        SchemaFault::Text(spot, why) => {
-            put_spot(alloc, &mut text, spot)?;
-            write!(&mut text, ": {why}")?;
-        }
-        SchemaFault::NoMemory => return Err(NoMemory),
+    put_spot(alloc, &mut text, spot)?;
+    if let SchemaFault::Text(_, why) = fault {
+        write!(&mut text, ": {why}")?;
     }
     Ok(text)
 }
