@@ -7,6 +7,7 @@ pub mod Plan
 pub mod Faults
 pub mod Memory
 pub mod MemoryDoor
+pub mod MemoryFiles
 pub mod Host
 pub mod Slots
 pub mod Kept

@@ -5,14 +5,13 @@
 //!
 //! Rooms: `source`, `sink`, `files`, `door`, `clock` and `keeper` hold a trait each,
 //! and `store` the rows that a keeper keeps. The forms: `memory_source`, `memory_sink`,
-//! `memory_door` and `memory_clock` hold in memory what they give or take, Mem.. with
-//! failures at the calls that a `plan` names, Sure.. without; `closed` has files with
-//! nothing behind; `host_source`, `host_sink`, `host_door` and `host_clock` are the real
-//! ones. A form may be added; a trait changes for all.
+//! `memory_files`, `memory_door` and `memory_clock` hold in memory what they give or take,
+//! Mem.. with failures at the calls that a `plan` names, Sure.. without; `host_source`,
+//! `host_sink`, `host_files`, `host_door` and `host_clock` are the real ones. A form may be
+//! added; a trait changes for all.
 #![tactic(auto)]
 
 mod clock;
-mod closed;
 mod door;
 #[cfg(test)]
 mod door_tests;
@@ -20,6 +19,7 @@ mod fault;
 mod files;
 mod host_clock;
 mod host_door;
+mod host_files;
 mod host_sink;
 mod host_source;
 mod keeper;
@@ -27,6 +27,7 @@ mod keeper;
 mod keeper_tests;
 mod memory_clock;
 mod memory_door;
+mod memory_files;
 mod memory_keeper;
 mod memory_sink;
 mod memory_source;
@@ -41,17 +42,18 @@ mod sure_keeper;
 mod tests;
 
 pub use clock::Clock;
-pub use closed::SureFiles;
 pub use door::Door;
 pub use fault::Failed;
 pub use files::{FileFault, Files};
 pub use host_clock::HostClock;
 pub use host_door::TcpDoor;
+pub use host_files::DiskFiles;
 pub use host_sink::StdSink;
 pub use host_source::StdSource;
 pub use keeper::{KeepFault, Keeper};
 pub use memory_clock::MemClock;
 pub use memory_door::{MemDoor, SureDoor};
+pub use memory_files::{MemFiles, SureFiles};
 pub use memory_keeper::MemKeeper;
 pub use memory_sink::{MemSink, SureSink};
 pub use memory_source::{MemSource, SureSource};

@@ -4,17 +4,18 @@
 ghost use Rattle.std.specs.Prelude.{IsSome};
 
 use crate::{
-    Clock, Door, Failed, FileFault, Files, HostClock, Keeper, MemClock, MemKeeper, MemSink,
-    MemSource, Sink, Source, StdSink, StdSource, SureDoor, SureFiles, SureKeeper, SureSink,
-    SureSource,
+    Clock, DiskFiles, Door, Failed, FileFault, Files, HostClock, Keeper, MemClock, MemFiles,
+    MemKeeper, MemSink, MemSource, Sink, Source, StdSink, StdSource, SureDoor, SureFiles,
+    SureKeeper, SureSink, SureSource,
 };
-use ob_base::limits::{MAX_MOMENT, MIN_MOMENT};
-use std::alloc::Allocator;
+use ob_base::limits::{MAX_MODULE_BYTES, MAX_MOMENT, MIN_MOMENT};
+use ob_base::{NoMemory, Word};
+use std::alloc::{Allocator, Global};
 use std::fmt::Display;
 use std::io::{BufRead, Input, Lines};
 use std::test::Fail;
 use std::time::Duration;
-use std::{io, rt as host};
+use std::{fs, io, rt as host};
 
 /// Takes a source that tells its bytes.
 fn source_tells<S: Source>(source: &S)
@@ -44,6 +45,13 @@ fn keeper_tells<K: Keeper>(keeper: &K)
     let _ = keeper;
 }
 
+/// Takes files that tell their texts.
+fn files_tell<F: Files>(files: &F)
+    requires { IsSome (F.texts files.now) }
+{
+    let _ = files;
+}
+
 /// Takes a door that tells all of its connections.
 fn door_tells<D: Door>(door: &D)
     requires coming { IsSome (D.coming door.now) }
@@ -64,6 +72,8 @@ fn forms_in_memory_tell(rt: HostRuntime) -> Result<(), Fail> {
     clock_tells(&MemClock::new(0, 1)?);
     keeper_tells(&SureKeeper::new(alloc, Vec::new(alloc), Vec::new(alloc))?);
     keeper_tells(&MemKeeper::new(alloc, Vec::new(alloc), Vec::new(alloc), Vec::new(alloc))?);
+    files_tell(&SureFiles::new(alloc, Vec::new(alloc))?);
+    files_tell(&MemFiles::new(alloc, Vec::new(alloc), Vec::new(alloc))?);
     door_tells(&SureDoor::new(alloc, Vec::new(alloc), 1, 0)?);
     Ok(())
 }
@@ -159,13 +169,58 @@ fn mem_clock_stays_in_its_years(rt: HostRuntime) -> Result<(), Fail> {
     Ok(())
 }
 
+/// How many bytes the file of a name has.
+fn read_of<F: Files>(files: &mut F, name: &str) -> Result<usize, FileFault> {
+    Ok(files.read_file(name)?.len())
+}
+
+/// A text of this name with so many bytes.
+fn text_of(alloc: Global, name: &str, len: usize) -> Result<(Word, Vec<u8>), NoMemory> {
+    let mut bytes = Vec::new(alloc);
+    for _ in 0..len {
+        bytes.push(35)?;
+    }
+    Ok((Word::from_text(alloc, name)?, bytes))
+}
+
+#[test]
+fn files_tell_absent_and_too_long(rt: HostRuntime) -> Result<(), Fail> {
+    let alloc = rt.alloc();
+    let mut pairs = Vec::new(alloc);
+    for (name, len) in [
+        ("a", 3),
+        ("a", 4),
+        ("most", MAX_MODULE_BYTES),
+        ("more", MAX_MODULE_BYTES + 1),
+    ] {
+        pairs.push(text_of(alloc, name, len)?)?;
+    }
+    let mut files = MemFiles::new(alloc, pairs, vec![in alloc; 2, 9]?)?;
+    assert_eq!(rt; read_of(&mut files, "a"), Ok(3));
+    assert_eq!(rt; read_of(&mut files, "a"), Err(FileFault::Failed));
+    assert_eq!(rt; read_of(&mut files, "b"), Err(FileFault::Absent));
+    assert_eq!(rt; read_of(&mut files, "most"), Ok(MAX_MODULE_BYTES));
+    assert_eq!(rt; read_of(&mut files, "more"), Err(FileFault::TooLong));
+    Ok(())
+}
+
+#[test]
+fn files_of_the_host(rt: HostRuntime) -> Result<(), Fail> {
+    fs::write(&rt, "three", "abc")?;
+    let long = text_of(rt.alloc(), "long", MAX_MODULE_BYTES + 1)?;
+    fs::write(&rt, "long", long.1.as_slice())?;
+    let mut files = DiskFiles::new(rt.alloc(), &rt)?;
+    assert_eq!(rt; read_of(&mut files, "three"), Ok(3));
+    assert_eq!(rt; read_of(&mut files, "long"), Err(FileFault::TooLong));
+    assert_eq!(rt; read_of(&mut files, "four"), Err(FileFault::Absent));
+    assert_eq!(rt; read_of(&mut files, "three/four"), Err(FileFault::Failed));
+    Ok(())
+}
+
 #[test]
 fn closed_ones_hold_nothing(rt: HostRuntime) -> Result<(), Fail> {
-    let mut files = SureFiles::new(rt.alloc())?;
-    match files.read_file("main") {
-        Ok(_) => assert!(rt; false),
-        Err(fault) => assert_eq!(rt; fault, FileFault::Absent),
-    }
+    let mut files = SureFiles::new(rt.alloc(), Vec::new(rt.alloc()))?;
+    assert_eq!(rt; read_of(&mut files, "main"), Err(FileFault::Absent));
     let mut door = SureDoor::new(rt.alloc(), Vec::new(rt.alloc()), 1, 0)?;
     let mut room = [9; 2];
     assert_eq!(rt; door.next(), Ok(false));

@@ -50,7 +50,7 @@ fn run_words<R: AllocGlobal + Input + Print + Clock>(
     ensures call { IfOk result (λ status. status ≡ 2 → IsCall words.now → ⊥) }
 {
     let alloc = rt.alloc();
-    let mut files = SureFiles::new(alloc)?;
+    let mut files = SureFiles::new(alloc, Vec::new(alloc))?;
     let mut keeper = SureKeeper::new(alloc, Vec::new(alloc), Vec::new(alloc))?;
     let mut input = StdSource::new(rt)?;
     let mut output = StdSink::new(rt)?;

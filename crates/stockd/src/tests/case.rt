@@ -235,7 +235,7 @@ impl<'a> Case<'a> {
         let ended = run(
             alloc,
             words.as_slice(),
-            &mut SureFiles::new(alloc).ok()?,
+            &mut SureFiles::new(alloc, Vec::new(alloc)).ok()?,
             &mut self.keeper,
             &mut source,
             &mut sink,
