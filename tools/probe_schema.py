@@ -147,9 +147,55 @@ def told_model(builder, model):
     return " | ".join([" ".join(words), *(told_field(builder, field) for field in model.all_fields())])
 
 
+class Judge(schema._Builder):
+    """The machine's judge, where docs/DECISIONS.md reads the rules otherwise than it does: a field's
+    paths are judged whatever its expression is, and a stratum is told of a field that meets no circle."""
+
+    def expression(self, m, f):
+        super().expression(m, f)
+        if f.tree is None and f.kind != "hidden":
+            f.paths = [path for path in (self.path(m, f, text) for text in declared(f)) if path is not None]
+            if any(len(path) > schema.PATH_STEPS_MAX for path in f.paths):
+                self.fault(f.entry, f.name, "Limit")
+
+    def strata(self):
+        super().strata()
+        circled = [f for f in self.edges if self.on_cycle(f)]
+        for f in self.edges:
+            if not any(self.meets(f, g) for g in circled) and self.stratum(f, {}) > schema.STRATUM_MAX:
+                self.fault(f.entry, f.name, "Limit")
+
+    def meets(self, f, g):
+        """Whether a field is another, or reads it in turn."""
+        seen, todo = set(), [f]
+        while todo:
+            h = todo.pop()
+            if h is g:
+                return True
+            if h not in seen:
+                seen.add(h)
+                todo += list(self.edges.get(h, ()))
+        return False
+
+
+def declared(field):
+    """The texts of the paths that a field declares: of a related field the one that its text spells."""
+    keys = field.definition
+    if keys.related is None:
+        return keys.depends or []
+    text = keys.compute if keys.compute is not None else keys.related
+    if schema.size(text) > schema.EXPR_BYTES_MAX:
+        return []
+    try:
+        tree = expr.parse(text)
+    except expr.ExprFault:
+        return []
+    return [keys.related.strip(" \t\n")] if tree.op == "path" else []
+
+
 def answer(entries):
     """The registry that definitions make, or their first fault."""
-    builder = schema._Builder(entries, STAGE)
+    builder = Judge(entries, STAGE)
     try:
         made = builder.build()
     except SchemaFault as fault:

@@ -26,9 +26,11 @@ element_at [] k lt = absurd (omega arith)
 element_at (x ∷ xs) zero lt = (x, refl)
 element_at (x ∷ xs) (suc k) lt = element_at xs k (omega arith)
 
+-- the place of what is there
 pub place_of : {X : Type 0} (xs : List X) (x : X) → Contains xs x → (k : ℕ) × (slice_get xs k ≡ Some x)
 place_of xs x (k, lt, is) = (k, slice_get-get_or xs k x lt ∙ ap (λ y. Some y) is)
 
+-- what stands at a place is there
 pub contains_at : {X : Type 0} (xs : List X) (k : ℕ) (x : X) → slice_get xs k ≡ Some x → Contains xs x
 contains_at xs k x is = (k, slice_get_within xs k x is, get_or_from_slice_get xs k x x is)
 
@@ -38,6 +40,7 @@ contains_at xs k x is = (k, slice_get_within xs k x is, get_or_from_slice_get xs
 abbrev at : ℕ → ℕ → Step
 at number field = step_at (record { 0 = number }) (record { 0 = field })
 
+-- a step up to a number is through one of those fields
 upto-is : (number k : ℕ) (step : Step) → Contains (steps_upto number k) step → (step.model.0 ≡ number) × (0 < step.field.0) × (step.field.0 ≤ k)
 upto-is number zero step (j, lt, is) = absurd (omega (arith, lt))
 upto-is number (suc k) step among = elim (Contains-push_cases (steps_upto number k) (at number (suc k)) step among) [
@@ -45,6 +48,7 @@ upto-is number (suc k) step among = elim (Contains-push_cases (steps_upto number
   | inr is ↦ subst (λ (s : Step). (s.model.0 ≡ number) × (0 < s.field.0) × (s.field.0 ≤ suc k)) is (refl, omega arith, omega arith)
 ]
 
+-- and each of them is there
 upto-has : (number k field : ℕ) → 0 < field → field ≤ k → Contains (steps_upto number k) (at number field)
 upto-has number zero field low high = absurd (omega arith)
 upto-has number (suc k) field low high = elim (cases_lt field (suc k)) [
@@ -57,6 +61,7 @@ module _ (models : List Gathered) where
   abbrev pub field_count : Gathered → ℕ
   field_count g = length (members_of models g) + length (hidden_members g)
 
+  -- a step of models is of one of them
   from-is : (number : ℕ) (list : List Gathered) (step : Step) → Contains (steps_from models number list) step
       → (g : Gathered) × (number ≤ step.model.0) × (slice_get list (step.model.0 - number) ≡ Some g) × (0 < step.field.0) × (step.field.0 ≤ field_count g)
   from-is number [] step (j, lt, is) = absurd (omega (arith, lt))
@@ -71,6 +76,7 @@ module _ (models : List Gathered) where
         (w.0, omega (arith, w.1), subst (λ (n : ℕ). slice_get (g ∷ more) n ≡ Some w.0) less w.2, w.3, w.4))
   ]
 
+  -- and each of their fields is there
   from-has : (number : ℕ) (list : List Gathered) (i : ℕ) (g : Gathered) → slice_get list i ≡ Some g → (field : ℕ) → 0 < field → field ≤ field_count g
       → Contains (steps_from models number list) (at (number + i) field)
   from-has number [] i g is field low high = absurd (none-some g is)
@@ -82,6 +88,7 @@ module _ (models : List Gathered) where
       subst (λ (n : ℕ). Contains (steps_from models number (h ∷ more)) (at n field)) (let same : suc number + i ≡ number + suc i = omega arith in same)
       (Contains-append_right (steps_upto number (field_count h)) (steps_from models (suc number) more) (at (suc number + i) field) (from-has (suc number) more i g is field low high))
 
+  -- a model by its place is the one of that number
   model-less : (number : ℕ) (g : Gathered) → 1 ≤ number → slice_get models (number - 1) ≡ Some g → model_at models number ≡ Some g
   model-less zero g low is = absurd (omega arith)
   model-less (suc i) g low is = subst (λ (n : ℕ). slice_get models n ≡ Some g) (let less : suc i - 1 ≡ i = omega arith in less) is
@@ -90,6 +97,7 @@ module _ (models : List Gathered) where
   pub step-there : (step : Step) → Contains (all_steps models) step → (g : Gathered) × (model_at models step.model.0 ≡ Some g) × (0 < step.field.0) × (step.field.0 ≤ field_count g)
   step-there step among = let w = from-is 1 models step among in (w.0, model-less step.model.0 w.0 w.1 w.2, w.3, w.4)
 
+  -- and each number of a model is a step
   step-has : (number field : ℕ) (g : Gathered) → model_at models number ≡ Some g → 0 < field → field ≤ field_count g → Contains (all_steps models) (at number field)
   step-has zero field g is low high = absurd (none-some g is)
   step-has (suc i) field g is low high =
@@ -104,14 +112,17 @@ below-fewer members m among =
     (ap is_lt (tied_itself nat_list_cmp_total m.def.name)) in
     omega (arith, length-map members (λ (x : Member). x.def.name))
 
+-- names below another are as many at most
 below-most : (members : List Member) (name : List ℕ) → count_below (names_of members) name ≤ length members
 below-most members name = let most = count-most (λ other. is_lt (slice_cmp nat_cmp other name)) (names_of members) in omega (arith, length-map members (λ (x : Member). x.def.name))
 
 module _ (models : List Gathered) (g : Gathered) (m : Member) where
+  -- the number of a named field is one of its model
   named-low : Contains (members_of models g) m → (0 < (number_of models g m.def.name).0) × ((number_of models g m.def.name).0 ≤ field_count models g)
   unfolding number_of
   named-low among = let fewer = below-fewer (members_of models g) m among in (omega arith, omega arith)
 
+  -- and so is that of a hidden field
   hidden-low : Contains (hidden_members g) m → (0 < (hidden_number models g m.def.name).0) × ((hidden_number models g m.def.name).0 ≤ field_count models g)
   unfolding hidden_number
   hidden-low among = by (is_some (named (check_members g) m.def.name)) refl (Contains-append_cases (check_members g) (locked_members g g.locked) m among)

@@ -10,12 +10,12 @@ use Rattle.ob_definition.specs.Gathered.{AreWellNamed, Gathered, gathered}
 use Rattle.ob_definition.proofs.Adding.{Adds-both, Adds-same}
 use Rattle.ob_schema.specs.Faults.{IsFaulty, IsFieldFault, IsModelFault}
 use Rattle.ob_schema.specs.Graphs.{IsChainWrong, IsStepFault}
-use Rattle.ob_schema.specs.Resolving.{AreModelFaults, AreSingle}
+use Rattle.ob_schema.specs.Resolving.{AreModelFaults}
 use Rattle.ob_schema.specs.Telling.{AreFormulaFaults, AreKeyFaults}
 use Rattle.ob_schema.proofs.FieldVerdict.{formulas_faulty, formulas_told, keys_told, members_faulty, steps_faulty, steps_told}
 use Rattle.ob_schema.proofs.KeyVerdict.{count_told, field_told, key_faulty, kind_told}
 use Rattle.ob_schema.proofs.MadeVerdict.{made_faulty, no_parent_made, not_inherited_made, path_made, taken_made}
-use Rattle.ob_schema.proofs.SingleFields.{single}
+use Rattle.ob_schema.proofs.SingleFields.{AreSingle, single}
 
 module _ (defs : List ModelDef) (named : AreWellNamed (gathered defs)) where
   abbrev models : List Gathered
@@ -74,7 +74,7 @@ module _ (defs : List ModelDef) (named : AreWellNamed (gathered defs)) where
     | inl text ↦ by_formula (fault.Limit spot) (formulas_told defs spot _ is wrong.Limit (inl text))
     | inr rest ↦ elim rest as (λ _. AreModelFaults models (fault.Limit spot)) [
       | inl path ↦ by_formula (fault.Limit spot) (formulas_told defs spot _ is wrong.Limit (inr path))
-      | inr chain ↦ by_step (fault.Limit spot) (steps_told defs spot _ is chain.0 chain.1 wrong.Limit (chain.2, chain.3))
+      | inr chain ↦ by_step (fault.Limit spot) (steps_told defs spot _ is chain.0 chain.1 wrong.Limit chain.2)
     ]
   ]
   at_field_told (fault.Text spot why) is = by_formula (fault.Text spot why) (formulas_told defs spot _ is (wrong.Text why) is.holds)

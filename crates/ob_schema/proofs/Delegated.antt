@@ -9,7 +9,8 @@ use Rattle.std.proofs.lemmas.List.Elements.{All-append, All-cons, All-contains, 
 use Rattle.ob_definition.specs.declared.definition.Inherits.{Inherits}
 use Rattle.ob_definition.specs.Definitions.{is_automatic, is_one_of}
 use Rattle.ob_definition.specs.Gathered.{Declared, Gathered, is_declared, model_of}
-use Rattle.ob_definition.specs.Members.{Member, own, delegated, hidden, automatic_defs, check_member, check_members, delegated_by, delegated_member, delegated_through, given_members, hidden_members, is_link, is_own_computed, link_def, links_from, links_of, locked_members, may_inherit, names_of, with_link, members_of, own_member, own_members, path_def, path_members, path_name}
+use Rattle.ob_definition.specs.Members.{Member, own, delegated, hidden, automatic_defs, check_member, check_members, delegated_by, delegated_member, delegated_through, given_members, hidden_members, is_link}
+use Rattle.ob_definition.specs.Members.{is_own_computed, link_def, links_from, links_of, locked_members, may_inherit, names_of, with_link, members_of, own_member, own_members, path_def, path_members, path_name}
 use Rattle.ob_schema.proofs.LookUps.{contains-mapped}
 
 -- a field is a parent's own one, and no automatic one

@@ -19,12 +19,12 @@ use Rattle.ob_schema.specs.Chains.{HasChain, ReachesOver}
 use Rattle.ob_schema.specs.Faults.{AtField, IsFieldAt, IsFieldFault}
 use Rattle.ob_schema.specs.Formulas.{Place}
 use Rattle.ob_schema.specs.Graphs.{IsChainWrong, IsStepFault}
-use Rattle.ob_schema.specs.Resolving.{AreSingle}
 use Rattle.ob_schema.specs.Strata.{IsCircle, IsMember, Reads, ReadsAnother}
 use Rattle.ob_schema.specs.Telling.{AreFormulaFaults, AreKeyFaults, AreKeysWrong, AreMemberFaults, IsFieldKeyFault, IsFormulaFault, IsFormulaWrong, spot_of}
 use Rattle.ob_schema.proofs.KeyRooms.{delegated_all}
 use Rattle.ob_schema.proofs.ModelRank.{any_there, spot_is, there_any}
 use Rattle.ob_schema.proofs.NamedFields.{member_parts}
+use Rattle.ob_schema.proofs.SingleFields.{AreSingle}
 
 -- a field whose own expression gives its value isn't delegated
 own_kept : (m : Member) → is_own_computed m ≡ true → is_delegated m.role ≡ false
@@ -33,12 +33,12 @@ own_kept m computed = not-true (is_delegated m.role) (and_parts (not (is_delegat
 -- only such a field has a wrong expression
 formula_computed : (p : Place) (w : Wrong) → IsFormulaWrong p w → is_own_computed p.member ≡ true
 formula_computed p wrong.Field (inl unknown) = unknown.2
-formula_computed p wrong.Field (inr path) = path.2.computed
+formula_computed p wrong.Field (inr path) = path.0
 formula_computed p wrong.Kind kind = kind.2
 formula_computed p wrong.Path (inl uncovered) = uncovered.2.computed
-formula_computed p wrong.Path (inr path) = path.2.computed
+formula_computed p wrong.Path (inr path) = path.0
 formula_computed p wrong.Limit (inl long) = long.0
-formula_computed p wrong.Limit (inr long) = long.2.computed
+formula_computed p wrong.Limit (inr long) = long.1.0
 formula_computed p (wrong.Text why) text = text.0
 formula_computed p _ is = absurd is
 
@@ -54,7 +54,7 @@ module _ (models : List Gathered) where
   reads_own : AreSingle models → (at b : Step) (g : Gathered) (m : Member) → IsMember models at g m → Reads models at b → is_own_computed m ≡ true
   reads_own single at b g m is reads =
       let path = reads.1.1 in
-      subst (λ (x : Member). is_own_computed x ≡ true) (single at path.model g path.member m path.is_member is) path.formula.computed
+      subst (λ (x : Member). is_own_computed x ≡ true) (single at path.model g path.member m path.is_member is) path.depends.0
 
   cycle_reads : (n : ℕ) (at c : Step) → ReachesOver (ReadsAnother models) n at c → (b : Step) × Reads models at b
   cycle_reads zero at c follows = (c, follows.0)
@@ -110,7 +110,7 @@ module _ (defs : List ModelDef) where
     chain_wrong : (at : Step) → IsFieldAt (place number m) g at → (w : Wrong) → IsChainWrong models at m w → IsFieldFault defs (fault_at w (spot_of m))
     chain_wrong at here wrong.Cycle is = at_spot _ (at, here, is)
     chain_wrong at here wrong.Recursion is = at_spot _ (at, here, is.0, is.1, is.2)
-    chain_wrong at here wrong.Limit is = at_spot _ (inr (inr (at, here, is.0, is.1)))
+    chain_wrong at here wrong.Limit is = at_spot _ (inr (inr (at, here, is)))
     chain_wrong at here _ is = absurd is
 
   pub members_faulty : (number : ModelNo) (g : Gathered) → model_at models number.0 ≡ Some g → (why : SchemaFault) → AreMemberFaults models number g why → IsFieldFault defs why

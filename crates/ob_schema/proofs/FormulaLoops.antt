@@ -13,7 +13,7 @@ use Rattle.ob_definition.specs.Gathered.{Gathered}
 use Rattle.ob_definition.specs.Members.{Member, hidden_members, members_of, model_at}
 use Rattle.ob_definition.proofs.Adding.{Adds-both, Adds-none, Adds-same}
 use Rattle.ob_definition.proofs.Copies.{next_front, zip_length}
-use Rattle.ob_schema.specs.declared.info.Formula.{Formula}
+use Rattle.ob_schema.specs.declared.formulas.DraftFormula.{DraftFormula}
 use Rattle.ob_schema.specs.declared.info.Step.{Step}
 use Rattle.ob_schema.specs.declared.model.Member.{Member as KeptMember}
 use Rattle.ob_schema.specs.declared.model.Model.{Model}
@@ -72,25 +72,25 @@ kept_at members (suc i) m e = by (slice_get members i) refl (sym (slice_get-map 
     by (Some k) is f = let same : ◌≡◌ {A = Option Member} (Some (member_of k)) (Some m) = f in (i, refl, k, is, (let s : member_of k ≡ m = cc in s))
 
 module _ (models : List Gathered) where
-  formula_at : (number : ModelNo) (members : List KeptMember) (own : List (Option Formula)) (n : ℕ) (m : Member)
+  formula_at : (number : ModelNo) (members : List KeptMember) (own : List (Option DraftFormula)) (n : ℕ) (m : Member)
       → AllZip (λ k formula. IsFormulaOf (record { models = models; number = number; member = member_of k }) formula) members own → numbered (members_in members) n ≡ Some m
-      → (formula : Option Formula) × (numbered own n ≡ Some formula) × IsFormulaOf (record { models = models; number = number; member = m }) formula
+      → (formula : Option DraftFormula) × (numbered own n ≡ Some formula) × IsFormulaOf (record { models = models; number = number; member = m }) formula
   formula_at number members own n m zip e =
       let k = kept_at members n m e in
       let f = formula_of_place (λ k formula. IsFormulaOf (record { models = models; number = number; member = member_of k }) formula) members own zip k.0 k.2 k.3 in
       (f.0, ap (numbered own) k.1 ∙ f.1, subst (λ (x : Member). IsFormulaOf (record { models = models; number = number; member = x }) f.0) k.4 f.2)
 
   -- a formula's place is a field's
-  field_of : (g : Gathered) (model : Model) → IsModelled models g model → (step : Step) (own : List (Option Formula)) (found : Option Formula)
+  field_of : (g : Gathered) (model : Model) → IsModelled models g model → (step : Step) (own : List (Option DraftFormula)) (found : Option DraftFormula)
       → AllZip (λ k formula. IsFormulaOf (record { models = models; number = step.model; member = member_of k }) formula) model.members.items own → model_at models step.model.0 ≡ Some g → numbered own step.field.0 ≡ Some found
       → Contains (all_steps models) step
   field_of g model is step own found zip there e =
       let w = kept_of model.members.items own step.field.0 found zip e in
       member-step models step g w.0 (is_member_at models g model is step w.0 there w.1)
     where
-      kept_of : (members : List KeptMember) (own : List (Option Formula)) (n : ℕ) (found : Option Formula)
+      kept_of : (members : List KeptMember) (own : List (Option DraftFormula)) (n : ℕ) (found : Option DraftFormula)
           → AllZip (λ k formula. IsFormulaOf (record { models = models; number = step.model; member = member_of k }) formula) members own → numbered own n ≡ Some found → (m : Member) × (numbered (members_in members) n ≡ Some m)
-      kept_of members own zero found zip e = absurd (let b : ◌≡◌ {A = Option (Option Formula)} None (Some found) = e in cc)
+      kept_of members own zero found zip e = absurd (let b : ◌≡◌ {A = Option (Option DraftFormula)} None (Some found) = e in cc)
       kept_of members own (suc i) found zip e =
           let k = value_of (slice_get members i) (λ k. IsFormulaOf (record { models = models; number = step.model; member = member_of k }) found)
           (zip_some (λ k formula. IsFormulaOf (record { models = models; number = step.model; member = member_of k }) formula) members own zip i found e) in
@@ -133,28 +133,28 @@ module _ (models : List Gathered) where
       Adds-same (AreBelow n) (AreFormulaFaults models) a b (λ why f. (f.0, f.1, f.3, f.4)) (λ why f. let w = at_place models f.0.0 f.1 f.2 in (f.0, f.1, omega (arith, w.1, w.3, enough), f.2, f.3)) adds
 
   -- the formulas of the first so many models
-  abbrev pub AreUpto : ℕ → List (Vec (Option Formula) Global) → Type 0
+  abbrev pub AreUpto : ℕ → List (Vec (Option DraftFormula) Global) → Type 0
   AreUpto n formulas =
-      (length formulas ≡ n) × ((i : ℕ) (own : Vec (Option Formula) Global) → slice_get formulas i ≡ Some own → IsSomeAnd (slice_get models i) (λ g. AreModelFormulas models (record { 0 = suc i }) g own.items))
+      (length formulas ≡ n) × ((i : ℕ) (own : Vec (Option DraftFormula) Global) → slice_get formulas i ≡ Some own → IsSomeAnd (slice_get models i) (λ g. AreModelFormulas models (record { 0 = suc i }) g own.items))
 
   pub formulas_none : AreUpto 0 []
-  formulas_none = (refl, λ i own e. absurd (let b : ◌≡◌ {A = Option (Vec (Option Formula) Global)} None (Some own) = e in cc))
+  formulas_none = (refl, λ i own e. absurd (let b : ◌≡◌ {A = Option (Vec (Option DraftFormula) Global)} None (Some own) = e in cc))
 
-  pub formulas_more : (n k : ℕ) (formulas : List (Vec (Option Formula) Global)) (own : Vec (Option Formula) Global) → k ≡ n + 1 → AreUpto n formulas
+  pub formulas_more : (n k : ℕ) (formulas : List (Vec (Option DraftFormula) Global)) (own : Vec (Option DraftFormula) Global) → k ≡ n + 1 → AreUpto n formulas
       → IsSomeAnd (model_at models k) (λ g. AreModelFormulas models (record { 0 = k }) g own.items) → AreUpto (n + 1) (formulas ++ own ∷ [])
   formulas_more n k formulas own is upto now = (omega (arith, upto.0, length-append formulas (own ∷ [])), each)
     where
-      each : (i : ℕ) (o : Vec (Option Formula) Global) → slice_get (formulas ++ own ∷ []) i ≡ Some o → IsSomeAnd (slice_get models i) (λ g. AreModelFormulas models (record { 0 = suc i }) g o.items)
+      each : (i : ℕ) (o : Vec (Option DraftFormula) Global) → slice_get (formulas ++ own ∷ []) i ≡ Some o → IsSomeAnd (slice_get models i) (λ g. AreModelFormulas models (record { 0 = suc i }) g o.items)
       each i o e = elim (pushed formulas own i o e) [
         | inl before ↦ upto.1 i o before
         | inr last ↦
             (let this : k ≡ suc i = omega (arith, last.0, upto.0) in
-            subst (λ (v : Vec (Option Formula) Global). IsSomeAnd (slice_get models i) (λ g. AreModelFormulas models (record { 0 = suc i }) g v.items)) last.1
+            subst (λ (v : Vec (Option DraftFormula) Global). IsSomeAnd (slice_get models i) (λ g. AreModelFormulas models (record { 0 = suc i }) g v.items)) last.1
             (subst (λ (j : ℕ). IsSomeAnd (model_at models j) (λ g. AreModelFormulas models (record { 0 = j }) g own.items)) this now))
       ]
 
-  module _ (formulas : List (Vec (Option Formula) Global)) (upto : AreUpto (length models) formulas) where
-    abbrev own_field : Step → Vec (Option Formula) Global → Option (Option Formula)
+  module _ (formulas : List (Vec (Option DraftFormula) Global)) (upto : AreUpto (length models) formulas) where
+    abbrev own_field : Step → Vec (Option DraftFormula) Global → Option (Option DraftFormula)
     own_field step own = numbered own.items step.field.0
 
     -- the field of a step has its formula there
@@ -171,11 +171,11 @@ module _ (models : List Gathered) where
         (ap (λ (n : ℕ). option_and_then (own_field step) (numbered formulas n)) at.1 ∙ ap (option_and_then (own_field step)) own.1 ∙ field.1) field.2
 
     -- and nothing else is there
-    formula_place : (n : ℕ) (own : Vec (Option Formula) Global) → numbered formulas n ≡ Some own → (g : Gathered) × (model_at models n ≡ Some g) × AreModelFormulas models (record { 0 = n }) g own.items
-    formula_place zero own e = absurd (let b : ◌≡◌ {A = Option (Vec (Option Formula) Global)} None (Some own) = e in cc)
+    formula_place : (n : ℕ) (own : Vec (Option DraftFormula) Global) → numbered formulas n ≡ Some own → (g : Gathered) × (model_at models n ≡ Some g) × AreModelFormulas models (record { 0 = n }) g own.items
+    formula_place zero own e = absurd (let b : ◌≡◌ {A = Option (Vec (Option DraftFormula) Global)} None (Some own) = e in cc)
     formula_place (suc i) own e = value_of (slice_get models i) (λ g. AreModelFormulas models (record { 0 = suc i }) g own.items) (upto.1 i own e)
 
-    only_there : (step : Step) (found : Option Formula) → formula_in formulas step ≡ Some found → Contains (all_steps models) step
+    only_there : (step : Step) (found : Option DraftFormula) → formula_in formulas step ≡ Some found → Contains (all_steps models) step
     only_there step found e =
         option_and_then_some (own_field step) (numbered formulas step.model.0) found e
         (λ own at field. let w = formula_place step.model.0 own at in field_of w.0 w.2.0 w.2.1 step own.items found w.2.2 w.1 field)
@@ -196,7 +196,7 @@ module _ (models : List Gathered) (number : ModelNo) (model : Model) (modelled :
   known = value_of (model_at models number.0) (λ g. IsModelled models g model) modelled
 
   -- the formulas of a model are those of its fields
-  pub model_made : (own : List (Option Formula)) → AllZip (λ m formula. IsFormulaOf (record { models = models; number = number; member = member_of m }) formula) model.members.items own
+  pub model_made : (own : List (Option DraftFormula)) → AllZip (λ m formula. IsFormulaOf (record { models = models; number = number; member = member_of m }) formula) model.members.items own
       → IsSomeAnd (model_at models number.0) (λ g. AreModelFormulas models number g own)
   model_made own zip = known_by (model_at models number.0) (λ g. AreModelFormulas models number g own) known.0 known.1 (model, known.2, zip)
 

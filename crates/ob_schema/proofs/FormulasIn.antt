@@ -1,5 +1,5 @@
 -- The formula of a computed field is one of the registry, where nothing stands against the models.
-use Rattle.std.proofs.Common.{◌≡◌, ◌⊎◌, ◌≤◌, ◌<◌, ◌&&◌, Bool, true, false, cond, not, eqb, is_none, Option, Some, None, List, [], ◌∷◌, ◌++◌, length, map, inl, inr, refl, sym, ap, subst, ◌∙◌, arith}
+use Rattle.std.proofs.Common.{◌≡◌, ◌⊎◌, ◌≤◌, ◌&&◌, Bool, true, false, cond, not, eqb, is_none, Option, Some, None, List, [], ◌∷◌, ◌++◌, length, map, inl, inr, refl, sym, ap, subst, ◌∙◌, arith}
 use Rattle.std.specs.Prelude.{All, Any, Contains}
 use Rattle.std.specs.Bool.{Decides}
 use Rattle.std.proofs.lemmas.Bool.{and_parts, cases_lt, false≢true}
@@ -33,6 +33,7 @@ use Rattle.ob_schema.specs.Strata.{IsMember}
 use Rattle.ob_schema.proofs.Anys.{Any-cases, Any-first, Any-later}
 use Rattle.ob_schema.proofs.Defaults.{IsBare, computed_bare, own_fits}
 use Rattle.ob_schema.proofs.Delegated.{member_cases}
+use Rattle.ob_schema.proofs.Depending.{depends_along}
 use Rattle.ob_schema.proofs.NamedFields.{member_parts}
 use Rattle.ob_schema.proofs.PathTests.{All-unmap}
 use Rattle.ob_schema.proofs.Resolved.{any_of, right_field, right_formula}
@@ -153,7 +154,7 @@ module _ (models : List Gathered) (infos : List ModelInfo) (registry : IsRegistr
         by : (steps : List Step) → Contains depends steps → length steps ≤ max_path_steps
         by steps here = elim (cases_lt max_path_steps (length steps)) [
           | inl long ↦ absurd (right_formula models registry.resolved number g there m among wrong.Limit
-              (inr (tree, typed, formula, any_of (λ steps. max_path_steps < length steps) depends steps here long)))
+              (inr (steps, depends_along place tree typed formula steps here, long)))
           | inr short ↦ short
         ]
 

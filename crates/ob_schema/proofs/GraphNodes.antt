@@ -33,6 +33,7 @@ length-members models g model is =
     let hidden_count = length-append (check_members g) (locked_members g g.locked) in
     omega (arith, length-map model.members.items member_of)
 
+-- the steps of one model more
 steps_more : (models : List Gathered) (i : ℕ) (g : Gathered) → slice_get models i ≡ Some g → steps_from models 1 (take (i + 1) models) ≡ steps_from models 1 (take i models) ++ steps_upto (i + 1) (size_of models g)
 steps_more models i g at =
     let inside = slice_get_within models i g at in
@@ -47,6 +48,7 @@ pub record AreNodesUpto (models : List Gathered) (i : ℕ) (steps : List Step) (
   pub are_starts : AreStarts steps starts
   pub count : length starts ≡ i
 
+-- before the first model
 pub AreNodesUpto-none : (models : List Gathered) (steps : List Step) (starts : List ℕ) → steps ≡ [] → starts ≡ [] → AreNodesUpto models 0 steps starts
 AreNodesUpto-none models steps starts none unbegun = record {
   are_steps = none;
@@ -54,8 +56,10 @@ AreNodesUpto-none models steps starts none unbegun = record {
   count = ap length unbegun;
 }
 
+-- with one model more
 pub AreNodesUpto-more : (models : List Gathered) (i : ℕ) (steps : List Step) (starts : List ℕ) (g : Gathered) (model : Model) → AreNodesUpto models i steps starts → slice_get models i ≡ Some g → IsModelled models g model
-    → (number count first : ℕ) → number ≡ i + 1 → count ≡ length model.members.items → first ≡ length steps → (new : List Step) → new ≡ steps ++ steps_upto number count → (begun : List ℕ) → begun ≡ starts ++ first ∷ []
+    → (number count first : ℕ) → number ≡ i + 1 → count ≡ length model.members.items → first ≡ length steps
+    → (new : List Step) → new ≡ steps ++ steps_upto number count → (begun : List ℕ) → begun ≡ starts ++ first ∷ []
     → AreNodesUpto models (i + 1) new begun
 AreNodesUpto-more models i steps starts g model are at is number count first is_number is_count is_first new is_new begun is_begun = record {
   are_steps = is_new ∙ ap (λ (l : List Step). l ++ steps_upto number count) are.are_steps ∙ ap (λ (n : ℕ). steps_from models 1 (take i models) ++ steps_upto n count) is_number
@@ -65,5 +69,6 @@ AreNodesUpto-more models i steps starts g model are at is number count first is_
   count = ap length is_begun ∙ length-append starts (first ∷ []) ∙ ap (λ (n : ℕ). n + 1) are.count;
 }
 
+-- and behind the last
 pub all_nodes : (models : List Gathered) (i : ℕ) (steps : List Step) (starts : List ℕ) → AreNodesUpto models i steps starts → length models ≤ i → steps ≡ all_steps models
 all_nodes models i steps starts are all = are.are_steps ∙ ap (λ (gs : List Gathered). steps_from models 1 gs) (take_all i models all)

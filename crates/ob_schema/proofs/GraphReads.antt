@@ -10,7 +10,7 @@ use Rattle.std.specs.Prelude.{◌↔◌, Any, Contains, IsSomeAnd, Vec, slice_ge
 use Rattle.std.specs.declared.alloc.Global.{Global}
 use Rattle.ob_definition.specs.Gathered.{Gathered}
 use Rattle.ob_schema.specs.declared.graph.Graph.{Graph}
-use Rattle.ob_schema.specs.declared.info.Formula.{Formula}
+use Rattle.ob_schema.specs.declared.formulas.DraftFormula.{DraftFormula}
 use Rattle.ob_schema.specs.declared.info.Path.{Path}
 use Rattle.ob_schema.specs.declared.info.Step.{Step}
 use Rattle.ob_schema.specs.Graphs.{AreStarts, IsGraph, IsReadBy, IsReadOn, NodeReads, all_steps}
@@ -29,6 +29,7 @@ any_left P xs y (k, x, inside, is, held) = (k, x, omega (arith, inside, length-a
 any_cases : {X : Type 0} (P : X → Type 0) (xs : List X) (y : X) → Any P (xs ++ y ∷ []) → Any P xs ⊎ P y
 any_cases P xs y (k, x, inside, is, held) = elim (Contains-push_cases xs y x (k, inside, is)) as (λ _. Any P xs ⊎ P y) [ inl old ↦ inl (old.0, x, old.1, old.2, held) | inr same ↦ inr (subst P (sym same) held) ]
 
+-- none of none
 any_none : {X : Type 0} (P : X → Type 0) → Any P [] → ⊥
 any_none P (k, x, inside, is, held) = absurd (omega arith)
 
@@ -36,6 +37,7 @@ any_none P (k, x, inside, is, held) = absurd (omega arith)
 abbrev pub AreRead : List Gathered → List Step → ℕ → List Path → List ℕ → Type 0
 AreRead models steps node paths reads = (b : ℕ) → Contains reads b ↔ ((b ≢ node) × Any (λ path. IsReadOn models steps path.steps b) paths)
 
+-- no path reads none
 pub AreRead-none : (models : List Gathered) (steps : List Step) (node : ℕ) → AreRead models steps node [] []
 AreRead-none models steps node b = (λ among. absurd (contains-none b among), λ found. absurd (any_none (λ (path : Path). IsReadOn models steps path.steps b) found.1))
 
@@ -70,7 +72,7 @@ at_map f (x ∷ xs) (suc k) y at = at_map f xs k y at
 abbrev pub NodeReadsAnother : List Gathered → List Step → ℕ → ℕ → Type 0
 NodeReadsAnother models steps a b = (own : Step) × (other : Step) × (slice_get steps a ≡ Some own) × (slice_get steps b ≡ Some other) × ReadsAnother models own other
 
-module _ (models : List Gathered) (steps : List Step) (all : steps ≡ all_steps models) (node : ℕ) (own : Step) (at : slice_get steps node ≡ Some own) (formula : Option Formula)
+module _ (models : List Gathered) (steps : List Step) (all : steps ≡ all_steps models) (node : ℕ) (own : Step) (at : slice_get steps node ≡ Some own) (formula : Option DraftFormula)
     (paths : (path : List Step) → IsPathOf models own path ↔ IsSomeAnd formula (λ f. Contains (steps_in f.depends) path)) where
   -- what the formula of a field reads is what the field reads
   pub NodeReadsAnother-from : (b : ℕ) → (b ≢ node) × IsReadBy models steps formula b → NodeReadsAnother models steps node b
@@ -86,6 +88,7 @@ module _ (models : List Gathered) (steps : List Step) (all : steps ≡ all_steps
       let is_path = (paths path.steps).1 (from_some formula (λ f. Contains (steps_in f.depends) path.steps) found.0 found.1 among) in
       (own, other, at, read.1, ((read.2.0, (ends.0, subst (λ (l : List Step). IsPathOf models own l) ends.1 is_path)), λ e. apart (node_once models steps all b node other read.1 (at ∙ ap Some e))))
 
+  -- and the other way round
   pub NodeReadsAnother-to : (b : ℕ) → NodeReadsAnother models steps node b → (b ≢ node) × IsReadBy models steps formula b
   NodeReadsAnother-to b (mine, other, mine_at, other_at, ((computed, (front, is_path)), apart)) =
       let same : mine ≡ own = same_Some mine own (sym mine_at ∙ at) in
@@ -107,9 +110,7 @@ pub record IsReadUpto (models : List Gathered) (steps : List Step) (node : ℕ) 
   pub count : length reads ≡ node
   pub each : (a b : ℕ) → a < node → NodeReads reads a b ↔ NodeReadsAnother models steps a b
 
-pub IsReadUpto-none : (models : List Gathered) (steps : List Step) (reads : List (Vec ℕ Global)) → reads ≡ [] → IsReadUpto models steps 0 reads
-IsReadUpto-none models steps reads none = record { count = ap length none; each = λ a b before. absurd (omega arith) }
-
+-- one node more
 pub IsReadUpto-more : (models : List Gathered) (steps : List Step) (node : ℕ) (reads : List (Vec ℕ Global)) (row : Vec ℕ Global) → IsReadUpto models steps node reads
     → ((b : ℕ) → Contains row.items b ↔ NodeReadsAnother models steps node b) → IsReadUpto models steps (node + 1) (reads ++ row ∷ [])
 IsReadUpto-more models steps node reads row upto one = record {

@@ -14,6 +14,7 @@ use Rattle.ob_schema.proofs.Circles.{HasChain-shorter}
 pub NodeReads-from : (reads : List (Vec ℕ Global)) (a b : ℕ) (row : Vec ℕ Global) → slice_get reads a ≡ Some row → Contains row.items b → NodeReads reads a b
 NodeReads-from reads a b row is among = rw is among
 
+-- and the other way round
 pub Contains-from_reads : (reads : List (Vec ℕ Global)) (a b : ℕ) (row : Vec ℕ Global) → slice_get reads a ≡ Some row → NodeReads reads a b → Contains row.items b
 Contains-from_reads reads a b row is among = rw is at among
 
@@ -23,6 +24,7 @@ pub NodeReads-place : (reads : List (Vec ℕ Global)) (a : ℕ) (row : Vec ℕ G
 NodeReads-place reads a row items inside is same k within =
     NodeReads-from reads a (get_or items k 0) row (slice_get_read reads (length reads) a row refl inside is) (subst (λ (l : List ℕ). Contains l (get_or items k 0)) same (Contains-get_or items k 0 within))
 
+-- each is at a place
 pub place_of_read : (reads : List (Vec ℕ Global)) (a : ℕ) (row : Vec ℕ Global) (items : List ℕ) → a < length reads → row ≡ get_or reads a row → items ≡ row.items → (b : ℕ) → NodeReads reads a b
     → (k : ℕ) × (k < length items) × (get_or items k 0 ≡ b)
 place_of_read reads a row items inside is same b among =
@@ -67,6 +69,7 @@ module _ (reads : List (Vec ℕ Global)) (limit : ℕ) (heights : List ℕ) wher
         has = λ n le. (are.each a (get_or heights a 0) n is (omega arith)).1 le;
       }
 
+  -- and all together from each
   pub AreHeights-from : length heights ≡ length reads → ((a : ℕ) → a < length heights → IsHeight (NodeReads reads) limit a (get_or heights a 0)) → AreHeights reads limit heights
   AreHeights-from count each =
       let at : (a height : ℕ) → slice_get heights a ≡ Some height → IsHeight (NodeReads reads) limit a height =
@@ -77,6 +80,7 @@ module _ (reads : List (Vec ℕ Global)) (limit : ℕ) (heights : List ℕ) wher
         each = λ a height n is le. (λ chain. (at a height is).most n le chain, λ low. (at a height is).has n low);
       }
 
+-- each is 0
 zero_at : (n a : ℕ) → a < length (replicate {A = ℕ} n 0) → get_or (replicate {A = ℕ} n 0) a 0 ≡ 0
 zero_at n a inside = get_or-replicate n a 0 0 (let e = length-replicate {A = ℕ} n 0 in omega arith)
 
@@ -104,12 +108,14 @@ module _ (reads : List (Vec ℕ Global)) (k node : ℕ) (heights : List ℕ) (ra
     | inr behind ↦ (raised.rest b behind inside).has k le
   ]
 
+  -- and its height is told by its chains
   height-by_chain : (b : ℕ) → b < length heights → HasChain (NodeReads reads) k b → k ≤ get_or heights b 0
   height-by_chain b inside chain = elim (cases_lt b node) as (λ _. k ≤ get_or heights b 0) [
     | inl before ↦ (raised.done b before).most k (omega arith) chain
     | inr behind ↦ (raised.rest b behind inside).most k (omega arith) chain
   ]
 
+  -- none is above the limit
   pub heights_low : (b : ℕ) → get_or heights b 0 ≤ suc k
   heights_low b = elim (cases_lt b (length heights)) as (λ _. get_or heights b 0 ≤ suc k) [
     | inl inside ↦ (elim (cases_lt b node) as (λ _. get_or heights b 0 ≤ suc k) [
@@ -119,7 +125,9 @@ module _ (reads : List (Vec ℕ Global)) (k node : ℕ) (heights : List ℕ) (ra
     | inr past ↦ (let none = get_or_past heights b 0 past in omega arith)
   ]
 
-  pub IsRaisedUpto-raised : (b height : ℕ) → node < length heights → b < length heights → height ≡ suc k → NodeReads reads node b → height ≤ get_or heights b 0 + 1 → IsRaisedUpto reads k (node + 1) (set heights node height)
+  -- a node that is raised
+  pub IsRaisedUpto-raised : (b height : ℕ) → node < length heights → b < length heights → height ≡ suc k → NodeReads reads node b → height ≤ get_or heights b 0 + 1
+      → IsRaisedUpto reads k (node + 1) (set heights node height)
   IsRaisedUpto-raised b height inside within is follows high = record {
     count = length-set heights node height ∙ raised.count;
     done = λ a before. elim (cases_lt a node) as (λ _. IsHeight (NodeReads reads) (suc k) a (get_or (set heights node height) a 0)) [
@@ -130,8 +138,9 @@ module _ (reads : List (Vec ℕ Global)) (k node : ℕ) (heights : List ℕ) (ra
     rest = λ a behind short. (let other : a ≢ node = omega arith in rw get_or-set_other (raised.rest a (omega arith) (let e = length-set heights node height in omega arith)));
   }
 
-  pub IsRaisedUpto-kept : (height : ℕ) → node < length heights → ((b : ℕ) → NodeReads reads node b → b < length heights) → height ≡ suc k → ((b : ℕ) → NodeReads reads node b → height ≤ get_or heights b 0 + 1 → ⊥)
-      → IsRaisedUpto reads k (node + 1) heights
+  -- a node that keeps its height
+  pub IsRaisedUpto-kept : (height : ℕ) → node < length heights → ((b : ℕ) → NodeReads reads node b → b < length heights) → height ≡ suc k
+      → ((b : ℕ) → NodeReads reads node b → height ≤ get_or heights b 0 + 1 → ⊥) → IsRaisedUpto reads k (node + 1) heights
   IsRaisedUpto-kept height inside within is none = record {
     count = raised.count;
     done = λ a before. elim (cases_lt a node) as (λ _. IsHeight (NodeReads reads) (suc k) a (get_or heights a 0)) [
@@ -152,6 +161,7 @@ IsRaisedUpto-none reads k heights are = record {
   rest = λ a behind inside. IsHeight-among reads k heights are a inside;
 }
 
+-- behind a pass the limit is one more
 pub AreHeights-raised : (reads : List (Vec ℕ Global)) (k node height : ℕ) (heights : List ℕ) → IsRaisedUpto reads k node heights → length heights ≤ node → height ≡ suc k → AreHeights reads height heights
 AreHeights-raised reads k node height heights raised all is =
     subst (λ (limit : ℕ). AreHeights reads limit heights) (sym is) (AreHeights-from reads (suc k) heights raised.count (λ a inside. raised.done a (omega arith)))

@@ -12,6 +12,7 @@ pub mod Delegations
 pub mod ScopeFields
 pub mod NamedFields
 pub mod Circles
+pub mod CircleMarks
 pub mod TreeSteps
 pub mod PathTests
 pub mod SelfReading
@@ -24,7 +25,9 @@ pub mod GivenStrata
 pub mod ChainFaults
 pub mod Verdict
 pub mod MemberNames
+pub mod Depending
 pub mod Distinct
+pub mod Drafting
 pub mod OwnNames
 pub mod Delegating
 pub mod MadeMembers
@@ -90,4 +93,6 @@ pub mod Sourced
 pub mod NumbersRise
 pub mod FieldsRight
 pub mod StrataRight
+pub mod Entered
+pub mod NamesRight
 pub mod ModelsRight

@@ -9,7 +9,7 @@ use Rattle.ob_base.specs.declared.id.ModelNo.{ModelNo}
 use Rattle.ob_definition.specs.Gathered.{Gathered}
 use Rattle.ob_definition.specs.Members.{Member}
 use Rattle.ob_schema.specs.declared.info.FieldInfo.{FieldInfo}
-use Rattle.ob_schema.specs.declared.info.Formula.{Formula}
+use Rattle.ob_schema.specs.declared.formulas.DraftFormula.{DraftFormula}
 use Rattle.ob_schema.specs.declared.model.Member.{Member as KeptMember}
 use Rattle.ob_schema.specs.declared.model.Model.{Model as KeptModel}
 use Rattle.ob_schema.specs.Building.{ArePlaced, HasNativeDefault, IsPlaced}
@@ -49,12 +49,12 @@ drop-past zero (y ∷ xs) e = absurd (let f : y ∷ xs ≡ [] = e in cc)
 drop-past (suc n) (y ∷ xs) e = let rest = drop-past n xs e in omega arith
 
 -- each of the first so many fields of a model, by number
-abbrev pub AreFieldsUpto : List Gathered → KeptModel → List (Option Formula) → List FieldInfo → ℕ → Type 0
+abbrev pub AreFieldsUpto : List Gathered → KeptModel → List (Option DraftFormula) → List FieldInfo → ℕ → Type 0
 AreFieldsUpto models model formulas infos place =
     (g : Gathered) (number : ModelNo) → ArePlaced models model formulas g number → (k : ℕ) (m : Member) → k < place → slice_get (members_in model.members.items) k ≡ Some m
     → IsSomeAnd (slice_get infos k) (IsFieldOf (record { models = models; number = number; member = m }) g (record { 0 = suc k }))
 
-pub record AreMadeUpto (models : List Gathered) (model : KeptModel) (formulas : List (Option Formula)) (fields hidden : List FieldInfo) (place : ℕ) : Type 0 where
+pub record AreMadeUpto (models : List Gathered) (model : KeptModel) (formulas : List (Option DraftFormula)) (fields hidden : List FieldInfo) (place : ℕ) : Type 0 where
   pub count : length (fields ++ hidden) ≡ place
   pub low : place ≤ model.named → hidden ≡ []
   pub high : model.named ≤ place → length fields ≡ model.named
@@ -64,9 +64,9 @@ pub record AreMadeUpto (models : List Gathered) (model : KeptModel) (formulas : 
 some_found : {X : Type 0} (o : Option X) (x : X) (P : X → Type 0) → o ≡ Some x → P x → IsSomeAnd o P
 some_found {X = X} o x P e holds = let Q : Option X → Type 0 = λ o. IsSomeAnd o P in subst Q (sym e) holds
 
-module _ (models : List Gathered) (model : KeptModel) (formulas : List (Option Formula)) where
+module _ (models : List Gathered) (model : KeptModel) (formulas : List (Option DraftFormula)) where
   -- one field more
-  fields_more : (infos : List FieldInfo) (place : ℕ) (member : KeptMember) (formula : Option Formula) (info : FieldInfo) → length infos ≡ place → AreFieldsUpto models model formulas infos place
+  fields_more : (infos : List FieldInfo) (place : ℕ) (member : KeptMember) (formula : Option DraftFormula) (info : FieldInfo) → length infos ≡ place → AreFieldsUpto models model formulas infos place
       → slice_get model.members.items place ≡ Some member → slice_get formulas place ≡ Some formula
       → ((g : Gathered) (number : ModelNo) (field : FieldNo) → IsPlaced models model (member_of member) formula g number field
       → IsFieldOf (record { models = models; number = number; member = member_of member }) g field info)
@@ -96,7 +96,7 @@ module _ (models : List Gathered) (model : KeptModel) (formulas : List (Option F
   }
 
   module _ (fields hidden : List FieldInfo) (place : ℕ) (made : AreMadeUpto models model formulas fields hidden place)
-      (member : KeptMember) (formula : Option Formula) (info : FieldInfo) (at : slice_get model.members.items place ≡ Some member) (given : slice_get formulas place ≡ Some formula)
+      (member : KeptMember) (formula : Option DraftFormula) (info : FieldInfo) (at : slice_get model.members.items place ≡ Some member) (given : slice_get formulas place ≡ Some formula)
       (of : (g : Gathered) (number : ModelNo) (field : FieldNo) → IsPlaced models model (member_of member) formula g number field
       → IsFieldOf (record { models = models; number = number; member = member_of member }) g field info) (native : HasNativeDefault info) where
     grown : (new : List FieldInfo) → new ≡ (fields ++ hidden) ++ info ∷ [] → (length new ≡ place + 1) × AreFieldsUpto models model formulas new (place + 1) × All HasNativeDefault new

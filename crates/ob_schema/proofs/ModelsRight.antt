@@ -1,37 +1,28 @@
 -- Each model of the registry is right among all, and so is the registry.
-use Rattle.std.proofs.Common.{◌≡◌, ◌≢◌, ℕ, zero, suc, ◌+◌, ◌<◌, ◌≤◌, ◌&&◌, ◌||◌, Bool, true, false, cond, ltb, not, is_none, is_some, Option, Some, None, option_map, List, [], ◌∷◌, ◌++◌, length}
-use Rattle.std.proofs.Common.{length-append, get_or, map, inl, inr, refl, sym, ap, subst, ◌∙◌, arith}
-use Rattle.std.specs.Prelude.{All, Any, Contains, IfSome, IsSome, IsSomeAnd, option_and_then, slice_get, unwrap_or}
-use Rattle.std.specs.Cmp.Lexicographic.{slice_cmp}
-use Rattle.std.specs.List.{AllPairs, AllZip, list_all, list_any, position_or_len}
+use Rattle.std.proofs.Common.{◌≡◌, ◌≢◌, ℕ, zero, suc, ◌+◌, ◌<◌, ◌&&◌, ◌||◌, Bool, true, false, not, is_none, Option, Some, None, option_map, List, [], ◌∷◌, length}
+use Rattle.std.proofs.Common.{get_or, map, inl, inr, refl, sym, ap, subst, ◌∙◌, arith}
+use Rattle.std.specs.Prelude.{All, Contains, IfSome, IsSome, IsSomeAnd, slice_get, unwrap_or}
+use Rattle.std.specs.List.{AllPairs, AllZip, list_all, list_any}
 use Rattle.std.specs.Option.{option_map_or}
-use Rattle.std.specs.Ordering.{nat_cmp}
 use Rattle.std.specs.Str.{bytes_eq}
-use Rattle.std.specs.declared.cmp.Ordering.TheVariants.{Less}
 use Rattle.std.proofs.lemmas.Bool.{false_from_ne_true, and_parts, false≢true}
 use Rattle.std.proofs.lemmas.List.{get_or-map, length-map}
-use Rattle.std.proofs.lemmas.List.Elements.{All-contains, All-contains_itself, All-map, All-nil, All-same, Contains-append_left, Contains-append_right}
-use Rattle.std.proofs.lemmas.List.Folds.{Any-from_list_any}
+use Rattle.std.proofs.lemmas.List.Elements.{All-map, All-nil, All-same}
 use Rattle.std.proofs.lemmas.Option.{get_or_from_slice_get, same_Some, slice_get-get_or, slice_get-map, slice_get_within}
-use Rattle.std.proofs.lemmas.Slice.Eq.{bytes_eq-Decides}
-use Rattle.ob_base.specs.Limits.{max_checks, max_name_bytes}
 use Rattle.ob_base.specs.declared.id.FieldNo.{FieldNo}
 use Rattle.ob_base.specs.declared.id.ModelNo.{ModelNo}
-use Rattle.ob_definition.specs.declared.definition.FieldDef.{FieldDef}
 use Rattle.ob_definition.specs.declared.definition.Inherits.{Inherits}
 use Rattle.ob_definition.specs.declared.field_type.FieldType.{FieldType}
 use Rattle.ob_definition.specs.declared.field_type.FieldType.TheVariants as type
 use Rattle.ob_definition.specs.declared.field_type.OnDelete.TheVariants as ondelete
-use Rattle.ob_definition.specs.declared.fault.SchemaFault.TheVariants as fault
 use Rattle.ob_definition.specs.declared.wrong.Wrong.TheVariants as wrong
 use Rattle.ob_definition.specs.Definitions.{is_computed, is_set}
 use Rattle.ob_definition.specs.Findings.{IsFaultAt, fault_at}
-use Rattle.ob_definition.specs.Gathered.{Declared, DeclaredOrder, DeclaredSet, Gathered, is_declared}
+use Rattle.ob_definition.specs.Gathered.{DeclaredOrder, DeclaredSet, Gathered}
 use Rattle.ob_definition.specs.Keys.{is_many2one}
-use Rattle.ob_definition.specs.Making.{IsPathFault}
-use Rattle.ob_definition.specs.Members.{Member, automatic_defs, check_member, check_members, count_below, given_members, hidden_members, hidden_number, is_own_computed, link_def, links_from, links_of, locked_members}
-use Rattle.ob_definition.specs.Members.{members_of, model_at, model_number, named, names_of}
-use Rattle.ob_definition.specs.Members.{number_of, own_member, own_members, path_def, path_members, path_name}
+use Rattle.ob_definition.specs.Members.{Member, given_members, link_def, links_from, links_of}
+use Rattle.ob_definition.specs.Members.{members_of, model_at, named, names_of}
+use Rattle.ob_definition.specs.Members.{number_of, own_member, own_members}
 use Rattle.ob_definition.specs.Orders.{Term, order_terms}
 use Rattle.ob_definition.specs.Rooms.{spot_at}
 use Rattle.ob_definition.specs.Types.{is_list, is_one2many}
@@ -42,34 +33,30 @@ use Rattle.ob_schema.specs.declared.info.ModelInfo.{ModelInfo}
 use Rattle.ob_schema.specs.declared.info.OrderTerm.{OrderTerm}
 use Rattle.ob_schema.specs.declared.info.Origin.TheVariants as origin
 use Rattle.ob_schema.specs.declared.info.ParentInfo.{ParentInfo}
-use Rattle.ob_schema.specs.Built.{IsFieldOf, IsModelOf, given_terms, numbered}
+use Rattle.ob_schema.specs.Built.{IsFieldOf, IsModelOf, given_terms}
 use Rattle.ob_schema.specs.Faults.{HasRefused, HasUnknown, IsParentField, is_plain, is_plain_kept as is_kept_member, is_unknown, names_of_terms, orders_rows}
 use Rattle.ob_schema.specs.Fields.{is_plain_from, is_plain_kept}
 use Rattle.ob_schema.specs.Finds.{relation_of}
-use Rattle.ob_schema.specs.Models.{AreInOrder, FieldHas, IsCondition, IsFormulaIn, IsModel, IsParentIn, IsPlainTo, IsRegistry, IsTreePath, Orders, field_at, fields_of, model_at as info_at, model_named}
+use Rattle.ob_schema.specs.Models.{FieldHas, IsFormulaIn, IsModel, IsParentIn, IsPlainTo, IsRegistry, Orders, field_at, fields_of, model_at as info_at}
 use Rattle.ob_schema.specs.Paths.{step_at}
 use Rattle.ob_schema.specs.RegistryOf.{HasFieldInfo, IsInfoFrom, IsRegistryOf}
 use Rattle.ob_schema.specs.Strata.IsMember.{by_name}
 use Rattle.ob_schema.specs.Telling.{IsOrderWrong, IsParentWrong}
-use Rattle.ob_schema.proofs.AllSteps.{element_at}
-use Rattle.ob_schema.proofs.Delegated.{hidden_computed, link_inherits, link_member, link_model, own_among}
-use Rattle.ob_schema.proofs.FieldsRight.{IsParentOf, IsUnkept, computed_info, field_right, has, hidden_unkept, named_info, number_there, other_name, parents_of, plain_info}
-use Rattle.ob_schema.proofs.MadeFields.{slice_get-front}
+use Rattle.ob_schema.proofs.Delegated.{link_inherits, link_member, link_model, own_among}
+use Rattle.ob_schema.proofs.FieldsRight.{IsParentOf, field_right, has, named_info, number_there, parents_of, plain_info}
 use Rattle.ob_schema.proofs.ModelNames.{IfSome-found}
 use Rattle.ob_schema.proofs.ModelPlaces.{zip_some}
-use Rattle.ob_schema.proofs.NamedFields.{member_parts}
-use Rattle.ob_schema.proofs.NumbersRise.{field_no, hidden_high, named_place, place_rank, rises}
+use Rattle.ob_schema.proofs.NumbersRise.{field_no}
 use Rattle.ob_schema.proofs.OneWrong.{known_by}
 use Rattle.ob_schema.proofs.OwnInfos.{relation_plain, well_named}
 use Rattle.ob_schema.proofs.OwnNames.{own_apart}
-use Rattle.ob_schema.proofs.RegistryPlaces.{model_place, value_there}
+use Rattle.ob_schema.proofs.RegistryPlaces.{value_there}
 use Rattle.ob_schema.proofs.Resolved.{model_resolved, right_key}
 use Rattle.ob_schema.proofs.Somes.{read_within}
-use Rattle.ob_schema.proofs.Sourced.{short_name}
 use Rattle.ob_schema.proofs.Stable.{stable_model, stable_true}
 use Rattle.ob_schema.proofs.StrataRight.{stratified}
 use Rattle.ob_schema.proofs.WithinLimits.{few_fields}
-use Rattle.ob_schema.proofs.LookUps.{contains-mapped}
+use Rattle.ob_schema.proofs.NamesRight.{alone, automatic, conditions, conditions_apart, few_hidden, field_read, name_short, ordered, short, slice_get-behind, tree_right}
 
 -- ---- lists of names
 
@@ -84,12 +71,6 @@ passes p (x ∷ xs) all (suc k) d within = passes p xs (and_parts (p x) (list_al
 
 all_unmap : {X Y : Type 0} (P : Y → Type 0) (f : X → Y) (xs : List X) → All P (map f xs) → All (λ x. P (f x)) xs
 all_unmap P f xs all k d within = let size = length-map xs f in subst P (get_or-map f xs k d (f d) within) (all k (f d) (omega arith))
-
-slice_get-behind : {X : Type 0} (xs ys : List X) (k : ℕ) (x : X) → slice_get ys k ≡ Some x → slice_get (xs ++ ys) (length xs + k) ≡ Some x
-slice_get-behind [] ys k x at = let e : k ≡ 0 + k = omega arith in subst (λ (n : ℕ). slice_get ys n ≡ Some x) e at
-slice_get-behind (y ∷ xs) ys k x at =
-    let e : suc (length xs + k) ≡ length (y ∷ xs) + k = omega arith in
-    subst (λ (n : ℕ). slice_get (y ∷ xs ++ ys) n ≡ Some x) e (slice_get-behind xs ys k x at)
 
 -- a field of the name passes the test
 abbrev pub IsNamedBy : List Member → (Member → Bool) → List ℕ → Type 0
@@ -127,25 +108,6 @@ all_true false b c p q r = absurd (false≢true p)
 all_true true false c p q r = absurd (false≢true q)
 all_true true true false p q r = absurd (false≢true r)
 
--- models of one name have one place in both lists
-places_alike : (all : List Gathered) (name : List ℕ) (models : List Gathered) (infos : List ModelInfo) → AllZip (IsModelOf all) models infos
-    → position_or_len (λ (m : Gathered). bytes_eq m.name name) models ≡ position_or_len (λ (m : ModelInfo). bytes_eq m.name name) infos
-places_alike all name [] [] zip = refl
-places_alike all name [] (i ∷ infos) zip = absurd zip
-places_alike all name (m ∷ models) [] zip = absurd zip
-places_alike all name (m ∷ models) (i ∷ infos) zip =
-    ap (λ (n : List ℕ). cond (not (bytes_eq n name)) (1 + position_or_len (λ (m : Gathered). bytes_eq m.name name) models) 0) (sym zip.0.name)
-    ∙ ap (λ (k : ℕ). cond (not (bytes_eq i.name name)) (1 + k) 0) (places_alike all name models infos zip.1)
-
-abbrev model_no_at : Option ℕ → Option ModelNo
-model_no_at o = option_map (λ i. let n : ModelNo = record { 0 = suc i } in n) o
-
-numbers_alike : (models : List Gathered) (infos : List ModelInfo) → AllZip (IsModelOf models) models infos → (name : List ℕ) → model_number models name ≡ model_named infos name
-numbers_alike models infos zip name =
-    let there = position_or_len (λ (m : ModelInfo). bytes_eq m.name name) infos in
-    ap (λ (k : ℕ). model_no_at (cond (ltb k (length models)) (Some k) None)) (places_alike models name models infos zip)
-    ∙ ap (λ (size : ℕ). model_no_at (cond (ltb there size) (Some there) None)) (sym (zip_length (IsModelOf models) models infos zip))
-
 module _ (models : List Gathered) (infos : List ModelInfo) (registry : IsRegistryOf models infos) (zip : AllZip (IsModelOf models) models infos)
     (formulas_in : (number : ModelNo) (field : FieldNo) (info : FieldInfo) (formula : Formula) → field_at infos number field ≡ Some info → info.origin ≡ origin.Computed formula → IsFormulaIn infos number info formula) where
   module _ (number : ModelNo) (info : ModelInfo) (at : info_at infos number ≡ Some info) where
@@ -163,199 +125,6 @@ module _ (models : List Gathered) (infos : List ModelInfo) (registry : IsRegistr
 
     abbrev members : List Member
     members = members_of models g
-
-    -- the name is its own
-    alone : model_named infos info.name ≡ Some number
-    alone =
-        ap (model_named infos) is.name ∙ sym (numbers_alike models infos zip g.name) ∙ is.is_number
-        ∙ ap (λ (n : ModelNo). Some n) from.same
-
-    -- ---- limits
-
-    name_short : length info.name ≤ max_name_bytes
-    name_short =
-        let place = model_place models number g there in
-        let P : Gathered → Type 0 = λ h. length h.name ≤ max_name_bytes in
-        let short : P g = subst P (get_or_from_slice_get models place.0 g g place.2) (registry.resolved.short_names place.0 g (slice_get_within models place.0 g place.2)) in
-        subst (λ (name : List ℕ). length name ≤ max_name_bytes) (sym is.name) short
-
-    few_hidden : length info.hidden ≤ suc max_checks
-    few_hidden =
-        let place = model_place models number g there in
-        let P : Gathered → Type 0 = λ h. length h.checks ≤ max_checks in
-        let checks : length g.checks ≤ max_checks = subst P (get_or_from_slice_get models place.0 g g place.2) (registry.resolved.few_checks place.0 g (slice_get_within models place.0 g place.2)) in
-        let all : length (hidden_members g) ≡ length (check_members g) + length (locked_members g g.locked) = length-append (check_members g) (locked_members g g.locked) in
-        let same : length (check_members g) ≡ length g.checks = length-map g.checks check_member in
-        let one = last g.locked in
-        let count = is.hidden_count in
-        omega arith
-      where
-        last : (o : Option (List ℕ)) → length (locked_members g o) ≤ 1
-        last None = omega arith
-        last (Some text) = omega arith
-
-    -- ---- named fields by place
-
-    field_read : (k : ℕ) (field : FieldInfo) → slice_get (fields_of info) k ≡ Some field → field_at infos number (field_no k) ≡ Some field
-    field_read k field e = ap (λ (o : Option ModelInfo). option_and_then (λ own. numbered (fields_of own) (suc k)) o) at ∙ e
-
-    record IsNamedAt (k : ℕ) (field : FieldInfo) : Type 0 where
-      member : Member
-      here : Contains members member
-      place : number_of models g member.def.name ≡ field_no k
-      name : field.name ≡ member.def.name
-
-    named_at : (k : ℕ) (field : FieldInfo) → slice_get info.fields k ≡ Some field → IsNamedAt k field
-    named_at k field e =
-        let low : k < length info.fields = slice_get_within info.fields k field e in
-        let found = registry.field_back number (field_no k) field (field_read k field (slice_get-front info.fields info.hidden k low ∙ e)) in
-        let parts = member_parts models (step_at number (field_no k)) found.model found.member found.is_member in
-        let same : found.model ≡ g = same_Some found.model g (sym parts.0 ∙ there) in
-        elim parts.1 [
-          | inl named ↦ record {
-            member = found.member;
-            here = subst (λ (h : Gathered). Contains (members_of models h) found.member) same named.0;
-            place = ap (λ (h : Gathered). number_of models h found.member.def.name) (sym same) ∙ named.1;
-            name = found.is.name;
-          }
-          | inr condition ↦
-              (let behind = hidden_high models found.model found.member.def.name k condition.1 in
-              let size : length (members_of models found.model) ≡ length members = ap (λ (h : Gathered). length (members_of models h)) same in
-              let count = is.named_count in
-              absurd (omega arith))
-        ]
-
-    short : All (λ field. length field.name ≤ max_name_bytes) info.fields
-    short k d within =
-        let own = named_at k (get_or info.fields k d) (slice_get-get_or info.fields k d within) in
-        subst (λ (l : List ℕ). length l ≤ max_name_bytes) (sym own.name) (short_name models registry.resolved number g there own.member own.here)
-
-    ordered : AreInOrder (map (λ field. field.name) info.fields)
-    ordered i j d lt within =
-        let name : FieldInfo → List ℕ = λ field. field.name in
-        let size : length (map name info.fields) ≡ length info.fields = length-map info.fields name in
-        let high : j < length info.fields = omega arith in
-        let low : i < length info.fields = omega arith in
-        let a = element_at info.fields i low in
-        let b = element_at info.fields j high in
-        let first = named_at i a.0 a.1 in
-        let second = named_at j b.0 b.1 in
-        let one : get_or (map name info.fields) i d ≡ first.member.def.name = get_or-map name info.fields i a.0 d low ∙ ap name (get_or_from_slice_get info.fields i a.0 a.0 a.1) ∙ first.name in
-        let two : get_or (map name info.fields) j d ≡ second.member.def.name = get_or-map name info.fields j b.0 d high ∙ ap name (get_or_from_slice_get info.fields j b.0 b.0 b.1) ∙ second.name in
-        let below : count_below (names_of members) first.member.def.name ≡ i = place_rank models g first.member.def.name i first.place in
-        let above : count_below (names_of members) second.member.def.name ≡ j = place_rank models g second.member.def.name j second.place in
-        let less : slice_cmp nat_cmp first.member.def.name second.member.def.name ≡ Less = rises (names_of members) first.member.def.name second.member.def.name (omega arith) in
-        ap (λ (l : List ℕ). slice_cmp nat_cmp l (get_or (map name info.fields) j d)) one ∙ ap (λ (l : List ℕ). slice_cmp nat_cmp first.member.def.name l) two ∙ less
-
-    -- a field of the model is there
-    given_there : (m : Member) → Contains (given_members g) m → (P : FieldInfo → Type 0)
-        → ((field : FieldNo) (own : FieldInfo) → IsFieldOf (record { models = models; number = number; member = m }) g field own → P own) → Any P info.fields
-    given_there m given P holds =
-        let here : Contains members m = own_among models g m (Contains-append_left (given_members g) _ m given) in
-        let place = named_place models g m here in
-        let own = registry.field number (field_no place.0) g m (by_name (step_at number (field_no place.0)) g m there here place.1) in
-        let count = is.named_count in
-        let low : place.0 < length info.fields = omega (arith, place.2) in
-        let found : slice_get (fields_of info) place.0 ≡ Some own.info = sym (ap (λ (o : Option ModelInfo). option_and_then (λ own. numbered (fields_of own) (suc place.0)) o) at) ∙ own.at in
-        let front : slice_get info.fields place.0 ≡ Some own.info = sym (slice_get-front info.fields info.hidden place.0 low) ∙ found in
-        (place.0, own.info, low, get_or_from_slice_get info.fields place.0 own.info own.info front, holds (field_no place.0) own.info own.is)
-
-    automatic : All (λ own. Any (λ field. (field.name ≡ own.name) × (field.field_type ≡ own.field_type)) info.fields) automatic_defs
-    automatic k d within =
-        let def : FieldDef = get_or automatic_defs k d in
-        let m : Member = own_member g.entry def in
-        let among : Contains (map (own_member g.entry) automatic_defs) m = contains-mapped (own_member g.entry) automatic_defs def (All-contains_itself automatic_defs k d within) in
-        given_there m (Contains-append_left (map (own_member g.entry) automatic_defs) _ m among) (λ field. (field.name ≡ def.name) × (field.field_type ≡ def.field_type)) (λ field own of. (of.name, of.field_type))
-
-    -- ---- the path in a tree
-
-    path_free : is_some g.parent ≡ true → is_declared g.fields path_name ≡ false
-    path_free given = by (is_declared g.fields path_name) refl
-      where
-        by : (b : Bool) → is_declared g.fields path_name ≡ b → b ≡ false
-        by false e = refl
-        by true e =
-            let found = Any-from_list_any (λ (f : Declared). bytes_eq f.def.name path_name) g.fields e in
-            let named : found.1.def.name ≡ path_name = (bytes_eq-Decides found.1.def.name path_name).0 found.4 in
-            let why = fault.Twice (spot_at found.1.entry path_name) in
-            let place = model_place models number g there in
-            let takes : IsPathFault g why = (given, (found.0, found.1, found.2, found.3, (named, refl))) in
-            absurd (registry.resolved.made why (place.0, g, slice_get_within models place.0 g place.2, get_or_from_slice_get models place.0 g g place.2, inl takes))
-
-    tree_right : IsSome info.parent → Any IsTreePath info.fields
-    tree_right given = by g.parent refl (sym (ap (λ (o : Option FieldNo). is_some o) is.parent) ∙ given)
-      where
-        by : (o : Option (List ℕ)) → g.parent ≡ o → is_some (option_map (number_of models g) o) ≡ true → Any IsTreePath info.fields
-        by None e some = absurd (false≢true some)
-        by (Some parent) e some =
-            let m : Member = own_member g.entry (path_def parent) in
-            let free = path_free (ap (λ (o : Option (List ℕ)). is_some o) e) in
-            let one : path_members g g.parent ≡ m ∷ [] = ap (path_members g) e ∙ ap (λ (b : Bool). cond b [] (m ∷ [])) free in
-            let last : Contains (path_members g g.parent) m = subst (λ (l : List Member). Contains l m) (sym one) (0, omega arith, refl) in
-            let automatic = map (own_member g.entry) automatic_defs in
-            let declared = map (λ (f : Declared). own_member f.entry f.def) g.fields in
-            given_there m (Contains-append_right automatic _ m (Contains-append_right declared (path_members g g.parent) m last)) IsTreePath (λ field own of. record {
-              named = of.name;
-              text = of.field_type;
-              computed = computed_info (record { models = models; number = number; member = m }) g field own.origin refl refl of.origin;
-              kept = of.store;
-            })
-
-    -- ---- conditions
-
-    record IsHiddenAt (k : ℕ) (field : FieldInfo) : Type 0 where
-      member : Member
-      here : Contains (hidden_members g) member
-      place : hidden_number models g member.def.name ≡ field_no (length info.fields + k)
-      own : IsFieldOf (record { models = models; number = number; member = member }) g (field_no (length info.fields + k)) field
-
-    hidden_at : (k : ℕ) (field : FieldInfo) → slice_get info.hidden k ≡ Some field → IsHiddenAt k field
-    hidden_at k field e =
-        let n = length info.fields + k in
-        let found = registry.field_back number (field_no n) field (field_read n field (slice_get-behind info.fields info.hidden k field e)) in
-        let m = found.member in
-        let parts = member_parts models (step_at number (field_no n)) found.model m found.is_member in
-        let same : found.model ≡ g = same_Some found.model g (sym parts.0 ∙ there) in
-        elim parts.1 as (λ _. IsHiddenAt k field) [
-          | inl named ↦
-              (let place = named_place models found.model m named.0 in
-              let both : field_no place.0 ≡ field_no n = sym place.1 ∙ named.1 in
-              let high : suc place.0 ≡ suc n = ap (λ (f : FieldNo). f.0) both in
-              let size : length (members_of models found.model) ≡ length members = ap (λ (h : Gathered). length (members_of models h)) same in
-              let low : place.0 < length (members_of models found.model) = place.2 in
-              let count = is.named_count in
-              absurd (omega arith))
-          | inr condition ↦ record {
-            member = m;
-            here = subst (λ (h : Gathered). Contains (hidden_members h) m) same condition.0;
-            place = ap (λ (h : Gathered). hidden_number models h m.def.name) (sym same) ∙ condition.1;
-            own = subst (λ (h : Gathered). IsFieldOf (record { models = models; number = number; member = m }) h (field_no n) field) same found.is;
-          }
-        ]
-
-    conditions : All IsCondition info.hidden
-    conditions k d within =
-        let field = get_or info.hidden k d in
-        let at : IsHiddenAt k field = hidden_at k field (slice_get-get_or info.hidden k d within) in
-        let m = at.member in
-        let unkept = All-contains IsUnkept (hidden_members g) m (hidden_unkept g) at.here in
-        let computed : is_own_computed m ≡ true = (hidden_computed g m at.here).1 in
-        record {
-          named = elim unkept.3 [ inl check ↦ inl (check.0, at.own.name ∙ check.1) | inr locked ↦ inr (at.own.name ∙ locked) ];
-          boolean = at.own.field_type ∙ unkept.1;
-          computed = computed_info (record { models = models; number = number; member = m }) g (field_no (length info.fields + k)) field.origin computed (other_name m.def.name unkept.0) at.own.origin;
-          unkept = at.own.store ∙ unkept.2;
-        }
-
-    conditions_apart : AllPairs (λ a b. a.name ≢ b.name) info.hidden
-    conditions_apart i j d lt within same =
-        let low : i < length info.hidden = omega arith in
-        let a = hidden_at i (get_or info.hidden i d) (slice_get-get_or info.hidden i d low) in
-        let b = hidden_at j (get_or info.hidden j d) (slice_get-get_or info.hidden j d within) in
-        let names : a.member.def.name ≡ b.member.def.name = sym a.own.name ∙ same ∙ b.own.name in
-        let two : field_no (length info.fields + i) ≡ field_no (length info.fields + j) = sym a.place ∙ ap (hidden_number models g) names ∙ b.place in
-        let numbers : suc (length info.fields + i) ≡ suc (length info.fields + j) = ap (λ (f : FieldNo). f.0) two in
-        omega arith
 
     -- ---- keys
 
@@ -539,19 +308,20 @@ module _ (models : List Gathered) (infos : List ModelInfo) (registry : IsRegistr
 
     model_right : IsModel infos number info
     model_right = record {
-      alone = alone;
-      short_name = name_short;
+      alone = alone models infos registry zip number info at;
+      short_name = name_short models infos registry zip number info at;
       few = let count = is.named_count in let low = few_fields models registry.resolved number g there in omega arith;
-      few_hidden = few_hidden;
-      short = short;
-      ordered = ordered;
-      automatic = automatic;
-      fields = λ k d within. field_right models infos registry formulas_in number info at (field_no k) (get_or (fields_of info) k d) (field_read k (get_or (fields_of info) k d) (slice_get-get_or (fields_of info) k d within));
+      few_hidden = few_hidden models infos registry zip number info at;
+      short = short models infos registry zip number info at;
+      ordered = ordered models infos registry zip number info at;
+      automatic = automatic models infos registry zip number info at;
+      fields = λ k d within. field_right models infos registry formulas_in number info at (field_no k) (get_or (fields_of info) k d)
+          (field_read models infos registry zip number info at k (get_or (fields_of info) k d) (slice_get-get_or (fields_of info) k d within));
       strata = λ field own formula here from. stratified models infos registry number info at parent_right field own formula here from (formulas_in number field own formula here from);
-      conditions = conditions;
-      conditions_apart = conditions_apart;
+      conditions = conditions models infos registry zip number info at;
+      conditions_apart = conditions_apart models infos registry zip number info at;
       parent = parent_right;
-      tree = tree_right;
+      tree = tree_right models infos registry zip number info at;
       parents = parents_right;
       links_apart = links_apart;
       unique = unique_right;

@@ -1,5 +1,5 @@
 -- What is wrong with declared paths, and with what is read, as it is told of one after another.
-use Rattle.std.proofs.Common.{◌≡◌, ◌⊎◌, inl, inr, ℕ, ◌+◌, ◌<◌, Bool, true, false, not, List, [], ◌∷◌, ◌++◌, append-nil, length, get_or, map, take, Option, Some, Result, Ok, Err, refl, sym, ap, subst, ◌∙◌}
+use Rattle.std.proofs.Common.{◌≡◌, ℕ, ◌+◌, ◌<◌, Bool, true, false, not, List, [], ◌∷◌, ◌++◌, append-nil, length, get_or, map, take, Option, Some, Result, Ok, Err, refl, sym, ap, subst, ◌∙◌}
 use Rattle.std.specs.Prelude.{Any, Contains, Vec}
 use Rattle.std.specs.Bool.{then_some}
 use Rattle.std.specs.Borrow.{Bor}
@@ -11,10 +11,9 @@ use Rattle.ob_definition.specs.declared.fault.SchemaFault.{SchemaFault}
 use Rattle.ob_definition.specs.declared.fault.Spot.{Spot}
 use Rattle.ob_definition.specs.declared.wrong.Wrong.{Wrong}
 use Rattle.ob_definition.specs.declared.wrong.Wrong.TheVariants as wrong
-use Rattle.ob_definition.specs.Findings.{Adds, IsAt, IsFaultAt, Tells, fault_at}
+use Rattle.ob_definition.specs.Findings.{Adds, IsAt, IsFaultAt, Tells}
 use Rattle.ob_definition.specs.Gathered.{Gathered}
-use Rattle.ob_definition.specs.Members.{Role}
-use Rattle.ob_definition.proofs.Adding.{Adds-both, Adds-none, Adds-same}
+use Rattle.ob_definition.proofs.Adding.{Adds-none}
 use Rattle.ob_definition.proofs.Copies.{next_front}
 use Rattle.ob_definition.proofs.Tellings.{Adds-more, Adds-tells}
 use Rattle.ob_schema.specs.declared.info.Path.{Path}
@@ -24,7 +23,7 @@ use Rattle.ob_schema.specs.declared.model.Role.TheVariants as kept
 use Rattle.ob_schema.specs.ModelFields.{role_of}
 use Rattle.ob_schema.specs.Formulas.{IsCovered, good_paths, paths_by_role}
 use Rattle.ob_schema.specs.Paths.{PathFault, no_field, no_step, path_from}
-use Rattle.ob_schema.specs.Telling.{AreDeclaredWrong, IsCoverWrong, IsPathWrong, names_in, path_wrong, paths_by_names, steps_in, texts_in, told_path}
+use Rattle.ob_schema.specs.Telling.{IsCoverWrong, IsPathWrong, names_in, path_wrong, paths_by_names, steps_in, texts_in, told_path}
 use Rattle.ob_schema.proofs.Anys.{Any-none}
 use Rattle.ob_schema.proofs.OneWrong.{Tells-none, Tells-one}
 
@@ -126,37 +125,6 @@ found_read spot declared reads read told a b c tells so now =
 
 pub found_none : {X : Type 0} (P : X → SchemaFault → Type 0) (a : Option SchemaFault) → Adds (λ why. Any (λ x. P x why) []) a a
 found_none P a = Adds-none (λ why. Any (λ x. P x why) []) a (λ why any. Any-none (λ x. P x why) any)
-
-module _ (models : List Gathered) (number : ModelNo) (spot : Spot) (role : Role) (names : List (List (List ℕ))) (reads depends : List (List Step)) (are : depends ≡ paths_by_role role reads (paths_by_names models number names)) where
-  abbrev Paths : SchemaFault → Type 0
-  Paths why = Any (λ path. IsFaultAt spot (IsPathWrong (path_from models number path)) why) names
-
-  abbrev Covers : SchemaFault → Type 0
-  Covers why = Any (λ read. IsFaultAt spot (IsCoverWrong depends read) why) reads
-
-  of_path : (path : List (List ℕ)) (w : Wrong) → IsPathWrong (path_from models number path) w → Contains names path → AreDeclaredWrong models number role names reads w
-  of_path path wrong.Field h c = (c.0, path, c.1, c.2, h)
-  of_path path wrong.Path h c = inl (c.0, path, c.1, c.2, h)
-  of_path path _ h c = h
-
-  of_read : (read : List Step) (w : Wrong) → IsCoverWrong depends read w → Contains reads read → AreDeclaredWrong models number role names reads w
-  of_read read wrong.Path h c = inr (c.0, read, c.1, c.2, λ covered. h (subst (λ (l : List (List Step)). IsCovered l read) (sym are) covered))
-  of_read read _ h c = absurd h
-
-  to : (why : SchemaFault) → Paths why ⊎ Covers why → IsFaultAt spot (AreDeclaredWrong models number role names reads) why
-  to why (inl (k, path, within, is, (w, h, e))) = (w, of_path path w h (k, within, is), e)
-  to why (inr (k, read, within, is, (w, h, e))) = (w, of_read read w h (k, within, is), e)
-
-  from_wrong : (why : SchemaFault) (w : Wrong) → AreDeclaredWrong models number role names reads w → why ≡ fault_at w spot → Paths why ⊎ Covers why
-  from_wrong why wrong.Field (k, path, within, is, h) e = inl (k, path, within, is, (wrong.Field, h, e))
-  from_wrong why wrong.Path (inl (k, path, within, is, h)) e = inl (k, path, within, is, (wrong.Path, h, e))
-  from_wrong why wrong.Path (inr (k, read, within, is, h)) e = inr (k, read, within, is, (wrong.Path, λ covered. h (subst (λ (l : List (List Step)). IsCovered l read) are covered), e))
-  from_wrong why _ h e = absurd h
-
-  -- what is found of the declared paths and then of what is read
-  pub found_declared : (a b c : Option SchemaFault) → Adds (λ why. Any (λ path. IsFaultAt spot (IsPathWrong (path_from models number path)) why) names) a b
-      → Adds (λ why. Any (λ read. IsFaultAt spot (IsCoverWrong depends read) why) reads) b c → Adds (IsFaultAt spot (AreDeclaredWrong models number role names reads)) a c
-  found_declared a b c first second = Adds-same (λ why. Paths why ⊎ Covers why) (IsFaultAt spot (AreDeclaredWrong models number role names reads)) a c to (λ why f. from_wrong why f.0 f.1 f.2) (Adds-both Paths Covers a b c first second)
 
 -- a condition's paths are those that it reads: they cover themselves
 covers_itself : (reads : List (List Step)) (read : List Step) → Contains reads read → IsCovered reads read

@@ -9,7 +9,7 @@ use Rattle.std.proofs.lemmas.Option.{same_Some, slice_get-get_or, slice_get_read
 use Rattle.ob_base.specs.declared.id.ModelNo.{ModelNo}
 use Rattle.ob_definition.specs.Gathered.{Gathered}
 use Rattle.ob_definition.specs.Members.{Member, model_number}
-use Rattle.ob_schema.specs.declared.info.Formula.{Formula}
+use Rattle.ob_schema.specs.declared.formulas.DraftFormula.{DraftFormula}
 use Rattle.ob_schema.specs.declared.info.ModelInfo.{ModelInfo}
 use Rattle.ob_schema.specs.declared.info.Step.{Step}
 use Rattle.ob_schema.specs.declared.model.Model.{Model as KeptModel}
@@ -39,8 +39,8 @@ pub all_done : (place left total count : ℕ) → place + left ≡ total → lef
 all_done place left total count before none same = omega arith
 
 -- the model at the place of a list of formulas
-module _ (models gathering : List Gathered) (list lent : List KeptModel) (formulas : List (Vec (Option Formula) Global)) (modelled : AreModelled gathering list) (view : gathering ≡ models) (same : lent ≡ list)
-    (are : AreFormulas models formulas) (place : ℕ) (own : Vec (Option Formula) Global) (given : slice_get formulas place ≡ Some own) where
+module _ (models gathering : List Gathered) (list lent : List KeptModel) (formulas : List (Vec (Option DraftFormula) Global)) (modelled : AreModelled gathering list) (view : gathering ≡ models) (same : lent ≡ list)
+    (are : AreFormulas models formulas) (place : ℕ) (own : Vec (Option DraftFormula) Global) (given : slice_get formulas place ≡ Some own) where
   pub lent_within : place < length lent
   lent_within =
       let many : length list ≡ length models = all_models models gathering list modelled view in
@@ -52,8 +52,8 @@ module _ (models gathering : List Gathered) (list lent : List KeptModel) (formul
   pub lent_at : (model : KeptModel) → model ≡ get_or lent place model → slice_get list place ≡ Some model
   lent_at model is = ap (λ (l : List KeptModel). slice_get l place) (sym same) ∙ slice_get_read lent (length lent) place model refl lent_within is
 
-module _ (models : List Gathered) (resolved : AreResolved models) (formulas : List (Vec (Option Formula) Global)) (are : AreFormulas models formulas) (strata : HaveStrata models formulas)
-    (list : List KeptModel) (modelled : AreModelled models list) (place : ℕ) (model : KeptModel) (own : Vec (Option Formula) Global)
+module _ (models : List Gathered) (resolved : AreResolved models) (formulas : List (Vec (Option DraftFormula) Global)) (are : AreFormulas models formulas) (strata : HaveStrata models formulas)
+    (list : List KeptModel) (modelled : AreModelled models list) (place : ℕ) (model : KeptModel) (own : Vec (Option DraftFormula) Global)
     (here : slice_get list place ≡ Some model) (given : slice_get formulas place ≡ Some own) where
   found : (g : Gathered) × (slice_get models place ≡ Some g) × IsModelled models g model
   found = value_there (λ g. IsModelled models g model) (slice_get models place) (zip_some (IsModelled models) models list modelled.each place model here)
@@ -68,14 +68,14 @@ module _ (models : List Gathered) (resolved : AreResolved models) (formulas : Li
   step k = step_at number (record { 0 = suc k })
 
   formula_read : (k : ℕ) → formula_in formulas (step k) ≡ slice_get own.items k
-  formula_read k = ap (λ (o : Option (Vec (Option Formula) Global)). option_and_then (λ row. numbered row.items (suc k)) o) given
+  formula_read k = ap (λ (o : Option (Vec (Option DraftFormula) Global)). option_and_then (λ row. numbered row.items (suc k)) o) given
 
   member_read : (k : ℕ) (m : Member) → slice_get (members_in model.members.items) k ≡ Some m → IsMember models (step k) g m
   member_read k m at = is_member_at models g model found.2 (step k) m found.1 at
 
   formula_there : (k : ℕ) (m : Member) → slice_get (members_in model.members.items) k ≡ Some m → IsSomeAnd (slice_get own.items k) (IsFormulaOf (record { models = models; number = number; member = m }))
   formula_there k m at =
-      subst (λ (o : Option (Option Formula)). IsSomeAnd o (IsFormulaOf (record { models = models; number = number; member = m }))) (formula_read k) (are.each (step k) g m (member_read k m at))
+      subst (λ (o : Option (Option DraftFormula)). IsSomeAnd o (IsFormulaOf (record { models = models; number = number; member = m }))) (formula_read k) (are.each (step k) g m (member_read k m at))
 
   at_end : {X : Type 0} (xs : List X) (k : ℕ) → k < length xs → (x : X) × (slice_get xs k ≡ Some x)
   at_end [] k within = absurd (omega arith)

@@ -1,5 +1,6 @@
 -- What is wrong with an expression: one kind of thing at most, since a text spells one tree.
-use Rattle.std.proofs.Common.{◌≡◌, inl, inr, ℕ, ◌<◌, ◌≤◌, Bool, true, false, ◌||◌, ◌&&◌, not, List, [], ◌∷◌, append_assoc, length, Option, Some, None, Result, Ok, Err, is_some, refl, sym, ap, subst, ◌∙◌, arith}
+use Rattle.std.proofs.Common.{◌≡◌, inl, inr, ℕ, ◌<◌, ◌≤◌, Bool, true, false, ◌||◌, ◌&&◌, not, List, [], ◌∷◌, append_assoc, length}
+use Rattle.std.proofs.Common.{Option, Some, None, Result, Ok, Err, is_some, refl, sym, ap, subst, ◌∙◌, arith}
 use Rattle.std.specs.Prelude.{IsSomeAnd, MatchOption, unwrap_or}
 use Rattle.std.specs.Borrow.{Bor}
 use Rattle.ob_base.specs.Limits.{max_expression_bytes, max_expression_depth}
@@ -24,7 +25,7 @@ use Rattle.ob_definition.specs.Ranking.{rank}
 use Rattle.ob_schema.specs.Faults.{HasLongText, HasTextFault, HasUnknownName, HasWrongKind, IsTextFault}
 use Rattle.ob_schema.specs.Finds.{found_at}
 use Rattle.ob_schema.specs.Formulas.{HasFormula, HasTree, IsPath, is_path, Place, RelatedByPath, Spelled, expression_text}
-use Rattle.ob_schema.specs.Telling.{IsFormulaWrong, IsReadingWrong}
+use Rattle.ob_schema.specs.Telling.{IsFormulaWrong, IsReadingWrong, IsTextWrong}
 
 -- no text is both given and not
 one_text : (o : Option (List ℕ)) (a b : List ℕ) → o ≡ Some a → o ≡ Some b → a ≡ b
@@ -68,7 +69,7 @@ module _ (unique : (tokens : List Lexeme) → SpellAtMostOneTree tokens) (p : Pl
       unique (lexemes x.text) a b x.is_tree
       (subst (λ (text : List ℕ). IsExpression b (lexemes text)) (one_text (expression_text p.member.def) y.text x.text y.given x.given) y.is_tree)
 
-  one_tree_of : (a b : Tree) → HasTree p.member.def a → HasTree p.member.def b → a ≡ b
+  pub one_tree_of : (a b : Tree) → HasTree p.member.def a → HasTree p.member.def b → a ≡ b
   one_tree_of a b x y = same_tree a b x.spelled y.spelled
 
   -- a long text spells nothing here, and isn't read at all
@@ -134,66 +135,56 @@ module _ (unique : (tokens : List Lexeme) → SpellAtMostOneTree tokens) (p : Pl
   right tree typed f (wrong.Text why) h = tree_right tree why f.has_tree h.1
   right tree typed f _ h = h
 
-  -- so what is wrong otherwise is of one variant
+  -- so what is wrong with it is of one variant
   abbrev Alike : Wrong → Wrong → Spot → Type 0
   Alike w v spot = rank (fault_at w spot) ≡ rank (fault_at v spot)
 
-  by_name : (spot : Spot) → HasUnknownName p → (w : Wrong) → IsFormulaWrong p w → Alike w wrong.Field spot
+  by_name : (spot : Spot) → HasUnknownName p → (w : Wrong) → IsReadingWrong p w → Alike w wrong.Field spot
   by_name spot name wrong.Field h = refl
   by_name spot name wrong.Kind h = absurd (name_not_kind name h)
-  by_name spot name wrong.Path (inl (tree, typed, f, any)) = absurd (name_not_right name tree typed f)
-  by_name spot name wrong.Path (inr (tree, typed, f, any)) = absurd (name_not_right name tree typed f)
-  by_name spot name wrong.Limit (inl long) = absurd (not_long name.0 name.1 long)
-  by_name spot name wrong.Limit (inr (tree, typed, f, any)) = absurd (name_not_right name tree typed f)
+  by_name spot name wrong.Limit long = absurd (not_long name.0 name.1 long)
   by_name spot name (wrong.Text why) h = absurd (tree_right name.0 why name.1 h.1)
   by_name spot name _ h = absurd h
 
-  by_kind : (spot : Spot) → HasWrongKind p → (w : Wrong) → IsFormulaWrong p w → Alike w wrong.Kind spot
-  by_kind spot kind wrong.Field (inl name) = absurd (name_not_kind name kind)
-  by_kind spot kind wrong.Field (inr (tree, typed, f, any)) = absurd (kind_not_right kind tree typed f)
+  by_kind : (spot : Spot) → HasWrongKind p → (w : Wrong) → IsReadingWrong p w → Alike w wrong.Kind spot
+  by_kind spot kind wrong.Field name = absurd (name_not_kind name kind)
   by_kind spot kind wrong.Kind h = refl
-  by_kind spot kind wrong.Path (inl (tree, typed, f, any)) = absurd (kind_not_right kind tree typed f)
-  by_kind spot kind wrong.Path (inr (tree, typed, f, any)) = absurd (kind_not_right kind tree typed f)
-  by_kind spot kind wrong.Limit (inl long) = absurd (not_long kind.0 kind.1 long)
-  by_kind spot kind wrong.Limit (inr (tree, typed, f, any)) = absurd (kind_not_right kind tree typed f)
+  by_kind spot kind wrong.Limit long = absurd (not_long kind.0 kind.1 long)
   by_kind spot kind (wrong.Text why) h = absurd (tree_right kind.0 why kind.1 h.1)
   by_kind spot kind _ h = absurd h
 
-  by_length : (spot : Spot) → HasLongText p → (w : Wrong) → IsFormulaWrong p w → Alike w wrong.Limit spot
-  by_length spot long wrong.Field (inl name) = absurd (not_long name.0 name.1 long)
-  by_length spot long wrong.Field (inr (tree, typed, f, any)) = absurd (not_long tree f.has_tree long)
+  by_length : (spot : Spot) → HasLongText p → (w : Wrong) → IsReadingWrong p w → Alike w wrong.Limit spot
+  by_length spot long wrong.Field name = absurd (not_long name.0 name.1 long)
   by_length spot long wrong.Kind kind = absurd (not_long kind.0 kind.1 long)
-  by_length spot long wrong.Path (inl (tree, typed, f, any)) = absurd (not_long tree f.has_tree long)
-  by_length spot long wrong.Path (inr (tree, typed, f, any)) = absurd (not_long tree f.has_tree long)
   by_length spot long wrong.Limit h = refl
   by_length spot long (wrong.Text why) h = absurd (long_not_read why long h.1)
   by_length spot long _ h = absurd h
 
-  by_text : (spot : Spot) (why : ExprFault) → HasTextFault p why → (w : Wrong) → IsFormulaWrong p w → Alike w (wrong.Text why) spot
-  by_text spot why fault wrong.Field (inl name) = absurd (tree_right name.0 why name.1 fault)
-  by_text spot why fault wrong.Field (inr (tree, typed, f, any)) = absurd (tree_right tree why f.has_tree fault)
+  by_text : (spot : Spot) (why : ExprFault) → HasTextFault p why → (w : Wrong) → IsReadingWrong p w → Alike w (wrong.Text why) spot
+  by_text spot why fault wrong.Field name = absurd (tree_right name.0 why name.1 fault)
   by_text spot why fault wrong.Kind kind = absurd (tree_right kind.0 why kind.1 fault)
-  by_text spot why fault wrong.Path (inl (tree, typed, f, any)) = absurd (tree_right tree why f.has_tree fault)
-  by_text spot why fault wrong.Path (inr (tree, typed, f, any)) = absurd (tree_right tree why f.has_tree fault)
-  by_text spot why fault wrong.Limit (inl long) = absurd (long_not_read why long fault)
-  by_text spot why fault wrong.Limit (inr (tree, typed, f, any)) = absurd (tree_right tree why f.has_tree fault)
+  by_text spot why fault wrong.Limit long = absurd (long_not_read why long fault)
   by_text spot why fault (wrong.Text other) h = refl
   by_text spot why fault _ h = absurd h
 
-  pub one_variant : (spot : Spot) (v : Wrong) → IsReadingWrong p v → (w : Wrong) → IsFormulaWrong p w → rank (fault_at w spot) ≡ rank (fault_at v spot)
+  pub one_variant : (spot : Spot) (v : Wrong) → IsReadingWrong p v → (w : Wrong) → IsReadingWrong p w → rank (fault_at w spot) ≡ rank (fault_at v spot)
   one_variant spot wrong.Field h w = by_name spot h w
   one_variant spot wrong.Kind h w = by_kind spot h w
   one_variant spot wrong.Limit h w = by_length spot h w
   one_variant spot (wrong.Text why) h w = by_text spot why h.1 w
   one_variant spot _ h w = absurd h
 
-  -- what is wrong with an expression itself is wrong with it
-  pub is_formula_wrong : (v : Wrong) → IsReadingWrong p v → IsFormulaWrong p v
-  is_formula_wrong wrong.Field h = inl h
-  is_formula_wrong wrong.Kind h = h
-  is_formula_wrong wrong.Limit h = inl h
-  is_formula_wrong (wrong.Text why) h = h
-  is_formula_wrong _ h = absurd h
+  -- a text in which something is wrong spells no tree
+  pub no_tree : (w : Wrong) → IsTextWrong p w → (tree : Tree) → HasTree p.member.def tree → ⊥
+  no_tree wrong.Limit long tree has = not_long tree has long
+  no_tree (wrong.Text why) h tree has = tree_right tree why has h.1
+  no_tree _ h tree has = h
+
+  -- and so its expression is wrong
+  pub text_wrong : (w : Wrong) → IsTextWrong p w → IsReadingWrong p w
+  text_wrong wrong.Limit h = h
+  text_wrong (wrong.Text why) h = h
+  text_wrong _ h = absurd h
 
 -- a field without an expression of its own has nothing wrong
 pub not_computed : (p : Place) → is_own_computed p.member ≡ false → (w : Wrong) → IsFormulaWrong p w → ⊥
@@ -201,12 +192,12 @@ not_computed p plain w h = let e : ◌≡◌ {A = Bool} false true = sym plain �
   where
     own : (w : Wrong) → IsFormulaWrong p w → is_own_computed p.member ≡ true
     own wrong.Field (inl name) = name.2
-    own wrong.Field (inr (tree, typed, f, any)) = f.computed
+    own wrong.Field (inr bad) = bad.0
     own wrong.Kind kind = kind.2
     own wrong.Path (inl (tree, typed, f, any)) = f.computed
-    own wrong.Path (inr (tree, typed, f, any)) = f.computed
+    own wrong.Path (inr bad) = bad.0
     own wrong.Limit (inl long) = long.0
-    own wrong.Limit (inr (tree, typed, f, any)) = f.computed
+    own wrong.Limit (inr long) = long.1.0
     own (wrong.Text why) h = h.0
     own _ h = absurd h
 

@@ -1,26 +1,16 @@
 -- What a field reads: by the paths of its formula, and by the steps at their ends.
-use Rattle.std.proofs.Common.{◌≡◌, ℕ, zero, suc, ◌+◌, ◌-◌, ◌<◌, ◌≤◌, List, [], ◌∷◌, length, length-append, get_or, Option, Some, None, Result, Ok, refl, sym, ap, subst, ◌∙◌, arith}
+use Rattle.std.proofs.Common.{◌≡◌, ℕ, zero, suc, ◌+◌, ◌-◌, ◌<◌, ◌≤◌, List, [], ◌∷◌, length, length-append, get_or, Option, Some, None, refl, sym, ap, subst, ◌∙◌, arith}
 use Rattle.std.proofs.lemmas.Bool.{false≢true}
 use Rattle.std.proofs.lemmas.Option.{get_or_from_slice_get, same_Some, slice_get_within}
 use Rattle.std.specs.Borrow.{Bor}
 use Rattle.std.specs.Option.{option_copied}
-use Rattle.std.specs.Prelude.{◌↔◌, Contains, IsSome, IsSomeAnd, option_and_then, option_map, slice_get}
-use Rattle.ob_syntax.specs.Grammar.{IsExpression, SpellAtMostOneTree, Tree}
-use Rattle.ob_syntax.specs.Lexemes.{Lexeme, lexemes}
-use Rattle.ob_expr.specs.Checking.{typed_of}
-use Rattle.ob_expr.specs.TypedTree.{TypedTree, typed_tree_of}
-use Rattle.ob_definition.specs.declared.definition.FieldDef.{FieldDef}
+use Rattle.std.specs.Prelude.{◌↔◌, IsSome, IsSomeAnd, option_and_then, option_map, slice_get}
 use Rattle.ob_definition.specs.Gathered.{Gathered}
-use Rattle.ob_definition.specs.Members.{Member}
-use Rattle.ob_schema.specs.declared.info.Formula.{Formula}
 use Rattle.ob_schema.specs.declared.info.Step.{Step}
 use Rattle.ob_schema.specs.Built.{numbered}
-use Rattle.ob_schema.specs.Finds.{found_at}
-use Rattle.ob_schema.specs.Formulas.{HasFormula, Place, Spelled, formula_paths}
 use Rattle.ob_schema.specs.Graphs.{IsReadOn, all_steps}
 use Rattle.ob_schema.specs.Paths.{EndsIn}
-use Rattle.ob_schema.specs.Strata.{IsComputedAt, IsMember, IsPathOf}
-use Rattle.ob_schema.specs.Telling.{IsFormulaOf, steps_in}
+use Rattle.ob_schema.specs.Strata.{IsComputedAt}
 use Rattle.ob_schema.proofs.Steps.{slice_get-right, step_once}
 
 -- options that are some
@@ -28,20 +18,24 @@ pub some_of : {X : Type 0} (o : Option X) → IsSome o → (x : X) × (o ≡ Som
 some_of None is = absurd (false≢true is)
 some_of (Some x) is = (x, refl)
 
+-- an option that is something such, and what is such in it
 pub some_and : {X : Type 0} (o : Option X) (P : X → Type 0) → IsSomeAnd o P → (x : X) × (o ≡ Some x) × P x
 some_and None P is = absurd is
 some_and (Some x) P is = (x, refl, is)
 
+-- what is known of an option, by what it is
 pub at_some : {X : Type 0} (o : Option X) (P : X → Type 0) (x : X) → o ≡ Some x → IsSomeAnd o P → P x
 at_some {X} o P x is held = subst (λ (p : Option X). IsSomeAnd p P) is held
 
 pub from_some : {X : Type 0} (o : Option X) (P : X → Type 0) (x : X) → o ≡ Some x → P x → IsSomeAnd o P
 from_some {X} o P x is held = subst (λ (p : Option X). IsSomeAnd p P) (sym is) held
 
+-- what a step on from an option leads to
 pub and_then_there : {A B : Type 0} (f : A → Option B) (o : Option A) (P : B → Type 0) → IsSomeAnd (option_and_then f o) P → (x : A) × (y : B) × (o ≡ Some x) × (f x ≡ Some y) × P y
 and_then_there f None P is = absurd is
 and_then_there f (Some x) P is = let found = some_and (f x) P is in (x, found.0, refl, found.1, found.2)
 
+-- the same of what is borrowed, copied or read
 pub copied_to : {X : Type 0} (o : Option (Bor X)) (P : X → Type 0) → IsSomeAnd (option_copied o) P → IsSomeAnd o (λ x. P x.now)
 copied_to None P is = is
 copied_to (Some x) P is = is
@@ -63,55 +57,10 @@ pub numbered_within : {X : Type 0} (xs : List X) (n : ℕ) (x : X) → numbered 
 numbered_within xs zero x is = absurd (cc)
 numbered_within xs (suc i) x is = let inside = slice_get_within xs i x is in (omega arith, omega arith)
 
+-- and what is read at its place is it
 pub numbered_same : {X : Type 0} (xs : List X) (n : ℕ) (x y : X) → numbered xs n ≡ Some x → y ≡ get_or xs (n - 1) y → y ≡ x
 numbered_same xs zero x y is read = absurd (cc)
 numbered_same xs (suc i) x y is read = let place : suc i - 1 ≡ i = omega arith in read ∙ ap (λ (k : ℕ). get_or xs k y) place ∙ get_or_from_slice_get xs i x y is
-
--- where the formula of a field stands
-abbrev pub place_at : List Gathered → Step → Member → Place
-place_at models at m = record { models = models; number = at.model; member = m }
-
--- where tokens spell one tree at most, which is a law of expressions
-module _ (unique : (tokens : List Lexeme) → SpellAtMostOneTree tokens) where
-  -- a text spells one tree, which has one type
-  same_tree : (f : FieldDef) (a b : Tree) → Spelled f a → Spelled f b → a ≡ b
-  same_tree f a b first second =
-      let text : first.text ≡ second.text = same_Some first.text second.text (sym first.given ∙ second.given) in
-      unique (lexemes second.text) a b (subst (λ (t : List ℕ). IsExpression a (lexemes t)) text first.is_tree) second.is_tree
-
-  same_Ok : {T E : Type 0} (a b : T) → ◌≡◌ {A = Result T E} (Ok a) (Ok b) → a ≡ b
-  same_Ok a b is = cc
-
-  same_typed : (place : Place) (a b : Tree) (s t : TypedTree) → a ≡ b → HasFormula place a s → HasFormula place b t → s ≡ t
-  same_typed place a b s t same first second = same_Ok s t (sym first.checked ∙ ap (typed_of (found_at place.models) place.number) same ∙ second.checked)
-
-  -- the paths of a field are those on which its formula depends
-  pub IsPathOf-formula : (models : List Gathered) (at : Step) (g : Gathered) (m : Member) (formula : Option Formula) → IsMember models at g m
-      → ((h : Gathered) (n : Member) → IsMember models at h n → IsFormulaOf (place_at models at n) formula) → (path : List Step) → IsPathOf models at path ↔ IsSomeAnd formula (λ f. Contains (steps_in f.depends) path)
-  IsPathOf-formula models at g m None is_member each path = (λ p. (each p.model p.member p.is_member).0 p.tree p.typed p.formula, λ none. absurd none)
-  IsPathOf-formula models at g m (Some f) is_member each path = (to, from)
-    where
-      to : IsPathOf models at path → Contains (steps_in f.depends) path
-      to p =
-          let own = each p.model p.member p.is_member in
-          let place = place_at models at p.member in
-          let tree = same_tree p.member.def p.tree own.0 p.formula.has_tree.spelled own.1.has_tree.spelled in
-          let typed = same_typed place p.tree own.0 p.typed (typed_tree_of f.typed) tree p.formula own.1 in
-          let paths = ap (λ (t : Tree). formula_paths place t p.typed) tree ∙ ap (λ (t : TypedTree). formula_paths place own.0 t) typed in
-          subst (λ (l : List (List Step)). Contains l path) (paths ∙ sym own.2) p.among
-
-      from : Contains (steps_in f.depends) path → IsPathOf models at path
-      from among =
-          let own = each g m is_member in
-          record {
-            model = g;
-            member = m;
-            is_member = is_member;
-            tree = own.0;
-            typed = typed_tree_of f.typed;
-            formula = own.1;
-            among = subst (λ (l : List (List Step)). Contains l path) own.2 among;
-          }
 
 -- the last step of a path
 ends_at : (path : List Step) (last : Step) (i : ℕ) → suc i ≡ length path → slice_get path i ≡ Some last → EndsIn path last
@@ -120,6 +69,7 @@ ends_at (x ∷ []) last zero is at = ([], ap (λ (y : Step). y ∷ []) (same_Som
 ends_at (x ∷ y ∷ path) last zero is at = absurd (omega arith)
 ends_at (x ∷ path) last (suc i) is at = let rest = ends_at path last i (omega arith) at in (x ∷ rest.0, ap (λ (l : List Step). x ∷ l) rest.1)
 
+-- a path ends in its last step, and in no other
 pub EndsIn-last : (path : List Step) (last : Step) → slice_get path (length path - 1) ≡ Some last → EndsIn path last
 EndsIn-last path last at = ends_at path last (length path - 1) (let inside = slice_get_within path (length path - 1) last at in omega arith) at
 
@@ -132,11 +82,13 @@ pub EndsIn-same : (path : List Step) (a b : Step) → EndsIn path a → EndsIn p
 EndsIn-same path a b first second = same_Some a b (sym (last_of path a first) ∙ last_of path b second)
 
 module _ (models : List Gathered) (steps : List Step) (are : steps ≡ all_steps models) where
+  -- a step stands at one node
   pub node_once : (a b : ℕ) (step : Step) → slice_get steps a ≡ Some step → slice_get steps b ≡ Some step → a ≡ b
   node_once a b step first second =
       step_once models a b step (sym (ap (λ (l : List Step). slice_get l a) are) ∙ first) (sym (ap (λ (l : List Step). slice_get l b) are) ∙ second)
 
   module _ (path : List Step) (last : Step) (node : ℕ) (at : slice_get steps node ≡ Some last) (ends : EndsIn path last) where
+    -- a node that is read through a path is that of its last step
     read_from : (b : ℕ) → IsReadOn models steps path b → (node ≡ b) × IsComputedAt models last
     read_from b read =
         let found = some_and (slice_get steps b) (λ (s : Step). IsComputedAt models s × EndsIn path s) read in
@@ -150,5 +102,6 @@ module _ (models : List Gathered) (steps : List Step) (are : steps ≡ all_steps
       λ read. ap Some (read_from b read).0,
     )
 
+    -- none is read where that is not computed
     pub IsReadOn-none : (IsComputedAt models last → ⊥) → (b : ℕ) → IsReadOn models steps path b → ⊥
     IsReadOn-none not_computed b read = not_computed (read_from b read).1

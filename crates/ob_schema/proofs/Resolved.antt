@@ -1,13 +1,15 @@
 -- What a model's keys and a field's keys name is there, where nothing stands against the models.
-use Rattle.std.proofs.Common.{◌≡◌, ℕ, suc, ◌⊎◌, ◌++◌, Bool, true, false, Option, Some, None, List, [], get_or, inl, inr, refl, sym, ap, subst, ◌∙◌}
-use Rattle.std.specs.Prelude.{Any, Contains, IfSome, IsSome, IsSomeAnd, MatchOption, slice_get}
+use Rattle.std.proofs.Common.{◌≡◌, ℕ, suc, ◌⊎◌, ◌++◌, true, false, Option, Some, None, List, [], get_or, inl, inr, refl, sym, ap, subst, ◌∙◌}
+use Rattle.std.specs.Prelude.{Any, Contains, IfSome, IsSome, IsSomeAnd, MatchOption, option_map, slice_get}
 use Rattle.std.specs.List.{position_or_len}
 use Rattle.std.specs.Str.{bytes_eq}
+use Rattle.std.proofs.lemmas.Bool.{false≢true}
 use Rattle.std.proofs.lemmas.List.Elements.{Contains-append_left, Contains-append_right}
 use Rattle.std.proofs.lemmas.List.Folds.{find_at}
 use Rattle.ob_base.specs.declared.id.FieldNo.{FieldNo}
 use Rattle.ob_base.specs.declared.id.ModelNo.{ModelNo}
 use Rattle.ob_syntax.specs.Grammar.{Tree}
+use Rattle.ob_expr.specs.declared.typed.Typed.{Typed}
 use Rattle.ob_expr.specs.TypedTree.{TypedTree, typed_tree_of}
 use Rattle.ob_definition.specs.declared.definition.FieldDef.{FieldDef}
 use Rattle.ob_definition.specs.declared.fault.SchemaFault.{SchemaFault}
@@ -18,9 +20,10 @@ use Rattle.ob_definition.specs.Gathered.{DeclaredOrder, Gathered, model_of}
 use Rattle.ob_definition.specs.Members.{Member, hidden_members, is_own_computed, members_of, model_at, named, own_members}
 use Rattle.ob_definition.specs.Orders.{Term, order_terms}
 use Rattle.ob_definition.specs.Rooms.{spot_at}
+use Rattle.ob_schema.specs.declared.formulas.DraftFormula.{DraftFormula}
 use Rattle.ob_schema.specs.declared.info.Formula.{Formula}
 use Rattle.ob_schema.specs.declared.model.Model.{Model as KeptModel}
-use Rattle.ob_schema.specs.Building.{ArePlaced, AreResolved, IsFieldResolved, IsResolved}
+use Rattle.ob_schema.specs.Building.{ArePlaced, AreResolved, IsFieldResolved, IsResolved, formula_from}
 use Rattle.ob_schema.specs.Built.{IsFormula}
 use Rattle.ob_schema.specs.Faults.{HasUnknown, HasUnknownBack, names_of_terms}
 use Rattle.ob_schema.specs.Formulas.{HasFormula, Place}
@@ -28,7 +31,7 @@ use Rattle.ob_schema.specs.ModelFields.{members_in}
 use Rattle.ob_schema.specs.Modelling.{IsModelled}
 use Rattle.ob_schema.specs.Paths.{step_at}
 use Rattle.ob_schema.specs.Strata.{IsStratum}
-use Rattle.ob_schema.specs.Telling.{AreKeysWrong, IsFormulaOf, IsFormulaWrong, IsKeyFault, IsParentWrong, IsReadingWrong, spot_of}
+use Rattle.ob_schema.specs.Telling.{AreKeysWrong, IsFormulaOf, IsFormulaWrong, IsKeyFault, IsParentWrong, IsReadingWrong, IsRight, spot_of, steps_in}
 use Rattle.ob_schema.proofs.Delegated.{member_cases}
 use Rattle.ob_schema.proofs.NamedFields.{is_member_at, member_at}
 use Rattle.ob_schema.proofs.Somes.{read_within}
@@ -131,29 +134,36 @@ module _ (models : List Gathered) (resolved : AreResolved models) where
     place_at m = record { models = models; number = number; member = m }
 
     -- a computed field has its formula
-    formula_there : (m : Member) → Contains (members_of models g) m ⊎ Contains (hidden_members g) m → (formula : Option Formula) → IsFormulaOf (place_at m) formula
+    formula_there : (m : Member) → Contains (members_of models g) m ⊎ Contains (hidden_members g) m → (formula : Option DraftFormula) → IsFormulaOf (place_at m) formula
         → is_own_computed m ≡ true → (tree : Tree) × (typed : TypedTree) × HasFormula (place_at m) tree typed
-    formula_there m here None of computed = let told = of.1 computed in absurd (right_formula number g there m here told.0 (reading_wrong (place_at m) told.0 told.1))
-    formula_there m here (Some formula) of computed = (of.0, typed_tree_of formula.typed, of.1)
+    formula_there m here None plain computed = absurd (false≢true (sym plain ∙ computed))
+    formula_there m here (Some draft) of computed = by draft.typed of.typed
+      where
+        by : (o : Option Typed) → MatchOption o ((w : Wrong) × IsReadingWrong (place_at m) w) (IsRight (place_at m) (steps_in draft.depends))
+            → (tree : Tree) × (typed : TypedTree) × HasFormula (place_at m) tree typed
+        by None told = absurd (right_formula number g there m here told.0 (reading_wrong (place_at m) told.0 told.1))
+        by (Some typed) right = (right.0, typed_tree_of typed, right.1)
 
-    pub field_resolved : (m : Member) → Contains (members_of models g) m ⊎ Contains (hidden_members g) m → (formula : Option Formula) → IsFormulaOf (place_at m) formula → IsFieldResolved (place_at m)
+    pub field_resolved : (m : Member) → Contains (members_of models g) m ⊎ Contains (hidden_members g) m → (formula : Option DraftFormula) → IsFormulaOf (place_at m) formula → IsFieldResolved (place_at m)
     field_resolved m here formula of =
         let back = back_resolved number g there m here in
         record { inverse = back.0; mirror = back.1; formula = formula_there m here formula of }
 
-    formula_placed : (m : Member) → Contains (members_of models g) m ⊎ Contains (hidden_members g) m → (field : FieldNo) (formula : Option Formula) → IsFormulaOf (place_at m) formula
-        → ((own : Formula) → formula ≡ Some own → IsStratum models (step_at number field) own.stratum) → MatchOption formula (is_own_computed m ≡ false) (IsFormula (place_at m) field)
-    formula_placed m here field None of strata = by (is_own_computed m) refl
+    formula_placed : (m : Member) → Contains (members_of models g) m ⊎ Contains (hidden_members g) m → (field : FieldNo) (formula : Option DraftFormula) → IsFormulaOf (place_at m) formula
+        → ((draft : DraftFormula) → formula ≡ Some draft → IsStratum models (step_at number field) draft.stratum)
+        → MatchOption (formula_from formula) (is_own_computed m ≡ false) (IsFormula (place_at m) field)
+    formula_placed m here field None plain strata = plain
+    formula_placed m here field (Some draft) of strata = by draft.typed of.typed
       where
-        by : (b : Bool) → is_own_computed m ≡ b → b ≡ false
-        by false e = refl
-        by true e = let told = of.1 e in absurd (right_formula number g there m here told.0 (reading_wrong (place_at m) told.0 told.1))
-    formula_placed m here field (Some formula) of strata = record { tree = of.0; has = of.1; depends = of.2; stratum = strata formula refl }
+        by : (o : Option Typed) → MatchOption o ((w : Wrong) × IsReadingWrong (place_at m) w) (IsRight (place_at m) (steps_in draft.depends))
+            → MatchOption (option_map (λ t. let own : Formula = record { typed = t; depends = draft.depends; stratum = draft.stratum } in own) o) (is_own_computed m ≡ false) (IsFormula (place_at m) field)
+        by None told = absurd (right_formula number g there m here told.0 (reading_wrong (place_at m) told.0 told.1))
+        by (Some typed) right = record { tree = right.0; has = right.1; depends = right.2; stratum = strata draft refl }
 
     -- each field of the program's model stands at its number, with its formula
-    pub are_placed : (model : KeptModel) (is : IsModelled models g model) (own : List (Option Formula))
-        → ((k : ℕ) (m : Member) (formula : Option Formula) → slice_get (members_in model.members.items) k ≡ Some m → slice_get own k ≡ Some formula → IsFormulaOf (place_at m) formula)
-        → ((k : ℕ) (formula : Formula) → slice_get own k ≡ Some (Some formula) → IsStratum models (step_at number (record { 0 = suc k })) formula.stratum)
+    pub are_placed : (model : KeptModel) (is : IsModelled models g model) (own : List (Option DraftFormula))
+        → ((k : ℕ) (m : Member) (formula : Option DraftFormula) → slice_get (members_in model.members.items) k ≡ Some m → slice_get own k ≡ Some formula → IsFormulaOf (place_at m) formula)
+        → ((k : ℕ) (formula : DraftFormula) → slice_get own k ≡ Some (Some formula) → IsStratum models (step_at number (record { 0 = suc k })) formula.stratum)
         → ArePlaced models model own g number
     are_placed model is own formulas strata k m formula at given =
         let field : FieldNo = record { 0 = suc k } in
@@ -164,7 +174,7 @@ module _ (models : List Gathered) (resolved : AreResolved models) where
           there = there;
           member = is_member_at models g model is (step_at number field) m there at;
           resolved = field_resolved m here formula of;
-          formula = formula_placed m here field formula of (λ f e. strata k f (given ∙ ap (λ (o : Option Formula). Some o) e));
+          formula = formula_placed m here field formula of (λ f e. strata k f (given ∙ ap (λ (o : Option DraftFormula). Some o) e));
         }
       where
         among : {A B : Type 0} (m : Member) → (Contains (members_of models g) m × A) ⊎ (Contains (hidden_members g) m × B) → Contains (members_of models g) m ⊎ Contains (hidden_members g) m

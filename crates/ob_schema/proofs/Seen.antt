@@ -1,5 +1,6 @@
 -- What a search marks as seen, and what waits in it.
-use Rattle.std.proofs.Common.{◌≡◌, ◌≢◌, ◌⊎◌, ◌+◌, ◌<◌, [], ◌∷◌, ◌++◌, ◌∙◌, ℕ, zero, suc, Bool, true, false, cond, not, List, length, length-append, get_or, set, get_or-set_same, Some, inl, inr, refl, sym, ap, subst, true≢false, arith}
+use Rattle.std.proofs.Common.{◌≡◌, ◌≢◌, ◌⊎◌, ◌+◌, ◌<◌, [], ◌∷◌, ◌++◌, ◌∙◌, ℕ, zero, suc, Bool, true, false, cond, not, List, length, length-append}
+use Rattle.std.proofs.Common.{get_or, set, get_or-set_same, Some, inl, inr, refl, sym, ap, subst, true≢false, arith}
 use Rattle.std.proofs.lemmas.Bool.{cases_eq}
 use Rattle.std.proofs.lemmas.List.{length-set}
 use Rattle.std.proofs.lemmas.List.Elements.{Contains-append_left, Contains-push, Contains-push_cases}
@@ -13,6 +14,7 @@ use Rattle.ob_schema.proofs.LookUps.{contains-none}
 pub marked-at : (seen : List Bool) (b : ℕ) (mark : Bool) → b < length seen → get_or seen b false ≡ mark → slice_get seen b ≡ Some mark
 marked-at seen b mark inside is = slice_get-get_or seen b false inside ∙ ap Some is
 
+-- a mark is not both set and unset
 not_both : (seen : List Bool) (b : ℕ) → slice_get seen b ≡ Some true → slice_get seen b ≡ Some false → ⊥
 not_both seen b on off = true≢false (same_Some true false (sym on ∙ off))
 
@@ -20,6 +22,7 @@ not_both seen b on off = true≢false (same_Some true false (sym on ∙ off))
 slice_get-set_same : (seen : List Bool) (b : ℕ) (mark : Bool) → b < length seen → slice_get (set seen b mark) b ≡ Some mark
 slice_get-set_same seen b mark inside = slice_get-get_or (set seen b mark) b mark (let e = length-set seen b mark in omega arith) ∙ ap Some (get_or-set_same seen b mark mark inside)
 
+-- and of any other
 slice_get-set_other : (seen : List Bool) (i b : ℕ) (mark : Bool) → b ≢ i → slice_get (set seen i mark) b ≡ slice_get seen b
 slice_get-set_other [] i b mark other = refl
 slice_get-set_other (x ∷ seen) zero zero mark other = absurd (other refl)
@@ -27,6 +30,7 @@ slice_get-set_other (x ∷ seen) zero (suc b) mark other = refl
 slice_get-set_other (x ∷ seen) (suc i) zero mark other = refl
 slice_get-set_other (x ∷ seen) (suc i) (suc b) mark other = slice_get-set_other seen i b mark (λ e. other (ap suc e))
 
+-- one unset mark less
 count-set : (seen : List Bool) (i : ℕ) → slice_get seen i ≡ Some false → count_by not seen ≡ count_by not (set seen i true) + 1
 count-set seen i unseen =
     let weight : Bool → ℕ = λ b. cond (not b) 1 0 in
@@ -41,6 +45,7 @@ pub record IsSeen (Among : ℕ → Type 0) (seen : List Bool) (waiting : List �
   pub waits : (b : ℕ) → Contains next b ↔ (Contains waiting b ⊎ ((slice_get seen b ≡ Some false) × Among b))
   pub fewer : length next + count_by not new ≡ length waiting + count_by not seen
 
+-- nothing was added
 pub IsSeen-none : (seen : List Bool) (waiting : List ℕ) → IsSeen (Contains []) seen waiting seen waiting
 IsSeen-none seen waiting = record {
   count = refl;
@@ -50,7 +55,8 @@ IsSeen-none seen waiting = record {
 }
 
 -- the same nodes
-pub IsSeen-same : (A B : ℕ → Type 0) (seen : List Bool) (waiting : List ℕ) (new : List Bool) (next : List ℕ) → ((b : ℕ) → A b → B b) → ((b : ℕ) → B b → A b) → IsSeen A seen waiting new next → IsSeen B seen waiting new next
+pub IsSeen-same : (A B : ℕ → Type 0) (seen : List Bool) (waiting : List ℕ) (new : List Bool) (next : List ℕ) → ((b : ℕ) → A b → B b) → ((b : ℕ) → B b → A b)
+    → IsSeen A seen waiting new next → IsSeen B seen waiting new next
 IsSeen-same A B seen waiting new next to from is = record {
   count = is.count;
   marked = λ b. (
@@ -64,6 +70,7 @@ IsSeen-same A B seen waiting new next to from is = record {
   fewer = is.fewer;
 }
 
+-- at equal lists
 pub IsSeen-on : (row row' : List ℕ) (seen : List Bool) (waiting : List ℕ) (new new' : List Bool) (next next' : List ℕ) → row' ≡ row → new' ≡ new → next' ≡ next
     → IsSeen (Contains row) seen waiting new next → IsSeen (Contains row') seen waiting new' next'
 IsSeen-on row row' seen waiting new new' next next' e f g is = rw (e, f, g) is

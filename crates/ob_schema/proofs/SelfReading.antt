@@ -1,9 +1,11 @@
 -- How a field reads itself, by the paths of its formula, and what is told of it.
-use Rattle.std.proofs.Common.{◌≡◌, ◌≢◌, ◌⊎◌, inl, inr, zero, suc, Bool, true, false, List, [], ◌∷◌, ◌++◌, length, take, map, Some, None, refl, sym, ap, subst, ◌∙◌, arith}
-use Rattle.std.specs.Prelude.{◌&&◌, ◌↔◌, All, Any, Contains, not}
+use Rattle.std.proofs.Common.{◌≡◌, ◌≢◌, ◌⊎◌, inl, inr, ℕ, zero, suc, ◌-◌, ◌<◌, Bool, true, false, List, [], ◌∷◌, ◌++◌, length, take, map, Some, None, refl, sym, ap, subst, ◌∙◌, arith}
+use Rattle.std.specs.Bool.{MatchBool}
+use Rattle.std.specs.List.{AllWithin, HoldsAt}
+use Rattle.std.specs.Prelude.{◌&&◌, ◌↔◌, ◌==◌, All, Any, Contains, IsTrue, not}
 use Rattle.std.proofs.lemmas.Bool.{false≢true}
 use Rattle.std.proofs.lemmas.List.{take_at, length_push}
-use Rattle.std.proofs.lemmas.List.Elements.{All-contains, All-contains_itself, All-weaker}
+use Rattle.std.proofs.lemmas.List.Elements.{All-map, All-contains, All-contains_itself, All-weaker}
 use Rattle.std.proofs.lemmas.Option.{none-some, same_Some}
 use Rattle.ob_definition.specs.declared.wrong.Wrong.{Wrong}
 use Rattle.ob_definition.specs.declared.wrong.Wrong.TheVariants as wrong
@@ -17,6 +19,7 @@ use Rattle.ob_schema.specs.Graphs.{GoesBy, IsSelfWrong, LeadsToItselfBy}
 use Rattle.ob_schema.specs.Paths.{EndsIn}
 use Rattle.ob_schema.specs.Strata.{IsPathOf, IsRecursion, IsToChildren, IsToParent, Reads, ReadsItselfBy}
 use Rattle.ob_schema.specs.Telling.{steps_in}
+use Rattle.ob_schema.proofs.PathTests.{All-unmap, all-is, goes-by, goes-by-front}
 
 -- nothing is told, or one thing
 pub told-none : (IsWrong : Wrong → Type 0) → ((w : Wrong) → IsWrong w → ⊥) → Tells IsWrong None
@@ -31,6 +34,7 @@ front-same front other x y e =
     let count : length other ≡ length front = omega (arith, ap length e, length_push front x, length_push other y) in
     sym (take_at front (x ∷ []) (length front) refl) ∙ ap (take (length front)) e ∙ take_at other (y ∷ []) (length front) count
 
+-- both are true, so the right one is
 and-right : (a b : Bool) → (a && b) ≡ true → b ≡ true
 and-right true b e = e
 and-right false b e = absurd (false≢true e)
@@ -41,6 +45,7 @@ Any-mapped P f [] (k, x, lt, is, p) = absurd (omega (arith, lt))
 Any-mapped P f (z ∷ xs) (zero, x, lt, is, p) = (f x, (zero, omega arith, ap f is), p)
 Any-mapped P f (z ∷ xs) (suc k, x, lt, is, p) = let w = Any-mapped P f xs (k, x, omega (arith, lt), is, p) in (w.0, (suc w.1.0, omega (arith, w.1.1), w.1.2), w.2)
 
+-- and the other way round
 Any-unmapped : {X Y : Type 0} (P : Y → Type 0) (f : X → Y) (xs : List X) (y : Y) → Contains (map f xs) y → P y → Any (λ x. P (f x)) xs
 Any-unmapped P f [] y (k, lt, is) p = absurd (omega (arith, lt))
 Any-unmapped P f (z ∷ xs) y (zero, lt, is) p = (zero, z, omega arith, refl, subst P (sym is) p)
@@ -48,9 +53,34 @@ Any-unmapped P f (z ∷ xs) y (suc k, lt, is) p = let w = Any-unmapped P f xs y 
 
 -- what a path is of is computed
 pub path-computed : (models : List Gathered) (own : Step) (path : List Step) (is : IsPathOf models own path) → is_computed is.member.def ≡ true
-path-computed models own path is = and-right (not (is_delegated is.member.role)) (is_computed is.member.def) is.formula.computed
+path-computed models own path is = and-right (not (is_delegated is.member.role)) (is_computed is.member.def) is.depends.0
+
+-- a path leads through such steps, if it ends here
+abbrev pub LeadsHere : (Step → Type 0) → Step → Path → Type 0
+LeadsHere Through own path = EndsIn path.steps own → GoesBy Through path.steps
+
+-- what tests of paths and of steps answer, by the steps through which paths are to lead
+module _ (Through : Step → Type 0) where
+  -- the paths that end here lead through such steps
+  pub leads-all : (own : Step) (paths : List Path) (r : Bool)
+      → MatchBool r (AllWithin (LeadsHere Through own) paths 0 (length paths)) ((k : ℕ) × (k < length paths) × HoldsAt (λ path. LeadsHere Through own path → ⊥) paths k)
+      → IsTrue r ↔ LeadsToItselfBy Through own (steps_in paths)
+  leads-all own paths r m =
+      let is = all-is (LeadsHere Through own) paths r m in (
+        λ e. All-map (λ steps. EndsIn steps own → GoesBy Through steps) (λ (path : Path). path.steps) paths (is.0 e),
+        λ all. is.1 (All-unmap (λ steps. EndsIn steps own → GoesBy Through steps) (λ (path : Path). path.steps) paths all),
+      )
+
+  -- a path does, where there are some
+  pub goes-all : (steps : List Step) (r : Bool) → 0 < length steps → (length (take (length steps - 1) steps) == 0) ≡ false
+      → MatchBool r (AllWithin Through (take (length steps - 1) steps) 0 (length (take (length steps - 1) steps)))
+      ((k : ℕ) × (k < length (take (length steps - 1) steps)) × HoldsAt (λ s. Through s → ⊥) (take (length steps - 1) steps) k) → IsTrue r ↔ GoesBy Through steps
+  goes-all steps r low some m =
+      let is = all-is Through (take (length steps - 1) steps) r m in
+      (λ e. goes-by Through steps low some (is.0 e), λ goes. is.1 (goes-by-front Through steps goes))
 
 module _ (models : List Gathered) (own : Step) (kept : List Path) (are : (path : List Step) → IsPathOf models own path ↔ Contains (steps_in kept) path) where
+  -- a path ends here
   abbrev Ends : Path → Type 0
   Ends path = EndsIn path.steps own
 
@@ -66,6 +96,7 @@ module _ (models : List Gathered) (own : Step) (kept : List Path) (are : (path :
       of : (steps : List Step) → Contains (steps_in kept) steps → EndsIn steps own → GoesBy Through steps
       of steps among (front, e) = let by = reads front (subst (IsPathOf models own) e ((are steps).1 among)) in (front, own, e, by.0, by.1)
 
+  -- up a tree or down it, by the paths that are kept
   pub recursion-is : LeadsToItselfBy (IsToParent models own.model) own (steps_in kept) ⊎ LeadsToItselfBy (IsToChildren models own.model) own (steps_in kept) → IsRecursion models own
   recursion-is (inl up) = inl (reads-by (IsToParent models own.model) up)
   recursion-is (inr down) = inr (reads-by (IsToChildren models own.model) down)
@@ -81,6 +112,7 @@ module _ (models : List Gathered) (own : Step) (kept : List Path) (are : (path :
       let is = (are path.0).1 path.1 in
       ((is.model, is.member, is.is_member, path-computed models own path.0 is), (path.2.0, subst (IsPathOf models own) path.2.1 is))
 
+  -- and one that does has a path that ends here
   pub ends-there : Reads models own own → Any Ends kept
   ends-there (computed, (front, is)) = Any-unmapped (λ (steps : List Step). EndsIn steps own) (λ (path : Path). path.steps) kept (front ++ own ∷ []) ((are (front ++ own ∷ [])).0 is) (front, refl)
 
@@ -97,11 +129,13 @@ module _ (models : List Gathered) (own : Step) (m : Member) where
   self-fine along says wrong.Recursion is = false≢true (sym is.2 ∙ says)
   self-fine along says _ is = is
 
+  -- in another way than along its tree: a circle
   pub self-circle : (IsRecursion models own → ⊥) → (w : Wrong) → IsSelfWrong models own m w → w ≡ wrong.Cycle
   self-circle never wrong.Cycle is = refl
   self-circle never wrong.Recursion is = absurd (never is.1)
   self-circle never _ is = absurd is
 
+  -- along its tree: a recursion
   pub self-along : IsRecursion models own → (w : Wrong) → IsSelfWrong models own m w → w ≡ wrong.Recursion
   self-along along wrong.Cycle is = absurd (is.1 along)
   self-along along wrong.Recursion is = refl

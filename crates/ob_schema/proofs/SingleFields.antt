@@ -18,7 +18,7 @@ use Rattle.ob_definition.specs.Gathered.{AreWellNamed, DeclaredCheck, Gathered, 
 use Rattle.ob_definition.specs.Members.{Member, check_member, check_members, check_name, count_below, hidden_members, hidden_number, locked_members, members_of, model_at, named, names_of, number_of}
 use Rattle.ob_definition.proofs.Ranks.{is_less}
 use Rattle.ob_schema.specs.declared.info.Step.{Step}
-use Rattle.ob_schema.specs.Resolving.{AreSingle}
+use Rattle.ob_schema.specs.Strata.{IsMember}
 use Rattle.ob_schema.proofs.DelegatedFields.{Contains-to_map, named_some}
 use Rattle.ob_schema.proofs.Distinct.{apart_once, once_apart, times}
 use Rattle.ob_schema.proofs.ModelRank.{model_among}
@@ -26,6 +26,10 @@ use Rattle.ob_schema.proofs.NamedFields.{member_parts}
 use Rattle.ob_schema.proofs.NameOrder.{named_there}
 use Rattle.ob_schema.proofs.OwnNames.{members_once}
 use Rattle.ob_schema.proofs.Counting.{count-cons, count-map, count-weaker, one_more}
+
+-- one field stands at a step
+abbrev pub AreSingle : List Gathered → Type 0
+AreSingle models = (step : Step) (g h : Gathered) (m n : Member) → IsMember models step g m → IsMember models step h n → m ≡ n
 
 -- ---- counts
 

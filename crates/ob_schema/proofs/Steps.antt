@@ -1,7 +1,8 @@
 -- The fields of models as steps: each stands once among them, behind those of the models before its own.
-use Rattle.std.proofs.Common.{◌≡◌, ◌⊎◌, ℕ, zero, suc, ◌+◌, ◌-◌, ◌<◌, ◌≤◌, List, [], ◌∷◌, ◌++◌, length, length-append, append_assoc, append-nil, get_or, Some, inl, inr, refl, sym, ap, subst, ◌∙◌, arith}
-use Rattle.std.proofs.lemmas.List.Elements.{Contains-append_cases, Contains-append_right}
-use Rattle.std.proofs.lemmas.Option.{get_or_from_slice_get, same_Some, slice_get-get_or, slice_get_cases}
+use Rattle.std.proofs.Common.{◌≡◌, ◌⊎◌, ℕ, zero, suc, ◌+◌, ◌-◌, ◌<◌, ◌≤◌, List, [], ◌∷◌, ◌++◌, length, length-append, append_assoc, append-nil, get_or, Some}
+use Rattle.std.proofs.Common.{inl, inr, refl, sym, ap, subst, ◌∙◌, arith}
+use Rattle.std.proofs.lemmas.List.Elements.{Contains-append_cases}
+use Rattle.std.proofs.lemmas.Option.{get_or_from_slice_get, same_Some, slice_get-get_or}
 use Rattle.std.specs.Prelude.{Contains, IsSome, slice_get}
 use Rattle.ob_base.specs.declared.id.FieldNo.{FieldNo}
 use Rattle.ob_base.specs.declared.id.ModelNo.{ModelNo}
@@ -17,28 +18,28 @@ slice_get-left [] ys i x at = absurd (cc)
 slice_get-left (y ∷ xs) ys zero x at = at
 slice_get-left (y ∷ xs) ys (suc i) x at = slice_get-left xs ys i x at
 
+-- and behind the first list
 pub slice_get-right : {X : Type 0} (xs ys : List X) (j i : ℕ) → i ≡ length xs + j → slice_get (xs ++ ys) i ≡ slice_get ys j
 slice_get-right [] ys j i is = let same : i ≡ j = omega arith in ap (slice_get ys) same
 slice_get-right (x ∷ xs) ys j zero is = absurd (omega arith)
 slice_get-right (x ∷ xs) ys j (suc i) is = slice_get-right xs ys j i (omega arith)
 
+-- it is of one of the lists
 pub slice_get-joined : {X : Type 0} (xs ys : List X) (i : ℕ) (x : X) → slice_get (xs ++ ys) i ≡ Some x → ((i < length xs) × (slice_get xs i ≡ Some x)) ⊎ ((j : ℕ) × (i ≡ length xs + j) × (slice_get ys j ≡ Some x))
 slice_get-joined [] ys i x at = inr (i, omega arith, at)
 slice_get-joined (y ∷ xs) ys zero x at = inl (omega arith, at)
-slice_get-joined {X} (y ∷ xs) ys (suc i) x at = elim (slice_get-joined xs ys i x at) as (λ _. ((suc i < length (y ∷ xs)) × (slice_get xs i ≡ Some x)) ⊎ ((j : ℕ) × (suc i ≡ length (y ∷ xs) + j) × (slice_get ys j ≡ Some x))) [
-  | inl left ↦ (let inside = left.0 in inl (omega arith, left.1))
-  | inr right ↦ (let is = right.1 in inr (right.0, omega arith, right.2))
-]
+slice_get-joined {X} (y ∷ xs) ys (suc i) x at =
+    elim (slice_get-joined xs ys i x at) as (λ _. ((suc i < length (y ∷ xs)) × (slice_get xs i ≡ Some x)) ⊎ ((j : ℕ) × (suc i ≡ length (y ∷ xs) + j) × (slice_get ys j ≡ Some x))) [
+      | inl left ↦ (let inside = left.0 in inl (omega arith, left.1))
+      | inr right ↦ (let is = right.1 in inr (right.0, omega arith, right.2))
+    ]
 
+-- a list of one
 pub slice_get-single : {X : Type 0} (y : X) (j : ℕ) (x : X) → slice_get (y ∷ []) j ≡ Some x → (j ≡ 0) × (y ≡ x)
 slice_get-single y zero x at = (refl, same_Some y x at)
 slice_get-single y (suc j) x at = absurd (cc)
 
-pub slice_get-among : {X : Type 0} (xs : List X) (i : ℕ) (x : X) → slice_get xs i ≡ Some x → Contains xs x
-slice_get-among [] i x at = absurd (cc)
-slice_get-among (y ∷ xs) zero x at = (0, omega arith, same_Some y x at)
-slice_get-among (y ∷ xs) (suc i) x at = let rest = slice_get-among xs i x at in let inside = rest.1 in (suc rest.0, omega arith, rest.2)
-
+-- the place of what is there
 pub place_among : {X : Type 0} (xs : List X) (x : X) → Contains xs x → (i : ℕ) × (slice_get xs i ≡ Some x)
 place_among xs x among = (among.0, slice_get-get_or xs among.0 x among.1 ∙ ap Some among.2)
 
@@ -50,10 +51,12 @@ size_of models g = length (members_of models g) + length (hidden_members g)
 abbrev pub step_of : ℕ → ℕ → Step
 step_of number k = let model : ModelNo = record { 0 = number } in let field : FieldNo = record { 0 = suc k } in step_at model field
 
+-- as many steps as fields
 length-steps_upto : (number k : ℕ) → length (steps_upto number k) ≡ k
 length-steps_upto number zero = refl
 length-steps_upto number (suc k) = let rest = length-steps_upto number k in let one = length-append (steps_upto number k) (step_of number k ∷ []) in omega arith
 
+-- what stands at a place is the step of that place
 steps_upto-only : (number k i : ℕ) (step : Step) → slice_get (steps_upto number k) i ≡ Some step → (i < k) × (step ≡ step_of number i)
 steps_upto-only number zero i step at = absurd (cc)
 steps_upto-only number (suc k) i step at = elim (slice_get-joined (steps_upto number k) (step_of number k ∷ []) i step at) as (λ _. (i < suc k) × (step ≡ step_of number i)) [
@@ -62,12 +65,6 @@ steps_upto-only number (suc k) i step at = elim (slice_get-joined (steps_upto nu
       let single = slice_get-single (step_of number k) right.0 step right.2 in
       let place : i ≡ k = omega (arith, right.1, single.0, length-steps_upto number k) in
       (omega arith, sym single.1 ∙ ap (step_of number) (sym place)))
-]
-
-steps_upto-at : (number k i : ℕ) → i < k → slice_get (steps_upto number k) i ≡ Some (step_of number i)
-steps_upto-at number k i inside = elim (slice_get_cases (steps_upto number k) i).1 as (λ _. slice_get (steps_upto number k) i ≡ Some (step_of number i)) [
-  | inl found ↦ found.2 ∙ ap Some (steps_upto-only number k i found.0 found.2).1
-  | inr past ↦ absurd (omega (arith, past.0, length-steps_upto number k))
 ]
 
 module _ (models : List Gathered) where
@@ -111,52 +108,14 @@ module _ (models : List Gathered) where
       by once (inr a) (inl b) = absurd (apart k a.0 b.1 a.2)
       by once (inr a) (inr b) = let same = once a.0 b.0 a.2 b.2 in let first = a.1 in let second = b.1 in omega arith
 
-  -- a step is a field that its model has, by number
-  steps_from-stands : (n : ℕ) (gs : List Gathered) (i : ℕ) (step : Step) → slice_get (steps_from models n gs) i ≡ Some step
-      → (j : ℕ) × (g : Gathered) × (step.model.0 ≡ n + j) × (slice_get gs j ≡ Some g) × (0 < step.field.0) × (step.field.0 ≤ size_of models g)
-  steps_from-stands n [] i step at = absurd (cc)
-  steps_from-stands n (h ∷ more) i step at =
-      elim (slice_get-joined (steps_upto n (size_of models h)) (steps_from models (suc n) more) i step at)
-      as (λ _. (j : ℕ) × (g : Gathered) × (step.model.0 ≡ n + j) × (slice_get (h ∷ more) j ≡ Some g) × (0 < step.field.0) × (step.field.0 ≤ size_of models g)) [
-        | inl left ↦ (
-            let only = steps_upto-only n (size_of models h) i step left.1 in
-            let inside = only.0 in
-            let model = ap (λ (s : Step). s.model.0) only.1 in
-            let field = ap (λ (s : Step). s.field.0) only.1 in
-            (0, h, omega arith, refl, omega arith, omega arith))
-        | inr right ↦ (let rest = steps_from-stands (suc n) more right.0 step right.2 in let same = rest.2 in (suc rest.0, rest.1, omega arith, rest.3, rest.4, rest.5))
-      ]
-
-  pub step_stands : (i : ℕ) (step : Step) → slice_get (all_steps models) i ≡ Some step → (g : Gathered) × (model_at models step.model.0 ≡ Some g) × (0 < step.field.0) × (step.field.0 ≤ size_of models g)
-  step_stands i step at =
-      let found = steps_from-stands 1 models i step at in
-      let number : suc found.0 ≡ step.model.0 = (let is = found.2 in omega arith) in
-      (found.1, subst (λ (n : ℕ). model_at models n ≡ Some found.1) number found.3, found.4, found.5)
-
-  -- and each such field is a step
-  steps_from-among : (n : ℕ) (gs : List Gathered) (j : ℕ) (g : Gathered) (k : ℕ) → slice_get gs j ≡ Some g → k < size_of models g → Contains (steps_from models n gs) (step_of (n + j) k)
-  steps_from-among n [] j g k at inside = absurd (cc)
-  steps_from-among n (h ∷ more) zero g k at inside =
-      let own : k < size_of models h = subst (λ (f : Gathered). k < size_of models f) (sym (same_Some h g at)) inside in
-      let number : n ≡ n + 0 = omega arith in
-      subst (λ (m : ℕ). Contains (steps_from models n (h ∷ more)) (step_of m k)) number
-      (slice_get-among (steps_from models n (h ∷ more)) k (step_of n k) (slice_get-left (steps_upto n (size_of models h)) (steps_from models (suc n) more) k (step_of n k) (steps_upto-at n (size_of models h) k own)))
-  steps_from-among n (h ∷ more) (suc j) g k at inside =
-      let number : suc n + j ≡ n + suc j = omega arith in
-      subst (λ (m : ℕ). Contains (steps_from models n (h ∷ more)) (step_of m k)) number
-      (Contains-append_right (steps_upto n (size_of models h)) (steps_from models (suc n) more) (step_of (suc n + j) k) (steps_from-among (suc n) more j g k at inside))
-
-  pub step_among : (j k : ℕ) (g : Gathered) → model_at models (suc j) ≡ Some g → k < size_of models g → Contains (all_steps models) (step_of (suc j) k)
-  step_among j k g at inside =
-      let number : 1 + j ≡ suc j = omega arith in
-      subst (λ (m : ℕ). Contains (all_steps models) (step_of m k)) number (steps_from-among 1 models j g k at inside)
-
+  -- its model is there
   pub model_at-step : (i : ℕ) (step : Step) → slice_get (all_steps models) i ≡ Some step → IsSome (model_at models step.model.0)
   model_at-step i step at =
       let found = steps_from-only 1 models i step at in
       let number : suc found.0 ≡ step.model.0 = (let is = found.1 in omega arith) in
       subst (λ (n : ℕ). IsSome (model_at models n)) number found.2
 
+  -- a step stands at one place
   pub step_once : (i k : ℕ) (step : Step) → slice_get (all_steps models) i ≡ Some step → slice_get (all_steps models) k ≡ Some step → i ≡ k
   step_once i k step at other = steps_from-once 1 models i k step at other
 
@@ -169,6 +128,7 @@ module _ (models : List Gathered) where
       ap (λ (l : List Step). steps_upto n (size_of models h) ++ l) (steps_from-push (suc n) gs g number (omega arith))
       ∙ sym (append_assoc (steps_upto n (size_of models h)) (steps_from models (suc n) gs) (steps_upto number (size_of models g)))
 
+  -- the steps of models with one more
   pub steps-push : (gs : List Gathered) (g : Gathered) → steps_from models 1 (gs ++ g ∷ []) ≡ steps_from models 1 gs ++ steps_upto (length gs + 1) (size_of models g)
   steps-push gs g = steps_from-push 1 gs g (length gs + 1) (omega arith)
 
@@ -177,8 +137,13 @@ pub AreStarts-more : (steps : List Step) (starts : List ℕ) (number size : ℕ)
 AreStarts-more steps starts number size are is step among = elim (Contains-append_cases steps (steps_upto number size) step among) as (λ _. At step) [
   | inl old ↦ (
       let at = are step old in
-      let here : get_or (starts ++ length steps ∷ []) (step.model.0 - 1) 0 ≡ get_or starts (step.model.0 - 1) 0 = get_or-before starts (length steps) (step.model.0 - 1) (omega (arith, at.0, at.2)) in
-      (at.0, at.1, omega (arith, at.2, longer), subst (λ (n : ℕ). slice_get (steps ++ steps_upto number size) (n + step.field.0 - 1) ≡ Some step) (sym here) (slice_get-left steps (steps_upto number size) (node_by starts step) step at.3)))
+      let here : get_or (starts ++ length steps ∷ []) (step.model.0 - 1) 0 ≡ get_or starts (step.model.0 - 1) 0 = get_or-before starts (length steps) (step.model.0 - 1) (omega (arith, at.0, at.2)) in (
+        at.0,
+        at.1,
+        omega (arith, at.2, longer),
+        subst (λ (n : ℕ). slice_get (steps ++ steps_upto number size) (n + step.field.0 - 1) ≡ Some step) (sym here)
+            (slice_get-left steps (steps_upto number size) (node_by starts step) step at.3),
+      ))
   | inr new ↦ (
       let place = place_among (steps_upto number size) step new in
       let only = steps_upto-only number size place.0 step place.1 in

@@ -29,6 +29,7 @@ use Rattle.ob_schema.specs.RegistryOf.{IsFieldFrom, IsRegistryOf}
 use Rattle.ob_schema.specs.Strata.{IsComputedAt, IsPathOf, IsRecursion, IsStratum, IsToChildren, IsToParent, Reads, ReadsAnother, ReadsItselfBy, parent_of}
 use Rattle.ob_schema.specs.Telling.{spot_of}
 use Rattle.ob_schema.proofs.Circles.{HasChain-shorter}
+use Rattle.ob_schema.proofs.Depending.{depends_along}
 use Rattle.ob_schema.proofs.FieldsRight.{has}
 use Rattle.ob_schema.proofs.FormulasIn.{same_step}
 use Rattle.ob_schema.proofs.LookUps.{contains-mapped}
@@ -175,10 +176,8 @@ module _ (models : List Gathered) (infos : List ModelInfo) (registry : IsRegistr
       model = found.model;
       member = found.member;
       is_member = found.is_member;
-      tree = is_formula.tree;
-      typed = typed_tree_of formula.typed;
-      formula = is_formula.has;
-      among = subst (λ (l : List (List Step)). Contains l path.steps) is_formula.depends (contains-mapped (λ (p : Path). p.steps) formula.depends path here);
+      depends = depends_along (record { models = models; number = number; member = found.member }) is_formula.tree (typed_tree_of formula.typed) is_formula.has path.steps
+          (subst (λ (l : List (List Step)). Contains l path.steps) is_formula.depends (contains-mapped (λ (p : Path). p.steps) formula.depends path here));
     }
 
     reads : (other : Step) → DependsOn formula other → IsComputedAt models other → Reads models own other

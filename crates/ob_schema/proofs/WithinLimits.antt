@@ -66,6 +66,6 @@ module _ (models : List Gathered) (resolved : AreResolved models) where
   low_stratum at g m is n stratum = elim (cases_lt max_stratum n) [
     | inl past ↦
         (let chain : Chain models (suc max_stratum) at = HasChain-shorter (ReadsAnother models) n (suc max_stratum) at (omega arith) stratum.chain in
-        absurd (resolved.chains (fault_at wrong.Limit (spot_of m)) (at, g, m, is, (wrong.Limit, (chain, no_circle), refl))))
+        absurd (resolved.chains (fault_at wrong.Limit (spot_of m)) (at, g, m, is, (wrong.Limit, (chain, λ meets. no_circle meets.0 (inl meets.2)), refl))))
     | inr within ↦ within
   ]

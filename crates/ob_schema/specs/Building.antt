@@ -5,6 +5,7 @@ use Rattle.ob_base.specs.declared.id.FieldNo.{FieldNo}
 use Rattle.ob_base.specs.declared.id.ModelNo.{ModelNo}
 use Rattle.ob_syntax.specs.Grammar.{Tree}
 use Rattle.ob_expr.specs.TypedTree.{TypedTree}
+use Rattle.ob_schema.specs.declared.formulas.DraftFormula.{DraftFormula}
 use Rattle.ob_schema.specs.declared.info.Formula.{Formula}
 use Rattle.ob_schema.specs.declared.model.Model.{Model as KeptModel}
 use Rattle.ob_schema.specs.declared.info.FieldInfo.{FieldInfo}
@@ -33,13 +34,17 @@ pub record IsFieldResolved (p : Place) : Type 0 where
   pub mirror : HasUnknownBack p p.member.def.mirror → ⊥
   pub formula : is_own_computed p.member ≡ true → (tree : Tree) × (typed : TypedTree) × HasFormula p tree typed
 
+-- the formula of a draft whose expression is right
+abbrev pub formula_from : Option DraftFormula → Option Formula
+formula_from draft = option_and_then (λ d. option_map (λ t. record { typed = t; depends = d.depends; stratum = d.stratum }) d.typed) draft
+
 -- a field of a model, at its number, with its formula where an expression gives its value
-pub record IsPlaced (models : List Gathered) (model : KeptModel) (m : Member) (given : Option Formula) (g : Gathered) (number : ModelNo) (field : FieldNo) : Type 0 where
+pub record IsPlaced (models : List Gathered) (model : KeptModel) (m : Member) (given : Option DraftFormula) (g : Gathered) (number : ModelNo) (field : FieldNo) : Type 0 where
   pub modelled : IsModelled models g model
   pub there : model_at models number.0 ≡ Some g
   pub member : IsMember models (step_at number field) g m
   pub resolved : IsFieldResolved (record { models = models; number = number; member = m })
-  pub formula : MatchOption given (is_own_computed m ≡ false) (IsFormula (record { models = models; number = number; member = m }) field)
+  pub formula : MatchOption (formula_from given) (is_own_computed m ≡ false) (IsFormula (record { models = models; number = number; member = m }) field)
 
 -- what a model's keys name is there
 pub record IsResolved (models : List Gathered) (g : Gathered) : Type 0 where
@@ -48,9 +53,9 @@ pub record IsResolved (models : List Gathered) (g : Gathered) : Type 0 where
   pub order : IfSome g.order (λ o. IsSomeAnd (order_terms o.text) (λ terms. HasUnknown (members_of models g) (names_of_terms terms) → ⊥))
 
 -- each field of a model with its formula, by number
-abbrev pub ArePlaced : List Gathered → KeptModel → List (Option Formula) → Gathered → ModelNo → Type 0
+abbrev pub ArePlaced : List Gathered → KeptModel → List (Option DraftFormula) → Gathered → ModelNo → Type 0
 ArePlaced models model formulas g number =
-    (k : ℕ) (m : Member) (formula : Option Formula) → slice_get (members_in model.members.items) k ≡ Some m → slice_get formulas k ≡ Some formula → IsPlaced models model m formula g number (record { 0 = suc k })
+    (k : ℕ) (m : Member) (formula : Option DraftFormula) → slice_get (members_in model.members.items) k ≡ Some m → slice_get formulas k ≡ Some formula → IsPlaced models model m formula g number (record { 0 = suc k })
 
 -- each field of a model as the registry has it, by number
 abbrev pub AreFieldsOf : List Gathered → KeptModel → Gathered → ModelNo → List FieldInfo → Type 0

@@ -1,11 +1,11 @@
 -- What stands against definitions. A fault is there or not by the texts of the definitions alone.
 use Rattle.std.specs.Prelude.{◌≡◌, ◌≢◌, ◌<◌, ◌≤◌, ◌⊎◌, ◌||◌, ◌&&◌, ℕ, List, [], length, map, Any, Contains, Bool, true, false, not}
-use Rattle.std.specs.Prelude.{suc, is_none, is_some, codes, Option, Some, None, IsSomeAnd, Ok, Err}
+use Rattle.std.specs.Prelude.{is_none, is_some, codes, Option, Some, None, IsSomeAnd, Ok, Err}
 use Rattle.std.specs.List.{list_any, list_all}
 use Rattle.std.specs.Option.{option_map_or}
 use Rattle.std.specs.Str.{bytes_eq}
 use Rattle.std.specs.declared.cmp.Ordering.TheVariants.{Less}
-use Rattle.ob_base.specs.Limits.{max_expression_bytes, max_fields, max_path_steps, max_stratum}
+use Rattle.ob_base.specs.Limits.{max_expression_bytes, max_fields, max_path_steps}
 use Rattle.ob_base.specs.declared.id.ModelNo.{ModelNo}
 use Rattle.ob_expr.specs.declared.checker.TypeFault.TheVariants as type_fault
 use Rattle.ob_syntax.specs.declared.fault.ExprFault.{ExprFault}
@@ -24,7 +24,7 @@ use Rattle.ob_definition.specs.declared.field_type.FieldType.TheVariants as type
 use Rattle.ob_schema.specs.declared.info.Step.{Step}
 use Rattle.ob_definition.specs.Definitions.{is_computed, is_set}
 use Rattle.ob_schema.specs.Finds.{found_at, kind_of_field, relation_of}
-use Rattle.ob_schema.specs.Formulas.{HasFormula, HasTree, IsCovered, Place, RelatedByPath, Spelled, declared_names, expression_text, formula_paths, read_paths}
+use Rattle.ob_schema.specs.Formulas.{Declares, DependsAlong, HasFormula, HasTree, IsCovered, Place, RelatedByPath, Spelled, expression_text, formula_paths, read_paths}
 use Rattle.ob_definition.specs.EntryFaults.{HasNoParent, HasTakenLink, IsGatheringFault, MayNotInherit}
 use Rattle.ob_definition.specs.Ranking.{rank, rank_order}
 use Rattle.ob_definition.specs.Gathered.{Gathered, gathered}
@@ -34,7 +34,7 @@ use Rattle.ob_definition.specs.Members.{Member, hidden_members, members_of, mode
 use Rattle.ob_definition.specs.Names.{is_field_name}
 use Rattle.ob_definition.specs.Orders.{Term, order_terms}
 use Rattle.ob_schema.specs.Paths.{PathFault, no_field, no_step, path_from}
-use Rattle.ob_schema.specs.Strata.{Chain, IsCircle, IsMember, IsRecursion, Reads}
+use Rattle.ob_schema.specs.Strata.{IsCircle, IsMember, IsPastStrata, IsRecursion, Reads}
 
 -- A model as a whole.
 
@@ -149,10 +149,9 @@ HasWrongBack p key t = LooksBack p key (λ back. IsSomeAnd back (λ m. LeadsBack
 abbrev pub HasWrongKeys : Place → Type 0
 HasWrongKeys p = ((is_own p.member.role && not (is_field_name p.member.def.name)) ≡ true) ⊎ (fits p.member.def ≡ false)
 
--- a declared path of a right expression is none
+-- a declared path is none, whatever the expression is
 abbrev pub HasPathFault : Place → PathFault → Type 0
-HasPathFault p why =
-    (tree : Tree) × (typed : TypedTree) × HasFormula p tree typed × Any (λ names. path_from p.models p.number names ≡ Err why) (declared_names p.member.def tree)
+HasPathFault p why = (is_own_computed p.member ≡ true) × ((names : List (List ℕ)) × Declares p.member.def names × (path_from p.models p.number names ≡ Err why))
 
 -- a name of the expression is no field that may be used there
 abbrev pub HasUnknownName : Place → Type 0
@@ -185,13 +184,13 @@ IsUnmarked p g = (at : Step) × IsFieldAt p g at × Reads p.models at at × IsRe
 abbrev pub HasLongText : Place → Type 0
 HasLongText p = (is_own_computed p.member ≡ true) × IsSomeAnd (expression_text p.member.def) (λ text. max_expression_bytes < length text)
 
--- a path on which the value depends has too many steps
+-- a path on which the field depends has too many steps
 abbrev pub HasLongPath : Place → Type 0
-HasLongPath p = (tree : Tree) × (typed : TypedTree) × HasFormula p tree typed × Any (λ steps. max_path_steps < length steps) (formula_paths p tree typed)
+HasLongPath p = (steps : List Step) × DependsAlong p steps × (max_path_steps < length steps)
 
--- where no fields of the registry read one another in a circle, the field has a chain past the greatest stratum
+-- the field has a chain past the greatest stratum, and all its chains end
 abbrev pub HasLongChain : Place → Gathered → Type 0
-HasLongChain p g = (at : Step) × IsFieldAt p g at × Chain p.models (suc max_stratum) at × ((other : Step) → IsCircle p.models other → ⊥)
+HasLongChain p g = (at : Step) × IsFieldAt p g at × IsPastStrata p.models at
 
 -- why a text is no expression
 abbrev pub IsTextFault : List ℕ → ExprFault → Type 0

@@ -1,5 +1,5 @@
 -- The expressions of computed fields, and the paths on which their values depend.
-use Rattle.std.specs.Prelude.{◌≡◌, ◌≤◌, ℕ, List, [], ◌∷◌, length, map, Any, true, is_some, if◌then◌else◌, Option, Some, Result, Ok, Err, unwrap_or}
+use Rattle.std.specs.Prelude.{◌≡◌, ◌≤◌, ◌⊎◌, ℕ, List, [], ◌∷◌, length, map, Any, Contains, true, false, is_some, if◌then◌else◌, Option, Some, Result, Ok, Err, unwrap_or}
 use Rattle.ob_base.specs.Limits.{max_expression_bytes, max_expression_depth}
 use Rattle.ob_base.specs.declared.id.ModelNo.{ModelNo}
 use Rattle.ob_expr.specs.Checking.{typed_of}
@@ -56,13 +56,21 @@ pub record HasFormula (place : Place) (tree : Tree) (typed : TypedTree) : Type 0
 abbrev pub read_paths : ModelNo → TypedTree → List (List Step)
 read_paths number typed = map (steps_of_route number) (paths_of typed)
 
--- the names of the paths on which a field says it depends: of a related field its one path
+-- the names of the paths on which a field says it depends: those in `depends`; of a related field the one path that its text spells
 abbrev pub names_of_tree : Tree → List (List (List ℕ))
 names_of_tree (path names at) = names ∷ []
 names_of_tree _ = []
 
+abbrev pub written_names : FieldDef → List (List (List ℕ))
+written_names f = map split_path (unwrap_or f.depends [])
+
 abbrev pub declared_names : FieldDef → Tree → List (List (List ℕ))
-declared_names f tree = if is_some f.related then names_of_tree tree else map split_path (unwrap_or f.depends [])
+declared_names f tree = if is_some f.related then names_of_tree tree else written_names f
+
+-- a field says that it depends on the path of these names, whatever its expression is
+abbrev pub Declares : FieldDef → List (List ℕ) → Type 0
+Declares f names =
+    ((is_some f.related ≡ false) × Contains (written_names f) names) ⊎ ((is_some f.related ≡ true) × ((tree : Tree) × HasTree f tree × Contains (names_of_tree tree) names))
 
 -- the steps of those names that are a path
 abbrev pub good_paths : List (Result (List Step) PathFault) → List (List Step)
@@ -78,6 +86,14 @@ paths_by_role _ reads declared = declared
 abbrev pub formula_paths : Place → Tree → TypedTree → List (List Step)
 formula_paths place tree typed =
     paths_by_role place.member.role (read_paths place.number typed) (good_paths (map (path_from place.models place.number) (declared_names place.member.def tree)))
+
+-- a path on which a field depends: a declared one that is a path; of a condition one that it reads
+abbrev pub DependsBy : Role → Place → List Step → Type 0
+DependsBy hidden p steps = (tree : Tree) × (typed : TypedTree) × HasFormula p tree typed × Contains (read_paths p.number typed) steps
+DependsBy _ p steps = (names : List (List ℕ)) × Declares p.member.def names × (path_from p.models p.number names ≡ Ok steps)
+
+abbrev pub DependsAlong : Place → List Step → Type 0
+DependsAlong p steps = (is_own_computed p.member ≡ true) × DependsBy p.member.role p steps
 
 -- one of these paths begins with the steps of a path that is read
 abbrev pub IsCovered : List (List Step) → List Step → Type 0

@@ -1,20 +1,20 @@
 -- Private: the fields of all models as nodes, which of them reads which, and how high each stands.
-use Rattle.std.specs.Prelude.{◌≡◌, ◌≢◌, ◌↔◌, ◌+◌, ◌-◌, ◌<◌, ◌≤◌, ◌++◌, ℕ, zero, suc, List, [], ◌∷◌, length, All, Any, Contains, Option, Some, IsSomeAnd, get_or, option_and_then, slice_get, false, Vec}
+use Rattle.std.specs.Prelude.{◌≡◌, ◌≢◌, ◌↔◌, ◌+◌, ◌-◌, ◌<◌, ◌≤◌, ◌++◌, ℕ, zero, suc, List, [], ◌∷◌, length, All, Any, Contains, Bool, true, false}
+use Rattle.std.specs.Prelude.{Option, Some, IsSomeAnd, get_or, option_and_then, slice_get, Vec}
 use Rattle.std.specs.declared.alloc.Global.{Global}
-use Rattle.ob_base.specs.Limits.{max_stratum}
 use Rattle.ob_definition.specs.declared.fault.SchemaFault.{SchemaFault}
 use Rattle.ob_schema.specs.declared.graph.Graph.{Graph}
-use Rattle.ob_schema.specs.declared.info.Formula.{Formula}
+use Rattle.ob_schema.specs.declared.formulas.DraftFormula.{DraftFormula}
 use Rattle.ob_schema.specs.declared.info.Step.{Step}
 use Rattle.ob_definition.specs.declared.wrong.Wrong.{Wrong}
 use Rattle.ob_definition.specs.declared.wrong.Wrong.TheVariants as wrong
 use Rattle.ob_schema.specs.Built.{numbered}
-use Rattle.ob_schema.specs.Chains.{HasChain}
+use Rattle.ob_schema.specs.Chains.{HasChain, Reaches}
 use Rattle.ob_definition.specs.Definitions.{is_set}
 use Rattle.ob_definition.specs.Gathered.{Gathered}
 use Rattle.ob_definition.specs.Members.{Member, hidden_members, members_of}
 use Rattle.ob_schema.specs.Paths.{EndsIn, step_at}
-use Rattle.ob_schema.specs.Strata.{Chain, IsCircle, IsComputedAt, IsMember, IsOnCycle, IsRecursion, IsStratum, Reads, ReadsAnother}
+use Rattle.ob_schema.specs.Strata.{IsCircle, IsComputedAt, IsMember, IsOnCycle, IsPastStrata, IsRecursion, IsStratum, Reads, ReadsAnother}
 use Rattle.ob_schema.specs.Telling.{IsFormulaOf, spot_of}
 use Rattle.ob_definition.specs.Findings.{IsFaultAt}
 
@@ -48,7 +48,7 @@ abbrev pub IsReadOn : List Gathered → List Step → List Step → ℕ → Type
 IsReadOn models steps path b = IsSomeAnd (slice_get steps b) (λ at. IsComputedAt models at × EndsIn path at)
 
 -- a node that a formula reads: that of a computed field at the end of one of its paths
-abbrev pub IsReadBy : List Gathered → List Step → Option Formula → ℕ → Type 0
+abbrev pub IsReadBy : List Gathered → List Step → Option DraftFormula → ℕ → Type 0
 IsReadBy models steps formula b = IsSomeAnd formula (λ f. Any (λ path. IsReadOn models steps path.steps b) f.depends)
 
 -- the nodes of all fields by number; each reads the computed fields at the ends of its paths, itself left out
@@ -65,23 +65,28 @@ pub record AreHeights (reads : List (Vec ℕ Global)) (limit : ℕ) (heights : L
   pub low : (a height : ℕ) → slice_get heights a ≡ Some height → height ≤ limit
   pub each : (a height n : ℕ) → slice_get heights a ≡ Some height → n ≤ limit → HasChain (NodeReads reads) n a ↔ (n ≤ height)
 
+-- which nodes are reached from themselves
+pub record AreOnCycles (reads : List (Vec ℕ Global)) (marks : List Bool) : Type 0 where
+  pub count : length marks ≡ length reads
+  pub each : (a : ℕ) → (slice_get marks a ≡ Some true) ↔ Reaches (NodeReads reads) a a
+
 -- the formula of a field, by model and number
-abbrev pub formula_in : List (Vec (Option Formula) Global) → Step → Option (Option Formula)
+abbrev pub formula_in : List (Vec (Option DraftFormula) Global) → Step → Option (Option DraftFormula)
 formula_in formulas step = option_and_then (λ own. numbered own.items step.field.0) (numbered formulas step.model.0)
 
 -- each field has its formula there, in a list for each model, and nothing else is there
-pub record AreFormulas (models : List Gathered) (formulas : List (Vec (Option Formula) Global)) : Type 0 where
+pub record AreFormulas (models : List Gathered) (formulas : List (Vec (Option DraftFormula) Global)) : Type 0 where
   pub count : length formulas ≡ length models
   pub each : (step : Step) (g : Gathered) (m : Member) → IsMember models step g m → IsSomeAnd (formula_in formulas step) (IsFormulaOf (record { models = models; number = step.model; member = m }))
-  pub only : (step : Step) (found : Option Formula) → formula_in formulas step ≡ Some found → Contains (all_steps models) step
+  pub only : (step : Step) (found : Option DraftFormula) → formula_in formulas step ≡ Some found → Contains (all_steps models) step
 
 -- a formula of another stratum
-abbrev pub with_stratum : ℕ → Formula → Formula
+abbrev pub with_stratum : ℕ → DraftFormula → DraftFormula
 with_stratum n formula = record formula { stratum = n }
 
 -- each formula has its stratum
-abbrev pub HaveStrata : List Gathered → List (Vec (Option Formula) Global) → Type 0
-HaveStrata models formulas = (step : Step) (formula : Formula) → formula_in formulas step ≡ Some (Some formula) → IsStratum models step formula.stratum
+abbrev pub HaveStrata : List Gathered → List (Vec (Option DraftFormula) Global) → Type 0
+HaveStrata models formulas = (step : Step) (formula : DraftFormula) → formula_in formulas step ≡ Some (Some formula) → IsStratum models step formula.stratum
 
 -- all steps of a path but the last are such ones, and there is one at least
 abbrev pub GoesBy : (Step → Type 0) → List Step → Type 0
@@ -101,7 +106,7 @@ IsSelfWrong models at m _ = ⊥
 abbrev pub IsChainWrong : List Gathered → Step → Member → Wrong → Type 0
 IsChainWrong models at m wrong.Cycle = IsCircle models at
 IsChainWrong models at m wrong.Recursion = Reads models at at × IsRecursion models at × (is_set m.def.recursive ≡ false)
-IsChainWrong models at m wrong.Limit = Chain models (suc max_stratum) at × ((other : Step) → IsCircle models other → ⊥)
+IsChainWrong models at m wrong.Limit = IsPastStrata models at
 IsChainWrong models at m _ = ⊥
 
 -- a field is in a circle of several
@@ -109,9 +114,9 @@ abbrev pub IsCycleWrong : List Gathered → Step → Member → Wrong → Type 0
 IsCycleWrong models at m wrong.Cycle = IsOnCycle models at
 IsCycleWrong models at m _ = ⊥
 
--- a chain is past the limit
+-- its chains end, one of them past the limit
 abbrev pub IsLongWrong : List Gathered → Step → Member → Wrong → Type 0
-IsLongWrong models at m wrong.Limit = Chain models (suc max_stratum) at
+IsLongWrong models at m wrong.Limit = IsPastStrata models at
 IsLongWrong models at m _ = ⊥
 
 -- a fault of a field of this kind

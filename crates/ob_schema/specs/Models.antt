@@ -1,5 +1,6 @@
 -- The registry as contracts see it: a list of models, each with its fields. Model number n stands at n - 1; so does field number n of a model, its conditions behind the named ones.
-use Rattle.std.specs.Prelude.{Bool, ◌≡◌, ◌≢◌, ◌<◌, ◌≤◌, ◌⊎◌, ◌++◌, ℕ, suc, List, [], ◌∷◌, length, All, Any, map, true, false, Option, Some, None, option_map, option_and_then, IsSome, IfSome, IsSomeAnd, position, ⊤, codes, is_some}
+use Rattle.std.specs.Prelude.{Bool, ◌≡◌, ◌≢◌, ◌<◌, ◌≤◌, ◌⊎◌, ◌++◌, ℕ, suc, List, [], ◌∷◌, length, All, Any}
+use Rattle.std.specs.Prelude.{map, true, false, Option, Some, None, option_map, option_and_then, IsSome, IfSome, IsSomeAnd, position, ⊤, codes, is_some}
 use Rattle.std.specs.Cmp.Lexicographic.{slice_cmp}
 use Rattle.std.specs.List.{AllPairs}
 use Rattle.std.specs.Ordering.{nat_cmp}

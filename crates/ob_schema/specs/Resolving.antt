@@ -1,13 +1,10 @@
 -- Private: what is found of models behind their entries.
-use Rattle.std.specs.Prelude.{◌≡◌, ◌≤◌, ◌⊎◌, All, List, length}
+use Rattle.std.specs.Prelude.{◌≤◌, ◌⊎◌, All, List, length}
 use Rattle.ob_base.specs.Limits.{max_checks, max_models, max_name_bytes}
 use Rattle.ob_definition.specs.declared.fault.SchemaFault.{SchemaFault}
 use Rattle.ob_definition.specs.Gathered.{Gathered}
 use Rattle.ob_definition.specs.Making.{AreMadeFaults}
-use Rattle.ob_definition.specs.Members.{Member}
-use Rattle.ob_schema.specs.declared.info.Step.{Step}
 use Rattle.ob_schema.specs.Graphs.{IsChainWrong, IsStepFault}
-use Rattle.ob_schema.specs.Strata.{IsMember}
 use Rattle.ob_schema.specs.Telling.{AreFormulaFaults, AreKeyFaults}
 
 -- models, the name and the checks of each, are within limits
@@ -28,7 +25,3 @@ AreResolvingFaults models why = AreKeyFaults models why ⊎ AreFormulaFaults mod
 -- and of fields that are made
 abbrev pub AreModelFaults : List Gathered → SchemaFault → Type 0
 AreModelFaults models why = AreMadeFaults models models why ⊎ AreResolvingFaults models why
-
--- one field stands at a step
-abbrev pub AreSingle : List Gathered → Type 0
-AreSingle models = (step : Step) (g h : Gathered) (m n : Member) → IsMember models step g m → IsMember models step h n → m ≡ n

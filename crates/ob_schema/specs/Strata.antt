@@ -1,15 +1,14 @@
 -- Which computed fields read which, in what direction a field reads itself, and strata.
 use Rattle.std.specs.Prelude.{◌≡◌, ◌≢◌, ◌⊎◌, ◌++◌, ℕ, suc, List, [], ◌∷◌, All, Contains, true, Option, Some, option_and_then}
+use Rattle.ob_base.specs.Limits.{max_stratum}
 use Rattle.ob_base.specs.declared.id.FieldNo.{FieldNo}
 use Rattle.ob_base.specs.declared.id.ModelNo.{ModelNo}
-use Rattle.ob_syntax.specs.Grammar.{Tree}
-use Rattle.ob_expr.specs.TypedTree.{TypedTree}
 use Rattle.ob_definition.specs.declared.field_type.FieldType.TheVariants as type
 use Rattle.ob_schema.specs.declared.info.Step.{Step}
 use Rattle.ob_schema.specs.Chains.{HasChain, Reaches}
 use Rattle.ob_definition.specs.Definitions.{is_computed}
 use Rattle.ob_schema.specs.Finds.{relation_of}
-use Rattle.ob_schema.specs.Formulas.{HasFormula, formula_paths}
+use Rattle.ob_schema.specs.Formulas.{DependsAlong}
 use Rattle.ob_definition.specs.Gathered.{Gathered}
 use Rattle.ob_definition.specs.Members.{Member, hidden_members, hidden_number, members_of, model_at, number_named, number_of}
 
@@ -20,15 +19,12 @@ pub data IsMember (models : List Gathered) : Step → Gathered → Member → Ty
   by_condition : (step : Step) (g : Gathered) (m : Member) → model_at models step.model.0 ≡ Some g → Contains (hidden_members g) m → hidden_number models g m.def.name ≡ step.field
       → IsMember models step g m
 
--- a path on which the field's formula depends
+-- a path on which the field depends
 pub record IsPathOf (models : List Gathered) (at : Step) (path : List Step) : Type 0 where
   pub model : Gathered
   pub member : Member
   pub is_member : IsMember models at model member
-  pub tree : Tree
-  pub typed : TypedTree
-  pub formula : HasFormula (record { models = models; number = at.model; member = member }) tree typed
-  pub among : Contains (formula_paths (record { models = models; number = at.model; member = member }) tree typed) path
+  pub depends : DependsAlong (record { models = models; number = at.model; member = member }) path
 
 -- the field is computed
 abbrev pub IsComputedAt : List Gathered → Step → Type 0
@@ -49,6 +45,14 @@ Chain models n a = HasChain (ReadsAnother models) n a
 -- a field is read in turn from itself through others
 abbrev pub IsOnCycle : List Gathered → Step → Type 0
 IsOnCycle models a = Reaches (ReadsAnother models) a a
+
+-- a field reads in turn one that is in a circle of several: its chains have no end
+abbrev pub MeetsCircle : List Gathered → Step → Type 0
+MeetsCircle models a = (b : Step) × Reaches (ReadsAnother models) a b × IsOnCycle models b
+
+-- a field has a chain past the greatest stratum, and all its chains end
+abbrev pub IsPastStrata : List Gathered → Step → Type 0
+IsPastStrata models a = Chain models (suc max_stratum) a × (MeetsCircle models a → ⊥)
 
 -- the parent field of a tree, as a step from its rows
 abbrev pub parent_of : List Gathered → ModelNo → Option FieldNo
@@ -83,7 +87,7 @@ IsRecursion models a = ReadsItselfBy models (IsToParent models a.model) a ⊎ Re
 abbrev pub IsCircle : List Gathered → Step → Type 0
 IsCircle models a = IsOnCycle models a ⊎ (Reads models a a × (IsRecursion models a → ⊥))
 
--- the stratum of a field, where there is no circle: the length of its longest chain
+-- the stratum of a field whose chains end: the length of the longest
 pub record IsStratum (models : List Gathered) (a : Step) (n : ℕ) : Type 0 where
   pub chain : Chain models n a
   pub longest : Chain models (suc n) a → ⊥

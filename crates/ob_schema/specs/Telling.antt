@@ -1,28 +1,31 @@
 -- Private: what is wrong with a model's keys, a field's keys, a path or an expression, as the program tells it.
-use Rattle.std.specs.Prelude.{◌≡◌, ◌⊎◌, ◌<◌, ◌++◌, ℕ, List, [], length, map, Any, Bool, true, Option, Some, None, IsSomeAnd, Result, Ok, Err, Vec}
+use Rattle.std.specs.Prelude.{◌≡◌, ◌⊎◌, ◌↔◌, ◌++◌, ℕ, List, [], map, Any, Contains, Bool, true, false, is_some, if◌then◌else◌, Option, Some, None, IsSomeAnd, MatchOption, Result, Ok, Err, Vec}
 use Rattle.std.specs.Borrow.{Bor}
 use Rattle.std.specs.List.{AllZip}
+use Rattle.std.specs.Option.{option_map_or}
 use Rattle.std.specs.declared.alloc.Global.{Global}
-use Rattle.ob_base.specs.Limits.{max_path_steps}
 use Rattle.ob_base.specs.declared.id.ModelNo.{ModelNo}
 use Rattle.ob_syntax.specs.Grammar.{Tree}
+use Rattle.ob_expr.specs.declared.typed.Typed.{Typed}
 use Rattle.ob_expr.specs.TypedTree.{TypedTree, typed_tree_of}
+use Rattle.ob_definition.specs.declared.definition.FieldDef.{FieldDef}
 use Rattle.ob_definition.specs.declared.fault.SchemaFault.{SchemaFault}
 use Rattle.ob_definition.specs.declared.fault.SchemaFault.TheVariants as fault
 use Rattle.ob_definition.specs.declared.fault.Spot.{Spot}
 use Rattle.ob_definition.specs.declared.field_type.FieldType.{FieldType}
 use Rattle.ob_definition.specs.declared.field_type.FieldType.TheVariants as type
-use Rattle.ob_schema.specs.declared.info.Formula.{Formula}
+use Rattle.ob_schema.specs.declared.formulas.DraftFormula.{DraftFormula}
 use Rattle.ob_schema.specs.declared.info.Path.{Path}
 use Rattle.ob_schema.specs.declared.info.Step.{Step}
 use Rattle.ob_schema.specs.declared.model.Model.{Model}
 use Rattle.ob_definition.specs.declared.wrong.Wrong.{Wrong}
 use Rattle.ob_definition.specs.declared.wrong.Wrong.TheVariants as wrong
-use Rattle.ob_schema.specs.Faults.{HasLongPath, HasLongText, HasPathFault, HasRefused, HasTextFault, HasTooManyFields, HasUncovered, HasUnknown, HasUnknownBack, HasUnknownName, HasUnknownRelation, HasWrongBack, HasWrongKeys, HasWrongKind, IsParentField, IsUnknownOrder, IsWrongOrder, IsWrongSet}
-use Rattle.ob_schema.specs.Formulas.{HasFormula, IsCovered, Place, declared_names, formula_paths, good_paths, paths_by_role, read_paths}
+use Rattle.ob_schema.specs.Faults.{HasLongPath, HasLongText, HasPathFault, HasTextFault, HasUncovered, HasUnknownName, HasWrongKind}
+use Rattle.ob_schema.specs.Faults.{HasRefused, HasTooManyFields, HasUnknown, HasUnknownBack, HasUnknownRelation, HasWrongBack, HasWrongKeys, IsParentField, IsUnknownOrder, IsWrongOrder, IsWrongSet}
+use Rattle.ob_schema.specs.Formulas.{DependsAlong, HasFormula, HasTree, IsCovered, Place, formula_paths, good_paths, names_of_tree, read_paths, written_names}
 use Rattle.ob_definition.specs.Findings.{IsFaultAt}
 use Rattle.ob_definition.specs.Gathered.{DeclaredOrder, DeclaredSet, Gathered}
-use Rattle.ob_definition.specs.Members.{Member, Role, hidden_members, is_own_computed, members_of, model_at, named, own_members}
+use Rattle.ob_definition.specs.Members.{Member, hidden_members, is_own_computed, members_of, model_at, named, own_members}
 use Rattle.ob_schema.specs.ModelFields.{member_of}
 use Rattle.ob_schema.specs.Modelling.{IsModelled}
 use Rattle.ob_schema.specs.Paths.{PathFault, no_field, no_step, path_from}
@@ -126,13 +129,32 @@ names_in all = map (λ names. texts_in names.items) all
 abbrev pub steps_in : List Path → List (List Step)
 steps_in paths = map (λ path. path.steps) paths
 
--- what is wrong with an expression itself
+-- a field's text spells this, or nothing
+abbrev pub IsTreeOf : FieldDef → Option Tree → Type 0
+IsTreeOf f tree = MatchOption tree ((other : Tree) → HasTree f other → ⊥) (HasTree f)
+
+-- the names of the paths that a field declares, by what its text spells
+abbrev pub names_by : FieldDef → Option Tree → List (List (List ℕ))
+names_by f tree = if is_some f.related then option_map_or names_of_tree tree [] else written_names f
+
+-- the paths that an expression reads, where it is right
+abbrev pub reads_by : ModelNo → Option TypedTree → List (List Step)
+reads_by number typed = option_map_or (read_paths number) typed []
+
+-- what is wrong with a text, and with the expression that it spells
+abbrev pub IsTextWrong : Place → Wrong → Type 0
+IsTextWrong p wrong.Limit = HasLongText p
+IsTextWrong p (wrong.Text why) = (is_own_computed p.member ≡ true) × HasTextFault p why
+IsTextWrong p _ = ⊥
+
 abbrev pub IsReadingWrong : Place → Wrong → Type 0
 IsReadingWrong p wrong.Field = HasUnknownName p
 IsReadingWrong p wrong.Kind = HasWrongKind p
-IsReadingWrong p wrong.Limit = HasLongText p
-IsReadingWrong p (wrong.Text why) = (is_own_computed p.member ≡ true) × HasTextFault p why
-IsReadingWrong p _ = ⊥
+IsReadingWrong p w = IsTextWrong p w
+
+-- an expression that a text spells is right, as this typed tree, or something is wrong
+abbrev pub IsChecked : Place → Option Tree → Option TypedTree → Type 0
+IsChecked p tree typed = MatchOption typed ((w : Wrong) × IsReadingWrong p w) (λ t. IsSomeAnd tree (λ x. HasFormula p x t))
 
 -- what is wrong with one declared path, and with one that is read
 abbrev pub IsPathWrong : Result (List Step) PathFault → Wrong → Type 0
@@ -144,24 +166,9 @@ abbrev pub IsCoverWrong : List (List Step) → List Step → Wrong → Type 0
 IsCoverWrong paths read wrong.Path = IsCovered paths read → ⊥
 IsCoverWrong paths read _ = ⊥
 
--- the paths of the names that are some, and what is wrong with the names and with what is read but not declared
-module _ (models : List Gathered) (number : ModelNo) where
-  abbrev pub paths_by_names : List (List (List ℕ)) → List (List Step)
-  paths_by_names names = good_paths (map (path_from models number) names)
-
-  abbrev pub AreDeclaredWrong : Role → List (List (List ℕ)) → List (List Step) → Wrong → Type 0
-  AreDeclaredWrong role names reads wrong.Field = Any (λ path. path_from models number path ≡ Err no_field) names
-  AreDeclaredWrong role names reads wrong.Path =
-      Any (λ path. path_from models number path ≡ Err no_step) names ⊎ Any (λ read. IsCovered (paths_by_role role reads (paths_by_names names)) read → ⊥) reads
-  AreDeclaredWrong role names reads _ = ⊥
-
--- what is wrong with the paths of a right expression
-abbrev pub ArePathsWrong : Place → Tree → TypedTree → Wrong → Type 0
-ArePathsWrong p tree typed wrong.Field = Any (λ names. path_from p.models p.number names ≡ Err no_field) (declared_names p.member.def tree)
-ArePathsWrong p tree typed wrong.Path =
-    Any (λ names. path_from p.models p.number names ≡ Err no_step) (declared_names p.member.def tree) ⊎ Any (λ read. IsCovered (formula_paths p tree typed) read → ⊥) (read_paths p.number typed)
-ArePathsWrong p tree typed wrong.Limit = Any (λ steps. max_path_steps < length steps) (formula_paths p tree typed)
-ArePathsWrong p tree typed _ = ⊥
+-- the paths of the names that are some
+abbrev pub paths_by_names : List Gathered → ModelNo → List (List (List ℕ)) → List (List Step)
+paths_by_names models number names = good_paths (map (path_from models number) names)
 
 -- what is wrong with an expression or its paths
 abbrev pub IsFormulaWrong : Place → Wrong → Type 0
@@ -185,12 +192,21 @@ AreFormulaFaults models why =
     (number : ModelNo) × (g : Gathered) × (model_at models number.0 ≡ Some g)
     × Any (λ m. IsFormulaFault (record { models = models; number = number; member = m }) why) (members_of models g ++ hidden_members g)
 
--- the formula of a field with the paths on which it depends, where it has one; a computed field without has a wrong expression
-abbrev pub IsFormulaOf : Place → Option Formula → Type 0
-IsFormulaOf p None = ((tree : Tree) (typed : TypedTree) → HasFormula p tree typed → ⊥) × (is_own_computed p.member ≡ true → (w : Wrong) × IsReadingWrong p w)
-IsFormulaOf p (Some formula) = (tree : Tree) × HasFormula p tree (typed_tree_of formula.typed) × (steps_in formula.depends ≡ formula_paths p tree (typed_tree_of formula.typed))
+-- a right expression, with the paths on which the field then depends
+abbrev pub IsRight : Place → List (List Step) → Typed → Type 0
+IsRight p depends typed = (tree : Tree) × HasFormula p tree (typed_tree_of typed) × (depends ≡ formula_paths p tree (typed_tree_of typed))
+
+-- what is known of a computed field's formula: the paths on which the field depends, and its expression where that is right
+pub record IsDraftOf (p : Place) (draft : DraftFormula) : Type 0 where
+  pub computed : is_own_computed p.member ≡ true
+  pub depends : (path : List Step) → Contains (steps_in draft.depends) path ↔ DependsAlong p path
+  pub typed : MatchOption draft.typed ((w : Wrong) × IsReadingWrong p w) (IsRight p (steps_in draft.depends))
+
+abbrev pub IsFormulaOf : Place → Option DraftFormula → Type 0
+IsFormulaOf p None = is_own_computed p.member ≡ false
+IsFormulaOf p (Some draft) = IsDraftOf p draft
 
 -- the formulas of a model's fields, in the order of their numbers
-abbrev pub AreModelFormulas : List Gathered → ModelNo → Gathered → List (Option Formula) → Type 0
+abbrev pub AreModelFormulas : List Gathered → ModelNo → Gathered → List (Option DraftFormula) → Type 0
 AreModelFormulas models number g formulas =
     (model : Model) × IsModelled models g model × AllZip (λ m formula. IsFormulaOf (record { models = models; number = number; member = member_of m }) formula) model.members.items formulas

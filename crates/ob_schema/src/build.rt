@@ -1,12 +1,13 @@
 //! The registry from definitions, or the first thing that stands against them.
 
 ghost use Rattle.std.specs.List.{AllZip};
-ghost use Rattle.std.specs.Prelude.{◌≡◌, ◌≢◌, ◌≤◌, IfOk, IfErr, IsSome, IsSomeAnd, None, OnOk, Some, length, ◌++◌};
+ghost use Rattle.std.specs.Prelude.{◌≡◌, ◌≢◌, ◌<◌, ◌≤◌, IfOk, IfErr, IsSome, IsSomeAnd, None, OnOk, Some, length, ◌++◌};
 ghost use Rattle.ob_schema.specs.Built.{IsBuilt, IsModelOf};
 ghost use Rattle.ob_schema.specs.Faults.{IsFaultless, IsFirst};
 ghost use Rattle.ob_definition.specs.Findings.{Adds};
 ghost use Rattle.ob_definition.specs.Gathered.{AreWellNamed};
 ghost use Rattle.ob_definition.specs.Making.{IsMade};
+ghost use Rattle.ob_definition.specs.Ranking.{rank};
 ghost use Rattle.ob_definition.specs.Members.{automatic_defs, is_delegated, model_at, hidden_members, members_of};
 ghost use Rattle.ob_schema.specs.ModelFields.{max_numbers, member_of, members_in};
 ghost use Rattle.ob_schema.specs.Graphs.{AreFormulas, HaveStrata};
@@ -16,8 +17,7 @@ ghost use Rattle.ob_schema.specs.Telling.{AreFormulaFaults, AreKeyFaults, AreMem
 
 use crate::building::registry;
 use crate::field_faults::field_faults;
-use crate::formulas::formula_of;
-use crate::info::Formula;
+use crate::formulas::{DraftFormula, formula_of};
 use crate::model::{Member, Role};
 use crate::model_faults::model_faults;
 use crate::models::{MAX_NUMBERS, Models, field_number, models_of};
@@ -42,6 +42,8 @@ impl Schema {
         ensures faultless { OnOk result (IsFaultless defs.now) }
         ensures fault { IfErr result
             (λ why. why ≢ SchemaFault.NoMemory → IsFirst defs.now why) }
+        ensures entry { IfErr result
+            (λ why. why ≢ SchemaFault.NoMemory → (rank why).entry < length defs.now) }
     {
         if defs.len() > MAX_NUMBERS {
             return Err(SchemaFault::NoMemory);
@@ -175,7 +177,7 @@ fn model_formulas(
     models: &Models<'_>,
     number: ModelNo,
     first: &mut First,
-) -> Result<Vec<Option<Formula>>, NoMemory>
+) -> Result<Vec<Option<DraftFormula>>, NoMemory>
     requires { IsSome (model_at models.now number.0) }
     ensures formulas { IfOk result (λ formulas. IsSomeAnd (model_at models.now number.0)
         (λ g. AreModelFormulas models.now number g formulas.items)) }
@@ -193,7 +195,7 @@ fn formulas_in(
     number: ModelNo,
     members: &[Member<'_>],
     first: &mut First,
-) -> Result<Vec<Option<Formula>>, NoMemory>
+) -> Result<Vec<Option<DraftFormula>>, NoMemory>
     requires { IsSome (model_at models.now number.0) }
     ensures formulas { IfOk result (λ formulas. AllZip
         (λ m formula. IsFormulaOf (record { models = models.now; number = number; member = member_of m }) formula)

@@ -4,7 +4,7 @@
 ghost use Rattle.std.specs.List.{AllZip};
 ghost use Rattle.std.specs.Prelude.{◌≡◌, ◌++◌, All, IfOk, Some, length, map};
 ghost use Rattle.ob_base.specs.declared.id.ModelNo.{ModelNo};
-ghost use Rattle.ob_schema.specs.Building.{AreFieldsOf, AreNumbers, ArePlaced, AreResolved, HasNativeDefault, IsResolved, parent_found};
+ghost use Rattle.ob_schema.specs.Building.{AreFieldsOf, AreNumbers, ArePlaced, AreResolved, HasNativeDefault, HasNativeDefaults, IsResolved, parent_found};
 ghost use Rattle.ob_schema.specs.Built.{IsModelOf, given_terms};
 ghost use Rattle.ob_definition.specs.ByName.{given_order, sets_of};
 ghost use Rattle.ob_schema.specs.Faults.{HasUnknown, names_of_terms};
@@ -17,7 +17,8 @@ ghost use Rattle.ob_schema.specs.Models.{IsRegistry};
 ghost use Rattle.ob_schema.specs.RegistryOf.{IsRegistryOf};
 
 use crate::field_building::field_info;
-use crate::info::{FieldInfo, Formula, ModelInfo, OrderTerm, ParentInfo};
+use crate::formulas::DraftFormula;
+use crate::info::{FieldInfo, ModelInfo, OrderTerm, ParentInfo};
 use crate::model::Model;
 use crate::models::Models;
 use crate::schema::Schema;
@@ -70,10 +71,10 @@ fn model_info(
     alloc: Global,
     models: &Models<'_>,
     model: &Model<'_>,
-    formulas: Vec<Option<Formula>>,
+    formulas: Vec<Option<DraftFormula>>,
 ) -> Result<ModelInfo, NoMemory>
     requires { length formulas.items ≡ length model.now.members.items }
-    ensures native { IfOk result (λ info. All HasNativeDefault (info.fields ++ info.hidden)) }
+    ensures native { IfOk result HasNativeDefaults }
     ensures of { IfOk result (λ info. (g : Gathered) (number : ModelNo)
         → ArePlaced models.now model.now formulas.items g number
         → model_number models.now g.name ≡ Some number
@@ -102,7 +103,7 @@ fn fields_of(
     alloc: Global,
     models: &Models<'_>,
     model: &Model<'_>,
-    formulas: Vec<Option<Formula>>,
+    formulas: Vec<Option<DraftFormula>>,
 ) -> Result<(Sequence<FieldInfo>, Sequence<FieldInfo>), NoMemory>
     requires { length formulas.items ≡ length model.now.members.items }
     ensures named { IfOk result (λ both. length both.0 ≡ model.now.named) }

@@ -10,7 +10,8 @@ ghost use Rattle.ob_definition.specs.Values.{IsNative};
 ghost use Rattle.ob_schema.specs.ModelFields.{member_of};
 ghost use Rattle.ob_schema.specs.Modelling.{named_back};
 
-use crate::info::{FieldInfo, Formula, Origin};
+use crate::formulas::{DraftFormula, formula_from};
+use crate::info::{FieldInfo, Origin};
 use crate::model::{Member, Model, Role};
 use crate::models::Models;
 use ob_base::{FieldNo, NoMemory, Sequence, Value, Word};
@@ -24,7 +25,7 @@ pub(crate) fn field_info(
     models: &Models<'_>,
     model: &Model<'_>,
     member: &Member<'_>,
-    formula: Option<Formula>,
+    formula: Option<DraftFormula>,
 ) -> Result<FieldInfo, NoMemory>
     ensures native { IfOk result (λ info. IfSome info.default IsNative) }
     ensures of { IfOk result (λ info. (g : Gathered) (number : ModelNo) (place : FieldNo)
@@ -58,7 +59,7 @@ fn origin_of(
     models: &Models<'_>,
     model: &Model<'_>,
     member: &Member<'_>,
-    formula: Option<Formula>,
+    formula: Option<DraftFormula>,
 ) -> Origin
     ensures { (g : Gathered) (number : ModelNo) (place : FieldNo)
         → IsPlaced models.now model.now (member_of member.now) formula g number place
@@ -69,7 +70,7 @@ fn origin_of(
             return Origin::Delegated(delegation);
         }
     }
-    match formula {
+    match formula_from(formula) {
         Some(formula) => Origin::Computed(formula),
         None if member.def.name.as_str() == "id" => Origin::Id,
         None => Origin::Plain,

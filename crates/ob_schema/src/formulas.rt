@@ -1,17 +1,18 @@
 //! The expressions of computed fields, checked, with the paths on which their values depend;
 //! and what is wrong with them. What the language gains, it gains in `ob_expr`.
 
-ghost use Rattle.std.specs.Prelude.{◌≡◌, ◌↔◌, ◌<◌, [], Any, IfOk, IsSome, IsTrue, MatchResult, Some, length, map, true, unwrap_or};
+ghost use Rattle.std.specs.Prelude.{◌≡◌, ◌↔◌, ◌<◌, [], Any, IfOk, IsSome, IsTrue, MatchResult, Some, length, map, option_map, true, unwrap_or};
 ghost use Rattle.ob_base.specs.Limits.{max_path_steps};
 ghost use Rattle.ob_syntax.specs.Grammar.{tree_of};
 ghost use Rattle.ob_expr.specs.TypedTree.{kind_of, typed_tree_of};
 ghost use Rattle.ob_definition.specs.Findings.{Adds, IsFaultAt};
+ghost use Rattle.ob_schema.specs.Building.{formula_from};
 ghost use Rattle.ob_schema.specs.Finds.{kind_of_field};
-ghost use Rattle.ob_schema.specs.Formulas.{HasFormula, IsCovered, declared_names, expression_text, formula_paths, paths_by_role, read_paths};
+ghost use Rattle.ob_schema.specs.Formulas.{HasFormula, HasTree, IsCovered, expression_text, paths_by_role};
 ghost use Rattle.ob_definition.specs.Members.{is_own_computed, model_at};
 ghost use Rattle.ob_schema.specs.ModelFields.{member_of};
 ghost use Rattle.ob_schema.specs.Paths.{BeginsWith, path_from, split_path, steps_of_route};
-ghost use Rattle.ob_schema.specs.Telling.{AreDeclaredWrong, ArePathsWrong, IsCoverWrong, IsFormulaFault, IsFormulaOf, IsPathWrong, IsReadingWrong, names_in, paths_by_names, spot_of, steps_in, texts_in};
+ghost use Rattle.ob_schema.specs.Telling.{IsChecked, IsCoverWrong, IsFormulaFault, IsFormulaOf, IsPathWrong, IsReadingWrong, IsTextWrong, IsTreeOf, names_by, names_in, paths_by_names, reads_by, spot_of, steps_in, texts_in};
 
 use crate::info::{Formula, Path};
 use crate::model::{Member, Role};
@@ -24,14 +25,36 @@ use ob_expr::{TypeFault, Typed, check};
 use ob_syntax::{Expr, ExprFault, one_tree, parse};
 use std::alloc::Global;
 
-/// The formula of a field of a model, where it has one and its expression is right.
+/// What is known of a computed field's formula: the paths on which the field depends, and its
+/// expression where that is right.
+#[derive(Drop)]
+pub(crate) struct DraftFormula {
+    pub(crate) depends: Sequence<Path>,
+    pub(crate) typed: Option<Typed>,
+    pub(crate) stratum: u16,
+}
+
+/// The formula of a draft whose expression is right.
+pub(crate) fn formula_from(draft: Option<DraftFormula>) -> Option<Formula>
+    ensures { result ≡ formula_from draft }
+{
+    let draft = draft?;
+    let typed = draft.typed?;
+    Some(Formula {
+        typed,
+        depends: draft.depends,
+        stratum: draft.stratum,
+    })
+}
+
+/// What is known of the formula of a field of a model, if the field is computed.
 pub(crate) fn formula_of(
     alloc: Global,
     models: &Models<'_>,
     number: ModelNo,
     member: &Member<'_>,
     first: &mut First,
-) -> Result<Option<Formula>, NoMemory>
+) -> Result<Option<DraftFormula>, NoMemory>
     requires { IsSome (model_at models.now number.0) }
     ensures formula { IfOk result (IsFormulaOf
         (record { models = models.now; number = number; member = member_of member.now })) }
@@ -42,16 +65,17 @@ pub(crate) fn formula_of(
         return Ok(None);
     }
     one_tree();
-    match read(alloc, models, number, member)? {
-        Ok((expr, typed)) => {
-            let formula = with_paths(alloc, models, number, member, &expr, typed, first)?;
-            Ok(Some(formula))
-        }
-        Err(wrong) => {
-            first.at_field(member.entry, member.def.name.as_str(), Some(wrong))?;
-            Ok(None)
-        }
-    }
+    let (expr, typed) = read(alloc, models, number, member, first)?;
+    let names = declared_names(alloc, member.def, &expr)?;
+    let declared = paths_of(alloc, models, number, member, names.as_slice(), first)?;
+    let depends = depends_of(alloc, number, member, declared, &typed, first)?;
+    let wrong = has_long(depends.as_slice()).then_some(Wrong::Limit);
+    first.at_field(member.entry, member.def.name.as_str(), wrong)?;
+    Ok(Some(DraftFormula {
+        depends,
+        typed,
+        stratum: 0,
+    }))
 }
 
 /// The text of a computed field's expression: its own, or the path of a related field.
@@ -64,20 +88,55 @@ fn expression_text(def: &FieldDef) -> &str
     }
 }
 
-/// The expression of a computed field as it was written and checked, or what is wrong.
+/// The expression of a computed field as far as it is right: as its text spells it, and
+/// checked.
 fn read(
     alloc: Global,
     models: &Models<'_>,
     number: ModelNo,
     member: &Member<'_>,
-) -> Result<Result<(Expr, Typed), Wrong>, NoMemory>
+    first: &mut First,
+) -> Result<(Option<Expr>, Option<Typed>), NoMemory>
+    requires { is_own_computed (member_of member.now) ≡ true }
+    ensures spelled { IfOk result
+        (λ both. IsTreeOf member.now.def.now (option_map tree_of both.0)) }
+    ensures checked { IfOk result (λ both. IsChecked
+        (record { models = models.now; number = number; member = member_of member.now })
+        (option_map tree_of both.0) (option_map typed_tree_of both.1)) }
+    ensures faults { IfOk result (λ _. Adds (IsFaultAt (spot_of (member_of member.now))
+        (IsReadingWrong (record { models = models.now; number = number; member = member_of member.now }))) first.old first.new) }
+{
+    one_tree();
+    let name = member.def.name.as_str();
+    let expr = match spelled(alloc, models, number, member)? {
+        Ok(expr) => expr,
+        Err(wrong) => {
+            first.at_field(member.entry, name, Some(wrong))?;
+            return Ok((None, None));
+        }
+    };
+    match checked(alloc, models, number, member, &expr)? {
+        Ok(typed) => Ok((Some(expr), Some(typed))),
+        Err(wrong) => {
+            first.at_field(member.entry, name, Some(wrong))?;
+            Ok((Some(expr), None))
+        }
+    }
+}
+
+/// The expression that a computed field's text spells, or what is wrong with the text.
+fn spelled(
+    alloc: Global,
+    models: &Models<'_>,
+    number: ModelNo,
+    member: &Member<'_>,
+) -> Result<Result<Expr, Wrong>, NoMemory>
     requires { is_own_computed (member_of member.now) ≡ true }
     ensures { IfOk result (λ told. MatchResult told
-        (λ both. HasFormula (record { models = models.now; number = number; member = member_of member.now }) (tree_of both.0) (typed_tree_of both.1))
-        (IsReadingWrong (record { models = models.now; number = number; member = member_of member.now }))) }
+        (λ expr. HasTree member.now.def.now (tree_of expr))
+        (IsTextWrong (record { models = models.now; number = number; member = member_of member.now }))) }
 {
-    let def = member.def;
-    let text = expression_text(def);
+    let text = expression_text(member.def);
     if text.len() > MAX_EXPRESSION_BYTES {
         return Ok(Err(Wrong::Limit));
     }
@@ -86,17 +145,34 @@ fn read(
         Err(ExprFault::NoMemory) => return Err(NoMemory),
         Err(why) => return Ok(Err(Wrong::Text(why))),
     };
-    if def.related.is_some() && expr.as_path().is_none() {
+    if member.def.related.is_some() && expr.as_path().is_none() {
         return Ok(Err(Wrong::Text(ExprFault::At(expr.first()))));
     }
-    let typed = match check(alloc, &expr, models, number) {
+    Ok(Ok(expr))
+}
+
+/// The expression of a computed field, checked, or what is wrong with it.
+fn checked(
+    alloc: Global,
+    models: &Models<'_>,
+    number: ModelNo,
+    member: &Member<'_>,
+    expr: &Expr,
+) -> Result<Result<Typed, Wrong>, NoMemory>
+    requires computed { is_own_computed (member_of member.now) ≡ true }
+    requires spelled { HasTree member.now.def.now (tree_of expr.now) }
+    ensures { IfOk result (λ told. MatchResult told
+        (λ typed. HasFormula (record { models = models.now; number = number; member = member_of member.now }) (tree_of expr.now) (typed_tree_of typed))
+        (IsReadingWrong (record { models = models.now; number = number; member = member_of member.now }))) }
+{
+    let typed = match check(alloc, expr, models, number) {
         Ok(typed) => typed,
         Err(TypeFault::Kind(_)) => return Ok(Err(Wrong::Kind)),
         Err(TypeFault::Name(_)) => return Ok(Err(Wrong::Field)),
         Err(TypeFault::NoMemory) => return Err(NoMemory),
     };
-    if has_kind(models, def, &typed) {
-        Ok(Ok((expr, typed)))
+    if has_kind(models, member.def, &typed) {
+        Ok(Ok(typed))
     } else {
         Ok(Err(Wrong::Kind))
     }
@@ -109,50 +185,19 @@ fn has_kind(models: &Models<'_>, def: &FieldDef, typed: &Typed) -> bool
     models.kind(def) == Some(typed.kind())
 }
 
-/// The formula of an expression with its paths, and what is wrong with these.
-fn with_paths(
+/// The paths that an expression reads, as steps, where it is right.
+fn reads_of(
     alloc: Global,
-    models: &Models<'_>,
     number: ModelNo,
-    member: &Member<'_>,
-    expr: &Expr,
-    typed: Typed,
-    first: &mut First,
-) -> Result<Formula, NoMemory>
-    requires model { IsSome (model_at models.now number.0) }
-    requires formula { HasFormula (record { models = models.now; number = number; member = member_of member.now }) (tree_of expr.now) (typed_tree_of typed) }
-    ensures typed { IfOk result (λ formula. formula.typed ≡ typed) }
-    ensures paths { IfOk result (λ formula. steps_in formula.depends
-        ≡ formula_paths (record { models = models.now; number = number; member = member_of member.now }) (tree_of expr.now) (typed_tree_of typed)) }
-    ensures faults { IfOk result (λ _. Adds (IsFaultAt (spot_of (member_of member.now))
-        (ArePathsWrong (record { models = models.now; number = number; member = member_of member.now }) (tree_of expr.now) (typed_tree_of typed))) first.old first.new) }
+    typed: &Option<Typed>,
+) -> Result<Sequence<Path>, NoMemory>
+    ensures { IfOk result
+        (λ reads. steps_in reads ≡ reads_by number (option_map typed_tree_of typed.now)) }
 {
-    let reads = reads_of(alloc, number, &typed)?;
-    let names = declared_names(alloc, member.def, expr)?;
-    let depends = depends_of(
-        alloc,
-        models,
-        number,
-        member,
-        names.as_slice(),
-        reads,
-        first,
-    )?;
-    let wrong = has_long(depends.as_slice()).then_some(Wrong::Limit);
-    first.at_field(member.entry, member.def.name.as_str(), wrong)?;
-    Ok(Formula {
-        typed,
-        depends,
-        stratum: 0,
-    })
-}
-
-/// The paths that an expression reads, as steps.
-fn reads_of(alloc: Global, number: ModelNo, typed: &Typed) -> Result<Sequence<Path>, NoMemory>
-    ensures { IfOk result (λ reads. steps_in reads ≡ read_paths number (typed_tree_of typed.now)) }
-{
-    let paths = typed.paths(alloc)?;
-    steps_of_each(alloc, number, paths.as_slice())
+    match typed {
+        Some(typed) => steps_of_each(alloc, number, typed.paths(alloc)?.as_slice()),
+        None => Ok(Sequence::new(alloc)),
+    }
 }
 
 /// These paths as steps.
@@ -177,19 +222,21 @@ fn has_long(paths: &[Path]) -> bool
     paths.iter().any(|path| path.steps.len() > MAX_PATH_STEPS)
 }
 
-/// The names of the paths on which a field says it depends: of a related field its one path.
+/// The names of the paths that a field declares: of a related field the one that its text
+/// spells, if it spells any.
 fn declared_names<'a>(
     alloc: Global,
     def: &'a FieldDef,
-    expr: &'a Expr,
+    expr: &'a Option<Expr>,
 ) -> Result<Vec<Vec<&'a str>>, NoMemory>
-    ensures { IfOk result (λ names. names_in names.items ≡ declared_names def.now (tree_of expr.now)) }
+    ensures { IfOk result
+        (λ names. names_in names.items ≡ names_by def.now (option_map tree_of expr.now)) }
 {
     if def.related.is_none() {
         return split_all(alloc, depends(def));
     }
     let mut all = Vec::new(alloc);
-    if let Some(names) = expr.as_path() {
+    if let Some(names) = expr.as_ref().and_then(|expr| expr.as_path()) {
         all.push(texts_of(alloc, names)?)?;
     }
     Ok(all)
@@ -238,24 +285,23 @@ fn split_path<'a>(alloc: Global, path: &'a str) -> Result<Vec<&'a str>, NoMemory
     Ok(names)
 }
 
-/// The paths on which a value depends: the declared ones that are paths, or those that a
-/// condition reads; and what is wrong with the others and with what is read but not declared.
+/// The paths on which a field depends: the declared ones, or those that a condition reads; and
+/// what a right expression reads that is not declared.
 fn depends_of(
     alloc: Global,
-    models: &Models<'_>,
     number: ModelNo,
     member: &Member<'_>,
-    names: &[Vec<&str>],
-    reads: Sequence<Path>,
+    declared: Sequence<Path>,
+    typed: &Option<Typed>,
     first: &mut First,
 ) -> Result<Sequence<Path>, NoMemory>
-    requires { IsSome (model_at models.now number.0) }
-    ensures paths { IfOk result (λ depends. steps_in depends
-        ≡ paths_by_role (member_of member.now).role (steps_in reads) (paths_by_names models.now number (names_in names.now))) }
-    ensures faults { IfOk result (λ _. Adds (IsFaultAt (spot_of (member_of member.now))
-        (AreDeclaredWrong models.now number (member_of member.now).role (names_in names.now) (steps_in reads))) first.old first.new) }
+    ensures paths { IfOk result (λ depends. steps_in depends ≡ paths_by_role
+        (member_of member.now).role (reads_by number (option_map typed_tree_of typed.now)) (steps_in declared)) }
+    ensures faults { IfOk result (λ depends. Adds (λ why. Any
+        (λ read. IsFaultAt (spot_of (member_of member.now)) (IsCoverWrong (steps_in depends) read) why)
+        (reads_by number (option_map typed_tree_of typed.now))) first.old first.new) }
 {
-    let declared = paths_of(alloc, models, number, member, names, first)?;
+    let reads = reads_of(alloc, number, typed)?;
     if matches!(member.role, Role::Hidden) {
         return Ok(reads);
     }

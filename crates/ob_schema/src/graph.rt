@@ -8,12 +8,12 @@ ghost use Rattle.ob_schema.specs.Graphs.{AreFormulas, AreHeights, AreStarts, IsG
 ghost use Rattle.ob_schema.specs.Strata.{IsComputedAt, IsPathOf};
 ghost use Rattle.ob_schema.specs.Telling.{steps_in};
 
-use crate::info::{Formula, Path, Step};
+use crate::formulas::DraftFormula;
+use crate::info::{Path, Step};
 use crate::models::{Models, field_number};
 use crate::strata::Formulas;
 use ob_base::{ModelNo, NoMemory};
 use ob_definition::is_computed;
-use ob_syntax::one_tree;
 use std::alloc::Global;
 
 /// The computed fields that each field reads, itself left out.
@@ -88,7 +88,7 @@ impl Graph {
         &self,
         alloc: Global,
         models: &Models<'_>,
-        formula: Option<&Formula>,
+        formula: Option<&DraftFormula>,
         node: usize,
     ) -> Result<Vec<usize>, NoMemory>
         requires steps { self.now.steps.items ≡ all_steps models.now }
@@ -203,12 +203,14 @@ impl Graph {
         false
     }
 
-    /// Whether a node is reached from itself.
-    pub(crate) fn is_on_cycle(&self, alloc: Global, node: usize) -> Result<bool, NoMemory>
+    /// Which nodes are reached from a node.
+    fn reached(&self, alloc: Global, node: usize) -> Result<Vec<bool>, NoMemory>
         requires node { node < length self.now.steps.items }
         requires count { length self.now.reads.items ≡ length self.now.steps.items }
         requires within { (a b : ℕ) → NodeReads self.now.reads.items a b → b < length self.now.steps.items }
-        ensures { IfOk result (λ is. IsTrue is ↔ Reaches (NodeReads self.now.reads.items) node node) }
+        ensures count { IfOk result (λ seen. length seen.items ≡ length self.now.steps.items) }
+        ensures each { IfOk result (λ seen. (b : ℕ)
+            → (slice_get seen.items b ≡ Some true) ↔ Reaches (NodeReads self.now.reads.items) node b) }
     {
         let mut is_seen = repeated(alloc, false, self.len())?;
         let mut waiting = Vec::new(alloc);
@@ -216,7 +218,30 @@ impl Graph {
         while let Some(next) = waiting.pop() {
             self.add_unseen(next, &mut is_seen, &mut waiting)?;
         }
-        Ok(is_seen[node])
+        Ok(is_seen)
+    }
+
+    /// Whether a node is reached from itself.
+    pub(crate) fn is_on_cycle(&self, alloc: Global, node: usize) -> Result<bool, NoMemory>
+        requires node { node < length self.now.steps.items }
+        requires count { length self.now.reads.items ≡ length self.now.steps.items }
+        requires within { (a b : ℕ) → NodeReads self.now.reads.items a b → b < length self.now.steps.items }
+        ensures { IfOk result (λ is. IsTrue is ↔ Reaches (NodeReads self.now.reads.items) node node) }
+    {
+        Ok(self.reached(alloc, node)?[node])
+    }
+
+    /// Whether a marked node is reached from a node.
+    pub(crate) fn meets(&self, alloc: Global, node: usize, marks: &[bool]) -> Result<bool, NoMemory>
+        requires node { node < length self.now.steps.items }
+        requires count { length self.now.reads.items ≡ length self.now.steps.items }
+        requires within { (a b : ℕ) → NodeReads self.now.reads.items a b → b < length self.now.steps.items }
+        requires marks { length marks.now ≡ length self.now.steps.items }
+        ensures { IfOk result (λ meets. IsTrue meets
+            ↔ ((b : ℕ) × Reaches (NodeReads self.now.reads.items) node b × (slice_get marks.now b ≡ Some true))) }
+    {
+        let is_seen = self.reached(alloc, node)?;
+        Ok(have_both(is_seen.as_slice(), marks))
     }
 
     /// Adds to those that wait the nodes that one reads and that weren't seen.
@@ -248,14 +273,16 @@ impl Graph {
 }
 
 /// The formula of a field, if it has one.
-fn formula_at<'a>(models: &Models<'_>, formulas: &'a Formulas, step: Step) -> Option<&'a Formula>
+fn formula_at<'a>(
+    models: &Models<'_>,
+    formulas: &'a Formulas,
+    step: Step,
+) -> Option<&'a DraftFormula>
     requires model { IsSome (model_at models.now step.model.0) }
     requires formulas { AreFormulas models.now formulas.now.items }
     ensures { (path : List Step) → IsPathOf models.now step path
         ↔ IsSomeAnd result (λ f. Contains (steps_in f.now.depends) path) }
 {
-    // The law that an expression has one reading.
-    one_tree();
     models.find(step)?;
     formulas[step.model.0 as usize - 1][step.field.0 as usize - 1].as_ref()
 }
@@ -269,6 +296,20 @@ fn is_computed_at(models: &Models<'_>, step: Step) -> bool
         Some(member) => is_computed(member.def),
         None => false,
     }
+}
+
+/// Whether two lists are both true at some place.
+fn have_both(left: &[bool], right: &[bool]) -> bool
+    requires { length left.now ≡ length right.now }
+    ensures { IsTrue result ↔ ((place : ℕ) × (slice_get left.now place ≡ Some true)
+        × (slice_get right.now place ≡ Some true)) }
+{
+    for place in 0..left.len() {
+        if left[place] && right[place] {
+            return true;
+        }
+    }
+    false
 }
 
 /// A value so many times.

@@ -2,28 +2,28 @@
 //! A field reads the computed fields at the ends of its paths. Its stratum is the length of
 //! the longest chain of other fields that are read in turn.
 
-ghost use Rattle.std.specs.Prelude.{◌≡◌, ◌≢◌, ◌<◌, ◌↔◌, Any, Contains, IfOk, IsSome, IsTrue, List, None, Some, length, option_map, slice_get, suc};
+ghost use Rattle.std.specs.Prelude.{◌≡◌, ◌≢◌, ◌<◌, ◌↔◌, Contains, IfOk, IsSome, IsTrue, List, None, length, option_map, slice_get, suc};
 ghost use Rattle.ob_base.specs.Limits.{max_stratum};
-ghost use Rattle.ob_definition.specs.Findings.{Adds, fault_at, Tells};
+ghost use Rattle.ob_definition.specs.Findings.{Adds, Tells};
 ghost use Rattle.ob_definition.specs.Gathered.{Gathered};
-ghost use Rattle.ob_schema.specs.Graphs.{AreFormulas, AreHeights, GoesBy, HaveStrata, IsChainWrong, IsCycleWrong, IsGraph, IsLongWrong, IsSelfWrong, IsStepFault, LeadsToItselfBy, all_steps, formula_in, with_stratum};
+ghost use Rattle.ob_schema.specs.Graphs.{AreFormulas, AreHeights, AreOnCycles, GoesBy, HaveStrata, IsChainWrong, IsCycleWrong, IsGraph, IsLongWrong, IsSelfWrong, IsStepFault, LeadsToItselfBy, all_steps, formula_in, with_stratum};
 ghost use Rattle.ob_definition.specs.Members.{model_at};
 ghost use Rattle.ob_schema.specs.ModelFields.{member_of};
-ghost use Rattle.ob_schema.specs.Strata.{IsMember, IsOnCycle, IsPathOf, IsRecursion, IsToChildren, IsToParent, Reads, parent_of};
+ghost use Rattle.ob_schema.specs.Strata.{Chain, IsMember, IsPathOf, IsToChildren, IsToParent, parent_of};
 ghost use Rattle.ob_schema.specs.Telling.{spot_of, steps_in};
 
+use crate::formulas::DraftFormula;
 use crate::graph::Graph;
-use crate::info::{Formula, Path, Step};
+use crate::info::{Path, Step};
 use crate::model::Member;
 use crate::models::Models;
 use ob_base::limits::MAX_STRATUM;
 use ob_base::{FieldNo, ModelNo, NoMemory};
 use ob_definition::{First, GatheredModel, Wrong, is_set};
-use ob_syntax::one_tree;
 use std::alloc::Global;
 
-/// The formulas of the fields of each model, by number.
-pub(crate) type Formulas = Vec<Vec<Option<Formula>>>;
+/// What is known of the formulas of the fields of each model, by number.
+pub(crate) type Formulas = Vec<Vec<Option<DraftFormula>>>;
 
 /// Gives each formula its stratum, and finds what is wrong with how fields read one another.
 pub(crate) fn stratify(
@@ -40,64 +40,81 @@ pub(crate) fn stratify(
 {
     let graph = Graph::new(alloc, models, formulas)?;
     let heights = graph.heights(alloc, MAX_STRATUM + 1)?;
-    let has_wrong_self = self_readers(models, formulas, &graph, first)?;
-    let has_circle = circles(alloc, models, &graph, heights.as_slice(), first)?;
-    if has_wrong_self || has_circle {
-        return Ok(());
-    }
-    give_strata(models, formulas, &graph, heights.as_slice(), first)
+    self_readers(models, formulas, &graph, first)?;
+    let on_cycles = circles(alloc, models, &graph, heights.as_slice(), first)?;
+    long_chains(
+        alloc,
+        models,
+        &graph,
+        heights.as_slice(),
+        on_cycles.as_slice(),
+        first,
+    )?;
+    give_strata(models, formulas, &graph, heights.as_slice());
+    Ok(())
 }
 
-/// Gives each formula its stratum, where no fields read one another in a circle.
-fn give_strata(
-    models: &Models<'_>,
-    formulas: &mut Formulas,
-    graph: &Graph,
-    heights: &[u16],
-    first: &mut First,
-) -> Result<(), NoMemory>
+/// Gives each formula its stratum, where no chain is past the greatest.
+fn give_strata(models: &Models<'_>, formulas: &mut Formulas, graph: &Graph, heights: &[u16])
     requires formulas { AreFormulas models.now formulas.old.items }
     requires graph { IsGraph models.now graph.now }
     requires heights { AreHeights graph.now.reads.items (suc max_stratum) heights.now }
-    ensures faults { IfOk result
-        (λ _. Adds (IsStepFault models.now (IsLongWrong models.now)) first.old first.new) }
-    ensures formulas { IfOk result (λ _. AreFormulas models.now formulas.new.items) }
-    ensures strata { IfOk result (λ _. first.new ≡ None → HaveStrata models.now formulas.new.items) }
+    ensures formulas { AreFormulas models.now formulas.new.items }
+    ensures strata { ((step : Step) → Chain models.now (suc max_stratum) step → ⊥)
+        → HaveStrata models.now formulas.new.items }
 {
     for (node, height) in heights.iter().enumerate() {
         let step = graph.step(node);
-        let member = member_at(models, step);
-        if *height > MAX_STRATUM {
-            first.at_field(member.entry, member.def.name.as_str(), Some(Wrong::Limit))?;
+        if member_at(models, step).is_computed() {
+            set_stratum(formulas, step, *height);
         }
-        set_stratum(formulas, step, *height);
+    }
+}
+
+/// Finds the fields with a chain past the greatest stratum whose chains all end.
+fn long_chains(
+    alloc: Global,
+    models: &Models<'_>,
+    graph: &Graph,
+    heights: &[u16],
+    on_cycles: &[bool],
+    first: &mut First,
+) -> Result<(), NoMemory>
+    requires graph { IsGraph models.now graph.now }
+    requires heights { AreHeights graph.now.reads.items (suc max_stratum) heights.now }
+    requires cycles { AreOnCycles graph.now.reads.items on_cycles.now }
+    ensures { IfOk result
+        (λ _. Adds (IsStepFault models.now (IsLongWrong models.now)) first.old first.new) }
+{
+    for (node, height) in heights.iter().enumerate() {
+        let is_long = *height > MAX_STRATUM && !graph.meets(alloc, node, on_cycles)?;
+        note(models, graph, node, is_long.then_some(Wrong::Limit), first)?;
     }
     Ok(())
 }
 
-/// Finds the fields that read one another in a circle; whether there are any. From each there
-/// are chains of every length.
+/// Finds the fields that read one another in a circle; which they are. From each there are
+/// chains of every length.
 fn circles(
     alloc: Global,
     models: &Models<'_>,
     graph: &Graph,
     heights: &[u16],
     first: &mut First,
-) -> Result<bool, NoMemory>
+) -> Result<Vec<bool>, NoMemory>
     requires graph { IsGraph models.now graph.now }
     requires heights { AreHeights graph.now.reads.items (suc max_stratum) heights.now }
-    ensures is { IfOk result (λ is. IsTrue is ↔ Any (IsOnCycle models.now) (all_steps models.now)) }
+    ensures cycles { IfOk result (λ marks. AreOnCycles graph.now.reads.items marks.items) }
     ensures faults { IfOk result
         (λ _. Adds (IsStepFault models.now (IsCycleWrong models.now)) first.old first.new) }
 {
-    let mut has_circle = false;
+    let mut marks = Vec::new(alloc);
     for (node, height) in heights.iter().enumerate() {
-        if *height > MAX_STRATUM && graph.is_on_cycle(alloc, node)? {
-            has_circle = true;
-            note(models, graph, node, Wrong::Cycle, first)?;
-        }
+        let is_on = *height > MAX_STRATUM && graph.is_on_cycle(alloc, node)?;
+        note(models, graph, node, is_on.then_some(Wrong::Cycle), first)?;
+        marks.push(is_on)?;
     }
-    Ok(has_circle)
+    Ok(marks)
 }
 
 /// Gives the formula of a field its stratum, if it has one.
@@ -115,22 +132,21 @@ fn set_stratum(formulas: &mut Formulas, step: Step, stratum: u16)
     }
 }
 
-/// Finds what is wrong with the field of a node.
+/// Finds what is wrong with the field of a node, if anything is.
 fn note(
     models: &Models<'_>,
     graph: &Graph,
     node: usize,
-    wrong: Wrong,
+    wrong: Option<Wrong>,
     first: &mut First,
 ) -> Result<(), NoMemory>
     requires graph { IsGraph models.now graph.now }
     requires node { node < length graph.now.steps.items }
-    ensures { IfOk result (λ _. (at : Step) (g : Gathered) (m : Rattle.ob_definition.specs.Members.Member)
-        → slice_get graph.now.steps.items node ≡ Some at → IsMember models.now at g m
-        → Adds (λ why. why ≡ fault_at wrong (spot_of m)) first.old first.new) }
+    ensures { IfOk result (λ _. Adds (IsStepFault models.now
+        (λ at m w. (slice_get graph.now.steps.items node ≡ Some at) × (wrong ≡ Some w))) first.old first.new) }
 {
     let member = member_at(models, graph.step(node));
-    first.at_field(member.entry, member.def.name.as_str(), Some(wrong))
+    first.at_field(member.entry, member.def.name.as_str(), wrong)
 }
 
 /// The field of a step.
@@ -143,36 +159,24 @@ fn member_at<'m, 'a>(models: &'m Models<'a>, step: Step) -> &'m Member<'a>
     models.model(step.model).member(step.field)
 }
 
-/// Finds what is wrong with fields that read themselves; whether one may not.
+/// Finds what is wrong with fields that read themselves.
 fn self_readers(
     models: &Models<'_>,
     formulas: &Formulas,
     graph: &Graph,
     first: &mut First,
-) -> Result<bool, NoMemory>
+) -> Result<(), NoMemory>
     requires formulas { AreFormulas models.now formulas.now.items }
     requires graph { IsGraph models.now graph.now }
-    ensures is { IfOk result (λ is. IsTrue is
-        ↔ Any (λ at. Reads models.now at at × (IsRecursion models.now at → ⊥)) (all_steps models.now)) }
-    ensures faults { IfOk result
+    ensures { IfOk result
         (λ _. Adds (IsStepFault models.now (IsSelfWrong models.now)) first.old first.new) }
 {
-    let mut has_cycle = false;
     for node in 0..graph.len() {
         let step = graph.step(node);
-        let member = member_at(models, step);
-        let wrong = wrong_itself(models, formulas, member, step);
-        has_cycle = has_cycle || is_cycle(&wrong);
-        first.at_field(member.entry, member.def.name.as_str(), wrong)?;
+        let wrong = wrong_itself(models, formulas, member_at(models, step), step);
+        note(models, graph, node, wrong, first)?;
     }
-    Ok(has_cycle)
-}
-
-/// Whether a circle is wrong.
-fn is_cycle(wrong: &Option<Wrong>) -> bool
-    ensures { IsTrue result ↔ (wrong.now ≡ Some Wrong.Cycle) }
-{
-    matches!(wrong, Some(Wrong::Cycle))
+    Ok(())
 }
 
 /// What is wrong with how a field reads itself, if it does.
@@ -186,7 +190,6 @@ fn wrong_itself(
     requires member { (g : Gathered) × IsMember models.now own g (member_of member.now) }
     ensures { Tells (IsSelfWrong models.now own (member_of member.now)) result }
 {
-    one_tree();
     match &formulas[own.model.0 as usize - 1][own.field.0 as usize - 1] {
         Some(formula) => wrong_self(models, formula.depends.as_slice(), member, own),
         None => None,

@@ -25,7 +25,7 @@ no_field_fault one (fault.Field spot) at =
       | inl inverse ↦ no_unknown_inverse m (simple_field m among) inverse
       | inr other ↦ elim other [
         | inl mirror ↦ no_unknown_mirror m (simple_field m among) mirror
-        | inr names ↦ elim names [ inl name ↦ no_unknown_name one m among name | inr path ↦ no_path_fault one no_field m among path ]
+        | inr names ↦ elim names [ inl name ↦ no_unknown_name one m among name | inr path ↦ no_path_fault no_field m among path ]
       ]
     ])
     at
@@ -33,11 +33,11 @@ no_field_fault one (fault.Kind spot) at =
     no_field_has spot (λ p g. HasWrongKeys p ⊎ HasWrongKind p)
     (λ m among has. elim has [ inl keys ↦ right_keys m (simple_field m among) keys | inr kind ↦ no_wrong_kind one m among kind ])
     at
-no_field_fault one (fault.Cycle spot) at = no_field_has spot HasCircle (λ m among has. no_circle one m has) at
-no_field_fault one (fault.Recursion spot) at = no_field_has spot IsUnmarked (λ m among has. no_unmarked one m has) at
+no_field_fault one (fault.Cycle spot) at = no_field_has spot HasCircle (λ m among has. no_circle m has) at
+no_field_fault one (fault.Recursion spot) at = no_field_has spot IsUnmarked (λ m among has. no_unmarked m has) at
 no_field_fault one (fault.Path spot) at =
     no_field_has spot (λ p g. HasUncovered p ⊎ HasPathFault p no_step)
-    (λ m among has. elim has [ inl uncovered ↦ no_uncovered one m among uncovered | inr path ↦ no_path_fault one no_step m among path ])
+    (λ m among has. elim has [ inl uncovered ↦ no_uncovered one m among uncovered | inr path ↦ no_path_fault no_step m among path ])
     at
 no_field_fault one (fault.Inverse spot) at =
     no_field_has spot (λ p g. HasWrongBack p p.member.def.inverse type.Many2one ⊎ HasWrongBack p p.member.def.mirror type.Many2many)
@@ -45,7 +45,7 @@ no_field_fault one (fault.Inverse spot) at =
     at
 no_field_fault one (fault.Limit spot) at =
     no_field_has spot (λ p g. HasLongText p ⊎ HasLongPath p ⊎ HasLongChain p g)
-    (λ m among has. elim has [ inl text ↦ no_long_text m among text | inr other ↦ elim other [ inl path ↦ no_long_path one m among path | inr chain ↦ no_long_chain one m chain ] ])
+    (λ m among has. elim has [ inl text ↦ no_long_text m among text | inr other ↦ elim other [ inl path ↦ no_long_path m among path | inr chain ↦ no_long_chain m chain ] ])
     at
 no_field_fault one (fault.Text spot why) at = no_field_has spot (λ p g. (is_own_computed p.member ≡ true) × HasTextFault p why) (λ m among has. no_unread_text why m among has) at
 no_field_fault one (fault.Twice spot) none = none

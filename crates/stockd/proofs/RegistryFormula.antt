@@ -18,11 +18,11 @@ use Rattle.ob_definition.specs.Members.{Member, is_own_computed}
 use Rattle.ob_schema.specs.declared.info.Step.{Step}
 use Rattle.ob_schema.specs.Faults.{HasLongPath, HasLongText, HasPathFault, HasTextFault, HasUncovered, HasUnknownName, HasWrongKind, IsTextFault}
 use Rattle.ob_schema.specs.Finds.{found_at}
-use Rattle.ob_schema.specs.Formulas.{HasFormula, HasTree, IsCovered, Spelled, declared_names, expression_text, formula_paths, read_paths}
+use Rattle.ob_schema.specs.Formulas.{Declares, DependsAlong, HasFormula, HasTree, IsCovered, Spelled, expression_text, formula_paths, read_paths}
 use Rattle.ob_schema.specs.Paths.{PathFault, path_from, step_at}
 use Rattle.stockd.specs.Model.{line_model, subtotal_field}
 use Rattle.stockd.proofs.RegistryFields.{of_subtotal}
-use Rattle.stockd.proofs.RegistryShape.{any_of_two, line_members, line_models, number, place, subtotal_member}
+use Rattle.stockd.proofs.RegistryShape.{any_of_two, each_of, line_members, line_models, number, place, subtotal_member}
 use Rattle.stockd.proofs.RegistryText.{OneTree, subtotal_one, subtotal_readable, subtotal_tree}
 
 -- ---- the expression of the product
@@ -85,12 +85,36 @@ subtotal_kind : OneTree → HasWrongKind (place subtotal_member) → ⊥
 subtotal_kind one (tree, has, computed, inl (at, refused)) = subtotal_passes one tree (type_fault.Kind at) has refused
 subtotal_kind one (tree, has, computed, inr (typed, checked, other)) = other (ap (λ (t : TypedTree). Some (kind_of t)) (sym (subtotal_comes one tree typed has checked)))
 
--- the paths on which it says it depends are paths
-subtotal_declared : OneTree → (why : PathFault) → HasPathFault (place subtotal_member) why → ⊥
-subtotal_declared one why (tree, typed, has, any) =
-    of_formula one (λ tree typed. Any (λ names. path_from line_models line_model names ≡ Err why) (declared_names subtotal_field tree))
-    (any_of_two (λ names. path_from line_models line_model names ≡ Err why) (codes "qty" ∷ []) (codes "price" ∷ []) (λ no. absurd (cc)) (λ no. absurd (cc)))
-    tree typed has any
+-- the names of the paths on which it says it depends
+subtotal_says : (names : List (List ℕ)) → Declares subtotal_field names → Contains ((codes "qty" ∷ []) ∷ (codes "price" ∷ []) ∷ []) names
+subtotal_says names (inl (none, among)) = among
+subtotal_says names (inr (related, spelled)) = absurd (false≢true related)
+
+-- they are paths
+subtotal_declared : (why : PathFault) → HasPathFault (place subtotal_member) why → ⊥
+subtotal_declared why (computed, (names, says, wrong)) =
+    each_of (λ names. path_from line_models line_model names ≡ Err why → ⊥) ((codes "qty" ∷ []) ∷ (codes "price" ∷ []) ∷ []) ((λ no. absurd (cc)), ((λ no. absurd (cc)), tt)) names (subtotal_says names says) wrong
+
+-- names that lead along one of the two paths, if they are a path
+abbrev LeadsShort : List (List ℕ) → Type 0
+LeadsShort names = (steps : List Step) → path_from line_models line_model names ≡ Ok steps → Contains (own_path (codes "qty") ∷ own_path (codes "price") ∷ []) steps
+
+qty_leads : LeadsShort (codes "qty" ∷ [])
+qty_leads steps is =
+    let known : path_from line_models line_model (codes "qty" ∷ []) ≡ Ok (own_path (codes "qty")) = refl in
+    let same : own_path (codes "qty") ≡ steps = cc in
+    (0, lit< tt, same)
+
+price_leads : LeadsShort (codes "price" ∷ [])
+price_leads steps is =
+    let known : path_from line_models line_model (codes "price" ∷ []) ≡ Ok (own_path (codes "price")) = refl in
+    let same : own_path (codes "price") ≡ steps = cc in
+    (1, lit< tt, same)
+
+-- the field depends along no others
+pub subtotal_along : (steps : List Step) → DependsAlong (place subtotal_member) steps → Contains (own_path (codes "qty") ∷ own_path (codes "price") ∷ []) steps
+subtotal_along steps (computed, (names, says, is)) =
+    each_of LeadsShort ((codes "qty" ∷ []) ∷ (codes "price" ∷ []) ∷ []) (qty_leads, (price_leads, tt)) names (subtotal_says names says) steps is
 
 -- they cover what it reads
 subtotal_covered : OneTree → HasUncovered (place subtotal_member) → ⊥
@@ -107,12 +131,9 @@ subtotal_short : HasLongText (place subtotal_member) → ⊥
 subtotal_short (computed, long) = omega arith
 
 -- and its paths
-subtotal_near : OneTree → HasLongPath (place subtotal_member) → ⊥
-subtotal_near one (tree, typed, has, any) =
-    let IsLong = λ (steps : List Step). max_path_steps < length steps in
-    of_formula one (λ tree typed. Any (λ steps. max_path_steps < length steps) (formula_paths (place subtotal_member) tree typed))
-    (any_of_two IsLong (own_path (codes "qty")) (own_path (codes "price")) (λ long. omega arith) (λ long. omega arith))
-    tree typed has any
+subtotal_near : HasLongPath (place subtotal_member) → ⊥
+subtotal_near (steps, along, long) =
+    each_of (λ steps. max_path_steps < length steps → ⊥) (own_path (codes "qty") ∷ own_path (codes "price") ∷ []) ((λ no. omega arith), ((λ no. omega arith), tt)) steps (subtotal_along steps along) long
 
 -- its text has no fault
 subtotal_read : (why : ExprFault) → HasTextFault (place subtotal_member) why → ⊥
@@ -127,8 +148,8 @@ no_unknown_name one m among has = of_subtotal HasUnknownName (subtotal_names one
 pub no_wrong_kind : OneTree → (m : Member) → Contains line_members m → HasWrongKind (place m) → ⊥
 no_wrong_kind one m among has = of_subtotal HasWrongKind (subtotal_kind one) m among has.2 has
 
-pub no_path_fault : OneTree → (why : PathFault) (m : Member) → Contains line_members m → HasPathFault (place m) why → ⊥
-no_path_fault one why m among has = of_subtotal (λ p. HasPathFault p why) (subtotal_declared one why) m among has.2.computed has
+pub no_path_fault : (why : PathFault) (m : Member) → Contains line_members m → HasPathFault (place m) why → ⊥
+no_path_fault why m among has = of_subtotal (λ p. HasPathFault p why) (subtotal_declared why) m among has.0 has
 
 pub no_uncovered : OneTree → (m : Member) → Contains line_members m → HasUncovered (place m) → ⊥
 no_uncovered one m among has = of_subtotal HasUncovered (subtotal_covered one) m among has.2.computed has
@@ -136,8 +157,8 @@ no_uncovered one m among has = of_subtotal HasUncovered (subtotal_covered one) m
 pub no_long_text : (m : Member) → Contains line_members m → HasLongText (place m) → ⊥
 no_long_text m among has = of_subtotal HasLongText subtotal_short m among has.0 has
 
-pub no_long_path : OneTree → (m : Member) → Contains line_members m → HasLongPath (place m) → ⊥
-no_long_path one m among has = of_subtotal HasLongPath (subtotal_near one) m among has.2.computed has
+pub no_long_path : (m : Member) → Contains line_members m → HasLongPath (place m) → ⊥
+no_long_path m among has = of_subtotal HasLongPath subtotal_near m among has.1.0 has
 
 pub no_unread_text : (why : ExprFault) (m : Member) → Contains line_members m → (is_own_computed m ≡ true) × HasTextFault (place m) why → ⊥
 no_unread_text why m among has = of_subtotal (λ p. HasTextFault p why) (subtotal_read why) m among has.0 has.1

@@ -5,19 +5,16 @@ use Rattle.std.proofs.lemmas.List.{length-append}
 use Rattle.ob_base.specs.Limits.{max_stratum}
 use Rattle.ob_base.specs.declared.id.FieldNo.{FieldNo}
 use Rattle.ob_base.specs.declared.id.ModelNo.{ModelNo}
-use Rattle.ob_expr.specs.TypedTree.{TypedTree}
-use Rattle.ob_syntax.specs.Grammar.{Tree}
 use Rattle.ob_definition.specs.Gathered.{Gathered}
 use Rattle.ob_definition.specs.Members.{Member, hidden_members, members_of, number_of}
 use Rattle.ob_schema.specs.declared.info.Step.{Step}
 use Rattle.ob_schema.specs.Faults.{HasCircle, HasLongChain, IsUnmarked}
-use Rattle.ob_schema.specs.Formulas.{HasFormula, formula_paths}
+use Rattle.ob_schema.specs.Formulas.{DependsAlong}
 use Rattle.ob_schema.specs.Strata.{Chain, IsCircle, IsComputedAt, IsMember, IsPathOf, Reads, by_condition, by_name}
 use Rattle.stockd.specs.Model.{line_model}
 use Rattle.stockd.proofs.RegistryFields.{only_computed, own_computed}
-use Rattle.stockd.proofs.RegistryFormula.{own_path, subtotal_is}
-use Rattle.stockd.proofs.RegistryShape.{each_of, in_none, line, line_members, line_models, number, numbers-line, only_model, place, subtotal_member}
-use Rattle.stockd.proofs.RegistryText.{OneTree, subtotal_tree}
+use Rattle.stockd.proofs.RegistryFormula.{own_path, subtotal_along}
+use Rattle.stockd.proofs.RegistryShape.{each_of, in_none, line, line_members, line_models, number, numbers-line, only_model, place}
 
 -- a field at a step
 record IsHere (at : Step) (m : Member) : Type 0 where
@@ -44,22 +41,14 @@ computed_here at (g, m, is, computed) =
     let here = member_here at g m is in
     ap (λ (n : Member). number n.def.name) (only_computed m here.among computed) ∙ here.is_number
 
--- a formula with one of its paths
-abbrev HasPath : ModelNo → Member → Tree → TypedTree → List Step → Type 0
-HasPath n m tree typed path =
-    HasFormula (record { models = line_models; number = n; member = m }) tree typed × Contains (formula_paths (record { models = line_models; number = n; member = m }) tree typed) path
-
--- a path on which a formula depends is one of two
-path_here : OneTree → (at : Step) (path : List Step) → IsPathOf line_models at path → Contains (own_path (codes "qty") ∷ own_path (codes "price") ∷ []) path
-path_here one at path is =
+-- a path on which a field depends is one of two
+path_here : (at : Step) (path : List Step) → IsPathOf line_models at path → Contains (own_path (codes "qty") ∷ own_path (codes "price") ∷ []) path
+path_here at path is =
     let here = member_here at is.model is.member is.is_member in
-    let Has : ModelNo → Member → Type 0 = λ n m. HasPath n m is.tree is.typed path in
-    let first : Has line_model is.member = subst (λ (n : ModelNo). Has n is.member) here.model (is.formula, is.among) in
-    let known = only_computed is.member here.among (own_computed is.member is.formula.computed) in
-    let second : Has line_model subtotal_member = subst (Has line_model) (sym known) first in
-    let same = subtotal_is one is.tree is.typed second.0 in
-    let Among : Tree → TypedTree → Type 0 = λ tree typed. Contains (formula_paths (place subtotal_member) tree typed) path in
-    subst (Among subtotal_tree) same.1 (subst (λ (t : Tree). Among t is.typed) same.0 second.1)
+    let Along : ModelNo → Member → Type 0 = λ n m. DependsAlong (record { models = line_models; number = n; member = m }) path in
+    let first : Along line_model is.member = subst (λ (n : ModelNo). Along n is.member) here.model is.depends in
+    let known = only_computed is.member here.among (own_computed is.member first.0) in
+    subtotal_along path (subst (Along line_model) (sym known) first)
 
 -- what ends in a step and is one step is that step
 last_of : (s b : Step) (front : List Step) → s ∷ [] ≡ front ++ b ∷ [] → s ≡ b
@@ -81,27 +70,27 @@ price_apart front b same computed =
     omega (arith, numbers-line, ap (λ (n : FieldNo). n.0) is)
 
 -- so that no field reads a computed one
-no_reads : OneTree → (a b : Step) → Reads line_models a b → ⊥
-no_reads one a b (computed, (front, path)) =
-    each_of EndsApart (own_path (codes "qty") ∷ own_path (codes "price") ∷ []) (qty_apart, (price_apart, tt)) (front ++ b ∷ []) (path_here one a (front ++ b ∷ []) path)
+no_reads : (a b : Step) → Reads line_models a b → ⊥
+no_reads a b (computed, (front, path)) =
+    each_of EndsApart (own_path (codes "qty") ∷ own_path (codes "price") ∷ []) (qty_apart, (price_apart, tt)) (front ++ b ∷ []) (path_here a (front ++ b ∷ []) path)
     front b refl (computed_here b computed)
 
 -- there is no chain
-pub no_chain : OneTree → (n : ℕ) (a : Step) → Chain line_models (suc n) a → ⊥
-no_chain one n a (b, follows, rest) = no_reads one a b follows.0
+pub no_chain : (n : ℕ) (a : Step) → Chain line_models (suc n) a → ⊥
+no_chain n a (b, follows, rest) = no_reads a b follows.0
 
 -- and no circle
-no_circle_at : OneTree → (a : Step) → IsCircle line_models a → ⊥
-no_circle_at one a (inl (zero, follows)) = no_reads one a a follows.0
-no_circle_at one a (inl (suc n, (b, follows, rest))) = no_reads one a b follows.0
-no_circle_at one a (inr (reads, other)) = no_reads one a a reads
+no_circle_at : (a : Step) → IsCircle line_models a → ⊥
+no_circle_at a (inl (zero, follows)) = no_reads a a follows.0
+no_circle_at a (inl (suc n, (b, follows, rest))) = no_reads a b follows.0
+no_circle_at a (inr (reads, other)) = no_reads a a reads
 
-pub no_circle : OneTree → (m : Member) → HasCircle (place m) line → ⊥
-no_circle one m (at, is, circle) = no_circle_at one at circle
+pub no_circle : (m : Member) → HasCircle (place m) line → ⊥
+no_circle m (at, is, circle) = no_circle_at at circle
 
 -- no field reads itself
-pub no_unmarked : OneTree → (m : Member) → IsUnmarked (place m) line → ⊥
-no_unmarked one m (at, is, reads, recursion, unmarked) = no_reads one at at reads
+pub no_unmarked : (m : Member) → IsUnmarked (place m) line → ⊥
+no_unmarked m (at, is, reads, recursion, unmarked) = no_reads at at reads
 
-pub no_long_chain : OneTree → (m : Member) → HasLongChain (place m) line → ⊥
-no_long_chain one m (at, is, chain, none) = no_chain one max_stratum at chain
+pub no_long_chain : (m : Member) → HasLongChain (place m) line → ⊥
+no_long_chain m (at, is, past) = no_chain max_stratum at past.0

@@ -4,7 +4,7 @@ use Rattle.ob_definition.specs.Findings.{Adds}
 use Rattle.ob_definition.specs.Members.{Member}
 use Rattle.ob_definition.proofs.Copies.{zip_more}
 use Rattle.ob_definition.proofs.Tellings.{Adds-more}
-use Rattle.ob_schema.specs.declared.info.Formula.{Formula}
+use Rattle.ob_schema.specs.declared.formulas.DraftFormula.{DraftFormula}
 use Rattle.ob_schema.specs.declared.model.Member.{Member as KeptMember}
 use Rattle.ob_schema.specs.ModelFields.{member_of, members_in}
 use Rattle.ob_schema.specs.Telling.{AreFaultsOf, IsFormulaFault, IsFormulaOf}
@@ -14,7 +14,8 @@ use Rattle.ob_schema.proofs.build.formulas_in.Goals as goal
 
 pub loop-member-init : goal.loop-member-init
 loop-member-init c = record {
-  formulas = subst (λ (l : List (Option Formula)). AllZip (λ (m : KeptMember) formula. IsFormulaOf (record { models = c.args.models.now; number = c.args.number; member = member_of m }) formula) [] l) (sym c.new-formulas.ensures.items) tt;
+  formulas = subst (λ (l : List (Option DraftFormula)). AllZip (λ (m : KeptMember) formula. IsFormulaOf (record { models = c.args.models.now; number = c.args.number; member = member_of m }) formula) [] l)
+      (sym c.new-formulas.ensures.items) tt;
   faults = found_none (λ (m : Member) why. IsFormulaFault (record { models = c.args.models.now; number = c.args.number; member = m }) why) c.args.first.now;
 }
 
@@ -26,8 +27,9 @@ loop-member-preserved c =
     let i = c.loop-member.member-index in
     let m = c.member-item.result in
     record {
-      formulas = subst (λ (l : List (Option Formula)). AllZip (λ (k : KeptMember) formula. IsFormulaOf (record { models = models; number = number; member = member_of k }) formula) (take (i + 1) members) l) (sym c.in_ok-push.ensures.items)
-          (zip_more (λ (k : KeptMember) (formula : Option Formula). IsFormulaOf (record { models = models; number = number; member = member_of k }) formula) members i m c.loop-member.formulas.items c.in_ok-formula_of.field-0
+      formulas = subst (λ (l : List (Option DraftFormula)). AllZip (λ (k : KeptMember) formula. IsFormulaOf (record { models = models; number = number; member = member_of k }) formula) (take (i + 1) members) l)
+          (sym c.in_ok-push.ensures.items)
+          (zip_more (λ (k : KeptMember) (formula : Option DraftFormula). IsFormulaOf (record { models = models; number = number; member = member_of k }) formula) members i m c.loop-member.formulas.items c.in_ok-formula_of.field-0
           c.loop-member-test.true c.member-item.is c.loop-member.invariant.formulas c.in_ok-formula_of.ensures.formula);
       faults = subst (λ (l : List Member). Adds (AreFaultsOf models number l) c.args.first.now c.formula_of.new.first) (sym (members_more members i m c.loop-member-test.true c.member-item.is))
           (Adds-more (λ (k : Member) why. IsFormulaFault (record { models = models; number = number; member = k }) why) (members_in (take i members)) (member_of m) c.args.first.now c.loop-member.first c.formula_of.new.first

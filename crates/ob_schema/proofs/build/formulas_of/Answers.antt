@@ -2,13 +2,13 @@ use Rattle.std.proofs.Common.{◌≡◌, ℕ, ◌+◌, ◌≤◌, ◌<◌, List,
 use Rattle.std.specs.Prelude.{Vec}
 use Rattle.std.specs.declared.alloc.Global.{Global}
 use Rattle.ob_base.specs.declared.id.FieldNo.{FieldNo}
-use Rattle.ob_schema.specs.declared.info.Formula.{Formula}
+use Rattle.ob_schema.specs.declared.formulas.DraftFormula.{DraftFormula}
 use Rattle.ob_schema.proofs.FormulaLoops.{AreUpto, as_many, faults_all, faults_more, faults_none, formulas_all, formulas_more, formulas_none, place_there}
 use Rattle.ob_schema.proofs.build.formulas_of.Goals as goal
 
 pub loop-place-init : goal.loop-place-init
 loop-place-init c = record {
-  formulas = subst (λ (l : List (Vec (Option Formula) Global)). AreUpto c.args.models.now 0 l) (sym c.new-formulas.ensures.items) (formulas_none c.args.models.now);
+  formulas = subst (λ (l : List (Vec (Option DraftFormula) Global)). AreUpto c.args.models.now 0 l) (sym c.new-formulas.ensures.items) (formulas_none c.args.models.now);
   faults = faults_none c.args.models.now c.args.first.now;
 }
 
@@ -26,7 +26,7 @@ loop-place-preserved c =
     let k = c.in_ok-field_number.field-0.0 in
     let is : k ≡ place + 1 = ap (λ (n : FieldNo). n.0) c.in_ok-field_number.ensures in
     record {
-      formulas = subst (λ (l : List (Vec (Option Formula) Global)). AreUpto models (place + 1) l) (sym c.in_ok-push.ensures.items)
+      formulas = subst (λ (l : List (Vec (Option DraftFormula) Global)). AreUpto models (place + 1) l) (sym c.in_ok-push.ensures.items)
           (formulas_more models place k c.loop-place.formulas.items c.in_ok-model_formulas.field-0 is c.loop-place.invariant.formulas c.in_ok-model_formulas.ensures.formulas);
       faults = faults_more models place k c.args.first.now c.loop-place.first c.model_formulas.new.first is c.loop-place.invariant.faults c.in_ok-model_formulas.ensures.faults;
     }

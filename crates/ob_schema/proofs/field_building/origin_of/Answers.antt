@@ -27,7 +27,7 @@ pub returns-in-None-2 : goal.returns-in-None-2
 returns-in-None-2 c = λ g number place placed.
     let models = c.args.models.now in
     let m = member_of c.args.member.now in
-    let given : is_own_computed m ≡ false = MatchOption-at_none _ _ c.in-None-2.is placed.formula in
+    let given : is_own_computed m ≡ false = MatchOption-at_none _ _ (sym c.formula_from.ensures ∙ c.in-None-2.is) placed.formula in
     let other : bytes_eq m.def.name (codes "id") ≡ false = ap (λ (n : List ℕ). bytes_eq n (codes "id")) (sym c.as_str.ensures) ∙ sym c.if-eq.ensures in
     plain_own models (step_at number place) g m placed.member given other (λ i role. elim c.match-member.branch [
       | in-Delegated+in_default-delegation w ↦

@@ -1,23 +1,26 @@
-use Rattle.std.proofs.Common.{◌≡◌, ◌-◌, List, Option, Some, length, get_or, refl, sym, ap, subst, ◌∙◌, arith}
-use Rattle.std.specs.Prelude.{Contains, IsSomeAnd, Vec, option_and_then}
+use Rattle.std.proofs.Common.{◌≡◌, List, Option, Some, length, refl, sym, ap, subst, arith}
+use Rattle.std.specs.Prelude.{Contains, IsSomeAnd, Vec}
 use Rattle.std.specs.declared.alloc.Global.{Global}
 use Rattle.ob_definition.specs.Gathered.{Gathered}
 use Rattle.ob_definition.specs.Members.{Member, model_at}
-use Rattle.ob_schema.specs.declared.info.Formula.{Formula}
+use Rattle.ob_schema.specs.declared.formulas.DraftFormula.{DraftFormula}
 use Rattle.ob_schema.specs.declared.info.Step.{Step}
 use Rattle.ob_schema.specs.Built.{numbered}
 use Rattle.ob_schema.specs.Graphs.{AreFormulas, formula_in}
 use Rattle.ob_schema.specs.ModelFields.{member_of}
 use Rattle.ob_schema.specs.Strata.{IsMember}
 use Rattle.ob_schema.specs.Telling.{IsFormulaOf, steps_in}
-use Rattle.ob_schema.proofs.Readings.{IsPathOf-formula, and_then_there, at_some, copied_from, copied_to, numbered_same, numbered_within, place_at, some_of}
+use Rattle.ob_schema.proofs.OwnFormulas.{formula-read, paths-of, some-formula}
+use Rattle.ob_schema.proofs.Readings.{and_then_there, copied_from, copied_to, numbered_same, numbered_within, some_of}
 use Rattle.ob_schema.proofs.graph.formula_at.Goals as goal
 
 -- where the formula of a member stands
-found : (models : List Gathered) (formulas : List (Vec (Option Formula) Global)) (step : Step) (g : Gathered) (m : Member) → AreFormulas models formulas → IsMember models step g m
-    → (row : Vec (Option Formula) Global) × (formula : Option Formula) × (numbered formulas step.model.0 ≡ Some row) × (numbered row.items step.field.0 ≡ Some formula) × IsFormulaOf (place_at models step m) formula
+found : (models : List Gathered) (formulas : List (Vec (Option DraftFormula) Global)) (step : Step) (g : Gathered) (m : Member) → AreFormulas models formulas → IsMember models step g m
+    → (row : Vec (Option DraftFormula) Global) × (formula : Option DraftFormula) × (numbered formulas step.model.0 ≡ Some row) × (numbered row.items step.field.0 ≡ Some formula)
+    × IsFormulaOf (record { models = models; number = step.model; member = m }) formula
 found models formulas step g m are is_member =
-    and_then_there (λ (own : Vec (Option Formula) Global). numbered own.items step.field.0) (numbered formulas step.model.0) (IsFormulaOf (place_at models step m)) (are.each step g m is_member)
+    and_then_there (λ (own : Vec (Option DraftFormula) Global). numbered own.items step.field.0) (numbered formulas step.model.0)
+    (IsFormulaOf (record { models = models; number = step.model; member = m })) (are.each step g m is_member)
 
 pub index-requires : goal.index-requires
 index-requires c =
@@ -41,22 +44,20 @@ index-requires-2 c =
     let there = found c.args.models.now c.args.formulas.now.items c.args.step g.0 m c.requires.formulas ((c.in_ok-find.ensures.is g.0 m).1 (g.1, refl)) in
     let row = numbered_same c.args.formulas.now.items c.args.step.model.0 there.0 c.index.result.now there.2 c.index.ensures in
     let within = numbered_within there.0.items c.args.step.field.0 there.1 there.3 in
-    omega (arith, within.1, ap (λ (v : Vec (Option Formula) Global). length v.items) row, c.index.result.now.ok.0)
+    omega (arith, within.1, ap (λ (v : Vec (Option DraftFormula) Global). length v.items) row, c.index.result.now.ok.0)
 
 pub returns : goal.returns
 returns c =
     let g = some_of (model_at c.args.models.now c.args.step.model.0) c.requires.model in
     let m = member_of c.in_ok-find.field-0.now in
     let is_member = (c.in_ok-find.ensures.is g.0 m).1 (g.1, refl) in
-    let there = found c.args.models.now c.args.formulas.now.items c.args.step g.0 m c.requires.formulas is_member in
-    let row = numbered_same c.args.formulas.now.items c.args.step.model.0 there.0 c.index.result.now there.2 c.index.ensures in
-    let formula = numbered_same there.0.items c.args.step.field.0 there.1 c.index-2.result.now there.3 (c.index-2.ensures ∙ ap (λ (v : Vec (Option Formula) Global). get_or v.items (c.args.step.field.0 - 1) c.index-2.result.now) row) in
-    let stands : formula_in c.args.formulas.now.items c.args.step ≡ Some there.1 =
-    ap (option_and_then (λ (own : Vec (Option Formula) Global). numbered own.items c.args.step.field.0)) there.2 ∙ there.3 in
-    let copied = c.as_ref.ensures.value ∙ formula in
+    let there = some-formula (IsFormulaOf (record { models = c.args.models.now; number = c.args.step.model; member = m })) (formula_in c.args.formulas.now.items c.args.step)
+    (c.requires.formulas.each c.args.step g.0 m is_member) in
+    let read = formula-read c.args.formulas.now.items c.args.step there.0 c.index-2.result.now c.index.result.now there.1 c.index.ensures c.index-2.ensures in
     λ path. (
-    let both = IsPathOf-formula c.one_tree.ensures c.args.models.now c.args.step g.0 m there.1 is_member
-    (λ h n member. at_some (formula_in c.args.formulas.now.items c.args.step) (IsFormulaOf (place_at c.args.models.now c.args.step n)) there.1 stands (c.requires.formulas.each c.args.step h n member)) path in (
-      λ is. copied_to c.as_ref.result (λ (f : Formula). Contains (steps_in f.depends) path) (subst (λ (o : Option Formula). IsSomeAnd o (λ f. Contains (steps_in f.depends) path)) (sym copied) (both.0 is)),
-      λ is. both.1 (subst (λ (o : Option Formula). IsSomeAnd o (λ f. Contains (steps_in f.depends) path)) copied (copied_from c.as_ref.result (λ (f : Formula). Contains (steps_in f.depends) path) is)),
+    let both = paths-of c.args.models.now c.args.formulas.now.items c.requires.formulas c.args.step g.0 m is_member c.index-2.result.now read path in (
+      λ is. copied_to c.as_ref.result (λ (f : DraftFormula). Contains (steps_in f.depends) path)
+          (subst (λ (o : Option DraftFormula). IsSomeAnd o (λ f. Contains (steps_in f.depends) path)) (sym c.as_ref.ensures.value) (both.0 is)),
+      λ is. both.1 (subst (λ (o : Option DraftFormula). IsSomeAnd o (λ f. Contains (steps_in f.depends) path)) c.as_ref.ensures.value
+          (copied_from c.as_ref.result (λ (f : DraftFormula). Contains (steps_in f.depends) path) is)),
     ))

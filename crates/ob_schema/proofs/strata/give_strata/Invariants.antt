@@ -1,6 +1,4 @@
-use Rattle.ob_definition.specs.Findings.{Adds}
-use Rattle.ob_schema.specs.Graphs.{AreFormulas, IsLongWrong}
-use Rattle.ob_schema.proofs.StepFaults.{AreNodeFaults}
+use Rattle.ob_schema.specs.Graphs.{AreFormulas}
 use Rattle.ob_schema.proofs.GivenStrata.{AreGiven}
 use Rattle.ob_schema.proofs.strata.give_strata.Given as goal
 
@@ -8,5 +6,4 @@ abbrev pub invariant-loop-node : goal.invariant-loop-node
 invariant-loop-node l = record {
   are : AreFormulas l.models l.formulas.items;
   given : AreGiven l.models l.formulas.items l.node;
-  faults : Adds (AreNodeFaults l.models (IsLongWrong l.models) l.node) l.initial.first l.first;
 }

@@ -1,24 +1,22 @@
-use Rattle.std.proofs.Common.{◌≡◌, List, sym, ap, subst, ◌∙◌}
+use Rattle.std.proofs.Common.{◌≡◌, List, ap, subst}
 use Rattle.std.specs.Prelude.{Contains}
-use Rattle.std.proofs.lemmas.Option.{same_Some}
 use Rattle.std.proofs.lemmas.Result.{IfOk-weaker}
-use Rattle.ob_definition.specs.declared.fault.SchemaFault.{SchemaFault}
 use Rattle.ob_definition.specs.declared.fault.Spot.{Spot}
-use Rattle.ob_definition.specs.Findings.{Adds, fault_at}
+use Rattle.ob_definition.specs.Findings.{Adds, IsAt}
 use Rattle.ob_definition.specs.Rooms.{spot_at}
 use Rattle.ob_schema.specs.declared.info.Step.{Step}
 use Rattle.ob_schema.specs.ModelFields.{member_of}
-use Rattle.ob_schema.specs.Strata.{IsMember}
 use Rattle.ob_schema.specs.Telling.{spot_of}
 use Rattle.ob_schema.proofs.AllSteps.{contains_at}
+use Rattle.ob_schema.proofs.StepFaults.{told-at}
 use Rattle.ob_schema.proofs.strata.note.Goals as goal
 
 pub member_at-member-requires : goal.member_at-member-requires
 member_at-member-requires c = subst (λ (l : List Step). Contains l c.step.result) c.requires.graph.steps (contains_at c.args.graph.now.steps.items c.args.node c.step.result c.step.ensures)
 
 pub returns : goal.returns
-returns c = IfOk-weaker c.at_field.result _ _ (λ _ fact. λ at g m here is.
-    let same : at ≡ c.step.result = same_Some at c.step.result (sym here ∙ c.step.ensures) in
-    let own : m ≡ member_of c.member_at-member.result.now = c.member_at-member.ensures.single g m (subst (λ (s : Step). IsMember c.args.models.now s g m) same is) in
-    let spot : spot_at c.member_at-member.result.now.entry c.as_str.result.now ≡ spot_of m = ap (spot_at c.member_at-member.result.now.entry) c.as_str.ensures ∙ ap spot_of (sym own) in
-    subst (λ (s : Spot). Adds (λ (why : SchemaFault). why ≡ fault_at c.args.wrong s) c.args.first.now c.at_field.new.self) spot fact) c.at_field.ensures.found
+returns c = IfOk-weaker c.at_field.result _ _ (λ _ fact.
+    let spot : spot_at c.member_at-member.result.now.entry c.as_str.result.now ≡ spot_of (member_of c.member_at-member.result.now) = ap (spot_at c.member_at-member.result.now.entry) c.as_str.ensures in
+    told-at c.args.models.now c.args.graph.now.steps.items c.args.node c.step.result (member_of c.member_at-member.result.now) c.args.wrong c.args.first.now c.at_field.new.self c.step.ensures
+    c.member_at-member.ensures.there c.member_at-member.ensures.single
+    (subst (λ (s : Spot). Adds (IsAt c.args.wrong s) c.args.first.now c.at_field.new.self) spot fact)) c.at_field.ensures.found

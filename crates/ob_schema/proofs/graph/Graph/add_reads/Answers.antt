@@ -1,7 +1,7 @@
 use Rattle.std.proofs.Common.{◌≡◌, ◌≢◌, ℕ, ◌+◌, List, length, Option, Some, sym, ap, subst, ◌∙◌, arith}
 use Rattle.std.specs.Prelude.{◌↔◌, Contains, IsSomeAnd, Vec, option_map, slice_get}
 use Rattle.std.specs.declared.alloc.Global.{Global}
-use Rattle.ob_schema.specs.declared.info.Formula.{Formula}
+use Rattle.ob_schema.specs.declared.formulas.DraftFormula.{DraftFormula}
 use Rattle.ob_schema.specs.declared.info.Step.{Step}
 use Rattle.ob_schema.specs.Graphs.{AreStarts, IsReadBy}
 use Rattle.ob_schema.specs.Strata.{IsPathOf}
@@ -30,11 +30,11 @@ loop-node-preserved c =
     let steps = c.args.self.now.steps.items in
     let node = c.loop-node.node in
     let found = c.formula_at-formula.result in
-    let formula : Option Formula = option_map (λ f. f.now) found in
+    let formula : Option DraftFormula = option_map (λ f. f.now) found in
     let at : slice_get steps node ≡ Some c.step.result = ap (λ (v : Vec Step Global). slice_get v.items node) (sym c.loop-node.invariant.steps) ∙ c.step.ensures in
     let paths : (path : List Step) → IsPathOf models c.step.result path ↔ IsSomeAnd formula (λ f. Contains (steps_in f.depends) path) = λ path. (
-      λ is. mapped_from found (λ (f : Formula). Contains (steps_in f.depends) path) ((c.formula_at-formula.ensures path).0 is),
-      λ is. (c.formula_at-formula.ensures path).1 (mapped_to found (λ (f : Formula). Contains (steps_in f.depends) path) is),
+      λ is. mapped_from found (λ (f : DraftFormula). Contains (steps_in f.depends) path) ((c.formula_at-formula.ensures path).0 is),
+      λ is. (c.formula_at-formula.ensures path).1 (mapped_to found (λ (f : DraftFormula). Contains (steps_in f.depends) path) is),
     ) in
     let reads = subst (λ (v : Vec Step Global). (b : ℕ) → Contains c.in_ok-reads.reads.items b ↔ ((b ≢ node) × IsReadBy models v.items formula b)) c.loop-node.invariant.steps c.in_ok-reads.ensures in
     record {

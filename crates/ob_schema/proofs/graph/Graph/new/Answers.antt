@@ -21,7 +21,8 @@ loop-place-preserved c =
     let g = zip_at (IsModelled models) models c.deref-model-items.result.now c.loop-place.place c.model-item.result all c.loop-place-test.true c.model-item.is in
     record {
       nodes = AreNodesUpto-more models c.loop-place.place c.loop-place.graph.steps.items c.loop-place.graph.starts.items g.0 c.model-item.result c.loop-place.invariant.nodes g.1 g.2
-          c.in_ok-field_number.field-0.0 c.len-in-loop-place.result c.len.result (ap (λ n. n.0) c.in_ok-field_number.ensures) (c.len-in-loop-place.ensures ∙ c.model-item.result.members.ok.0) (c.len.ensures ∙ c.loop-place.graph.steps.ok.0)
+          c.in_ok-field_number.field-0.0 c.len-in-loop-place.result c.len.result (ap (λ n. n.0) c.in_ok-field_number.ensures)
+          (c.len-in-loop-place.ensures ∙ c.model-item.result.members.ok.0) (c.len.ensures ∙ c.loop-place.graph.steps.ok.0)
           c.add_nodes.new.self.steps.items c.in_ok-add_nodes.ensures.steps c.add_nodes.new.self.starts.items (ap (λ v. v.items) c.in_ok-add_nodes.ensures.starts ∙ c.in_ok-push.ensures.items);
       none = ap (λ v. v.items) c.in_ok-add_nodes.ensures.reads ∙ c.loop-place.invariant.none;
     }

@@ -3,7 +3,7 @@ use Rattle.std.proofs.lemmas.List.{take_all, take_more}
 use Rattle.std.proofs.lemmas.Option.{none-some, same_Some}
 use Rattle.std.specs.Borrow.{Bor}
 use Rattle.std.specs.Prelude.{◌↔◌, Contains, option_map}
-use Rattle.ob_schema.specs.declared.info.Formula.{Formula}
+use Rattle.ob_schema.specs.declared.formulas.DraftFormula.{DraftFormula}
 use Rattle.ob_schema.specs.declared.info.Path.{Path}
 use Rattle.ob_schema.specs.Graphs.{IsReadBy}
 use Rattle.ob_schema.proofs.GraphReads.{AreRead, AreRead-kept, AreRead-new, AreRead-none}
@@ -40,4 +40,4 @@ pub returns : goal.returns
 returns c =
     let all = take_all c.loop-path.path-index c.as_slice-path-items.result.now c.loop-path-test.false ∙ c.as_slice-path-items.ensures in
     let are = subst (λ (l : List Path). AreRead c.args.models.now c.args.self.now.steps.items c.args.node l c.loop-path.reads.items) all c.loop-path.invariant in
-    subst (λ (o : Option (Bor Formula)). (b : ℕ) → Contains c.loop-path.reads.items b ↔ ((b ≢ c.args.node) × IsReadBy c.args.models.now c.args.self.now.steps.items (option_map (λ f. f.now) o) b)) (sym c.in-Some.is) are
+    subst (λ (o : Option (Bor DraftFormula)). (b : ℕ) → Contains c.loop-path.reads.items b ↔ ((b ≢ c.args.node) × IsReadBy c.args.models.now c.args.self.now.steps.items (option_map (λ f. f.now) o) b)) (sym c.in-Some.is) are

@@ -3,6 +3,7 @@ use Rattle.std.proofs.lemmas.Result.{IfErr-weaker, on_ok_weaker}
 use Rattle.ob_definition.specs.EntryFaults.{IsGatheringFault}
 use Rattle.ob_schema.specs.Resolving.{AreFew}
 use Rattle.ob_schema.proofs.AllVerdict.{verdict}
+use Rattle.ob_schema.proofs.Entered.{fault_within}
 use Rattle.ob_schema.proofs.FewModels.{few_models}
 use Rattle.ob_schema.proofs.NothingFound.{none_found}
 use Rattle.ob_schema.proofs.Verdict.{IsFaultless-from, IsFirst-from}
@@ -28,4 +29,11 @@ returns-clause-fault c =
     IfErr-weaker c.registry_of.result _ _
     (λ why adds real. IsFirst-from c.args.defs.now _ why
     (verdict c.args.defs.now c.in_ok-gathering.gathering c.in_ok-gathering.ensures.models c.in_ok-gathering.ensures.named c.new-first.result c.gather.new.first _ c.new-first.ensures c.in_ok-gathering.ensures.faults (adds real)) refl)
+    c.registry_of.ensures.fault
+
+pub returns-clause-entry : goal.returns-clause-entry
+returns-clause-entry c =
+    IfErr-weaker c.registry_of.result _ _
+    (λ why adds real. fault_within c.args.defs.now why (IsFirst-from c.args.defs.now _ why
+    (verdict c.args.defs.now c.in_ok-gathering.gathering c.in_ok-gathering.ensures.models c.in_ok-gathering.ensures.named c.new-first.result c.gather.new.first _ c.new-first.ensures c.in_ok-gathering.ensures.faults (adds real)) refl).there)
     c.registry_of.ensures.fault

@@ -2,7 +2,7 @@ use Rattle.std.proofs.Common.{◌+◌, length, not}
 use Rattle.std.specs.List.{count_by}
 use Rattle.ob_schema.specs.Graphs.{NodeReads}
 use Rattle.ob_schema.proofs.Searches.{IsSearch}
-use Rattle.ob_schema.proofs.graph.Graph.is_on_cycle.Given as goal
+use Rattle.ob_schema.proofs.graph.Graph.reached.Given as goal
 
 abbrev pub invariant-loop-next : goal.invariant-loop-next
 invariant-loop-next l = IsSearch (NodeReads l.self.reads.items) (length l.self.reads.items) l.node l.is_seen.items l.waiting.items

@@ -1,10 +1,9 @@
-use Rattle.std.proofs.Common.{◌≡◌, ◌+◌, ◌<◌, ◌++◌, ℕ, true, false, List, [], ◌∷◌, Some, length, length-append, replicate, refl, sym, ap, subst, ◌∙◌, arith}
+use Rattle.std.proofs.Common.{◌≡◌, ◌+◌, ◌++◌, ℕ, false, List, [], ◌∷◌, length, length-append, replicate, refl, sym, ap, subst, ◌∙◌, arith}
 use Rattle.std.proofs.lemmas.List.Elements.{Contains-push}
-use Rattle.std.proofs.lemmas.Option.{same_Some, slice_get_read}
 use Rattle.ob_schema.specs.Graphs.{NodeReads}
 use Rattle.ob_schema.proofs.Seen.{IsSeen}
 use Rattle.ob_schema.proofs.Searches.{IsMarked-reached, IsSearch, IsSearch-more, IsSearch-none}
-use Rattle.ob_schema.proofs.graph.Graph.is_on_cycle.Goals as goal
+use Rattle.ob_schema.proofs.graph.Graph.reached.Goals as goal
 
 pub loop-next-init : goal.loop-next-init
 loop-next-init c =
@@ -39,13 +38,11 @@ empty : (xs : List ℕ) → length xs ≡ 0 → xs ≡ []
 empty [] none = refl
 empty (x ∷ xs) none = absurd (omega arith)
 
-pub returns : goal.returns
-returns c =
+pub returns-clause-count : goal.returns-clause-count
+returns-clause-count c = c.loop-next.invariant.count ∙ c.requires.count
+
+pub returns-clause-each : goal.returns-clause-each
+returns-clause-each c =
     let none = empty c.loop-next.waiting.items (omega (arith, c.in_default.ensures.cases.0, c.loop-next.waiting.ok.0)) in
     let done = subst (λ (l : List ℕ). IsSearch (NodeReads c.args.self.now.reads.items) (length c.args.self.now.reads.items) c.args.node c.loop-next.is_seen.items l) none c.loop-next.invariant in
-    let inside : c.args.node < length c.loop-next.is_seen.items = omega (arith, c.requires.node, c.requires.count, c.loop-next.invariant.count) in
-    let mark = slice_get_read c.loop-next.is_seen.items (length c.loop-next.is_seen.items) c.args.node c.index.result.now refl inside c.index.ensures in (
-      λ on. c.loop-next.invariant.reached c.args.node (mark ∙ ap Some on),
-      λ way. same_Some c.index.result.now true (sym mark
-          ∙ IsMarked-reached (NodeReads c.args.self.now.reads.items) (length c.args.self.now.reads.items) c.args.node c.loop-next.is_seen.items done c.args.node way),
-    )
+    λ b. (c.loop-next.invariant.reached b, IsMarked-reached (NodeReads c.args.self.now.reads.items) (length c.args.self.now.reads.items) c.args.node c.loop-next.is_seen.items done b)
