@@ -17,6 +17,14 @@ max_char_bytes = 8192
 abbrev pub max_text_bytes : ℕ
 max_text_bytes = 65536
 
+-- how many modules may be loaded, base and stock among them
+abbrev pub max_modules : ℕ
+max_modules = 64
+
+-- the length in bytes of a module file
+abbrev pub max_module_bytes : ℕ
+max_module_bytes = 1048576
+
 -- how many models there may be
 abbrev pub max_models : ℕ
 max_models = 512
