@@ -1,9 +1,10 @@
 -- How steps that may fail follow one another, and how values are evaluated in turn.
-use Rattle.std.proofs.Common.{◌≡◌, ℕ, ◌+◌, ◌<◌, ◌≤◌, length, List, [], ◌∷◌, ◌++◌, drop, get_or, Result, Ok, Err, refl, sym, ap, subst, ◌∙◌, append_assoc}
+use Rattle.std.proofs.Common.{◌≡◌, ℕ, ◌+◌, ◌<◌, ◌≤◌, length, List, [], ◌∷◌, ◌++◌, drop, get_or, Option, None, Result, Ok, Err, refl, sym, ap, subst, ◌∙◌, append_assoc}
 use Rattle.std.proofs.lemmas.List.{at_drop_more, at_drop_all, drop_more, append-nil}
 use Rattle.ob_expr.specs.declared.fault.EvalFault.{EvalFault}
 use Rattle.ob_expr.specs.declared.fault.EvalFault.TheVariants.{Overflow, TooLong, ZeroDivisor, Read, NoMemory}
 use Rattle.ob_expr.specs.Chain.{and_then, each}
+use Rattle.ob_base.specs.declared.id.Cell.{Cell}
 use Rattle.ob_base.specs.declared.value.Value.{Value}
 use Rattle.ob_expr.specs.Computing.{Lack}
 use Rattle.ob_expr.specs.Outcome.{IsEvalFault}
@@ -19,26 +20,26 @@ then_ok (Ok a) next b is = (a, refl, is)
 then_ok (Err e) next b is = absurd (cc)
 
 -- the fault of the first step is that of the whole
-pub then_fault : {A B F : Type 0} (failed : F → Type 0) (m : Result A Lack) (next : A → Result B Lack) (fault : EvalFault F)
-    → IsEvalFault failed m fault → IsEvalFault failed (and_then m next) fault
-then_fault failed m next Overflow is = rw is refl
-then_fault failed m next TooLong is = rw is refl
-then_fault failed m next ZeroDivisor is = rw is refl
-then_fault failed m next (Read f) is = is
-then_fault failed m next NoMemory is = tt
+pub then_fault : {A B F : Type 0} (failed : F → Cell → Type 0) (held : Cell → Option Value) (m : Result A Lack) (next : A → Result B Lack) (fault : EvalFault F)
+    → IsEvalFault failed held m fault → IsEvalFault failed held (and_then m next) fault
+then_fault failed held m next Overflow is = rw is refl
+then_fault failed held m next TooLong is = rw is refl
+then_fault failed held m next ZeroDivisor is = rw is refl
+then_fault failed held m next (Read f) is = (is.0, is.1, λ none. rw (is.2 none) refl)
+then_fault failed held m next NoMemory is = tt
 
 -- the same of the second step, where the first has a value
-pub after_fault : {A B F : Type 0} (failed : F → Type 0) (m : Result A Lack) (next : A → Result B Lack) (a : A) (fault : EvalFault F)
-    → m ≡ Ok a → IsEvalFault failed (next a) fault → IsEvalFault failed (and_then m next) fault
-after_fault failed m next a fault is of = rw is of
+pub after_fault : {A B F : Type 0} (failed : F → Cell → Type 0) (held : Cell → Option Value) (m : Result A Lack) (next : A → Result B Lack) (a : A) (fault : EvalFault F)
+    → m ≡ Ok a → IsEvalFault failed held (next a) fault → IsEvalFault failed held (and_then m next) fault
+after_fault failed held m next a fault is of = rw is of
 
 -- where no read can fail, neither can one that is known of
-pub widened_fault : {A F : Type 0} (failed : F → Type 0) (m : Result A Lack) (fault : EvalFault F) → IsEvalFault (λ _. ⊥) m fault → IsEvalFault failed m fault
-widened_fault failed m Overflow is = is
-widened_fault failed m TooLong is = is
-widened_fault failed m ZeroDivisor is = is
-widened_fault failed m (Read f) is = absurd is
-widened_fault failed m NoMemory is = tt
+pub widened_fault : {A F : Type 0} (failed : F → Cell → Type 0) (held : Cell → Option Value) (m : Result A Lack) (fault : EvalFault F) → IsEvalFault (λ _ _. ⊥) (λ _. None) m fault → IsEvalFault failed held m fault
+widened_fault failed held m Overflow is = is
+widened_fault failed held m TooLong is = is
+widened_fault failed held m ZeroDivisor is = is
+widened_fault failed held m (Read f) is = absurd is.1
+widened_fault failed held m NoMemory is = tt
 
 -- what comes of values that are there before those that are left
 abbrev pub with_left : {A B E : Type 0} → (A → Result B E) → List B → List A → Result (List B) E
@@ -64,12 +65,12 @@ pub with_left-end : {A B E : Type 0} (f : A → Result B E) (xs : List A) (i : �
 with_left-end f xs i before le = at_drop_all (with_left f before) xs i le ∙ ap Ok (append-nil before)
 
 -- the item in its turn has a fault
-pub with_left-fault : {A B F : Type 0} (failed : F → Type 0) (f : A → Result B Lack) (xs : List A) (i : ℕ) (x : A) (before : List B) (fault : EvalFault F)
-    → i < length xs → x ≡ get_or xs i x → IsEvalFault failed (f x) fault → IsEvalFault failed (with_left f before (drop i xs)) fault
-with_left-fault failed f xs i x before fault lt at is =
+pub with_left-fault : {A B F : Type 0} (failed : F → Cell → Type 0) (held : Cell → Option Value) (f : A → Result B Lack) (xs : List A) (i : ℕ) (x : A) (before : List B) (fault : EvalFault F)
+    → i < length xs → x ≡ get_or xs i x → IsEvalFault failed held (f x) fault → IsEvalFault failed held (with_left f before (drop i xs)) fault
+with_left-fault failed held f xs i x before fault lt at is =
     let left : drop i xs ≡ x ∷ drop (i + 1) xs = drop_more xs i x lt ∙ ap (λ y. y ∷ drop (i + 1) xs) (sym at) in
-    rw left (then_fault failed (each f (x ∷ drop (i + 1) xs)) (λ vs. Ok (before ++ vs)) fault
-    (then_fault failed (f x) (λ v. and_then (each f (drop (i + 1) xs)) (λ vs. Ok (v ∷ vs))) fault is))
+    rw left (then_fault failed held (each f (x ∷ drop (i + 1) xs)) (λ vs. Ok (before ++ vs)) fault
+    (then_fault failed held (f x) (λ v. and_then (each f (drop (i + 1) xs)) (λ vs. Ok (v ∷ vs))) fault is))
 
 -- the next is come to once those before have a value
 pub in_turn : {A : Type 0} (HasValue May : A → Type 0) (xs : List A) (i : ℕ) (x : A) → i < length xs → x ≡ get_or xs i x → EachInTurn HasValue May (drop i xs)
@@ -88,7 +89,7 @@ pub with_left-start : {A B E : Type 0} (f : A → Result B E) (xs : List A) → 
 with_left-start f xs = same_then (each f xs)
 
 -- what is told where nothing is read is told of reads too
-pub tells_read : {F : Type 0} (failed : F → Type 0) (answer : Result Value (EvalFault F)) (meant : Result Value Lack)
-    → TellsValue answer meant → TellsRead failed (λ (v : Value). v) answer meant
-tells_read failed (Ok v) meant told = told
-tells_read failed (Err fault) meant told = widened_fault failed meant fault told
+pub tells_read : {F : Type 0} (failed : F → Cell → Type 0) (held : Cell → Option Value) (answer : Result Value (EvalFault F)) (meant : Result Value Lack)
+    → TellsValue answer meant → TellsRead failed held (λ (v : Value). v) answer meant
+tells_read failed held (Ok v) meant told = told
+tells_read failed held (Err fault) meant told = widened_fault failed held meant fault told

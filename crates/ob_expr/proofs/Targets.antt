@@ -55,21 +55,22 @@ module _ (held : Cell → Option Value) (row : Row) where
       ap (λ (h : Cell → Option Value). values_there h target there theirs) kept
       ∙ (ap (λ (x : TypedTree). values_there held target x theirs) same ∙ ap (λ (xs : List RecId). values_there held target inner xs) these)
 
-  pub over-fault : {F : Type 0} (failed : F → Type 0) (aggregate : Aggregate) (route : Route) (target : ModelNo) (inner there : TypedTree) (targets : Value) (theirs : List RecId)
+  pub over-fault : {F : Type 0} (failed : F → Cell → Type 0) (aggregate : Aggregate) (route : Route) (target : ModelNo) (inner there : TypedTree) (targets : Value) (theirs : List RecId)
       (after : Cell → Option Value) (fault : EvalFault F) → after ≡ held → there ≡ inner → theirs ≡ ids_of targets → path_value held row route ≡ Ok targets
-      → IsEvalFault failed (each (λ (id : RecId). meaning after (row_at target id) there) theirs) fault → IsEvalFault failed (meaning held row (over aggregate route target inner)) fault
+      → IsEvalFault failed after (each (λ (id : RecId). meaning after (row_at target id) there) theirs) fault → IsEvalFault failed held (meaning held row (over aggregate route target inner)) fault
   over-fault failed aggregate route target inner there targets theirs after fault kept same these is told =
-      let here : IsEvalFault failed (values_there held target inner (ids_of targets)) fault =
-      subst (λ (m : Result (List Value) Lack). IsEvalFault failed m fault) (same_there after target inner there (ids_of targets) theirs kept same these) told
+      let here : IsEvalFault failed held (values_there held target inner (ids_of targets)) fault =
+      subst (λ (m : Result (List Value) Lack). IsEvalFault failed held m fault) (same_there after target inner there (ids_of targets) theirs kept same these)
+      (subst (λ (h : Cell → Option Value). IsEvalFault failed h (values_there after target there theirs) fault) kept told)
       in
-      after_fault failed (path_value held row route) (λ (vs : Value). and_then (values_there held target inner (ids_of vs)) (gathered_value aggregate (kind_of inner))) targets fault is
-      (then_fault failed (values_there held target inner (ids_of targets)) (gathered_value aggregate (kind_of inner)) fault here)
+      after_fault failed held (path_value held row route) (λ (vs : Value). and_then (values_there held target inner (ids_of vs)) (gathered_value aggregate (kind_of inner))) targets fault is
+      (then_fault failed held (values_there held target inner (ids_of targets)) (gathered_value aggregate (kind_of inner)) fault here)
 
-  pub over-tells : {F : Type 0} (failed : F → Type 0) (aggregate : Aggregate) (route : Route) (target : ModelNo) (inner there : TypedTree) (targets : Value) (theirs : List RecId)
+  pub over-tells : {F : Type 0} (failed : F → Cell → Type 0) (aggregate : Aggregate) (route : Route) (target : ModelNo) (inner there : TypedTree) (targets : Value) (theirs : List RecId)
       (after : Cell → Option Value) (k : Kind) (values : List Value) (answer : Result Value (EvalFault F))
       → after ≡ held → there ≡ inner → theirs ≡ ids_of targets → k ≡ kind_of inner → path_value held row route ≡ Ok targets
       → each (λ (id : RecId). meaning after (row_at target id) there) theirs ≡ Ok values → TellsValue answer (gathered_value aggregate k values)
-      → TellsRead failed (λ (v : Value). v) answer (meaning held row (over aggregate route target inner))
+      → TellsRead failed held (λ (v : Value). v) answer (meaning held row (over aggregate route target inner))
   over-tells failed aggregate route target inner there targets theirs after k values answer kept same these kind is all told =
       let here : values_there held target inner (ids_of targets) ≡ Ok values = sym (same_there after target inner there (ids_of targets) theirs kept same these) ∙ all in
       let meant : meaning held row (over aggregate route target inner) ≡ gathered_value aggregate (kind_of inner) values =
@@ -77,4 +78,4 @@ module _ (held : Cell → Option Value) (row : Row) where
       ∙ ap (λ (m : Result (List Value) Lack). and_then m (gathered_value aggregate (kind_of inner))) here
       in
       let made : TellsValue answer (gathered_value aggregate (kind_of inner) values) = subst (λ (x : Kind). TellsValue answer (gathered_value aggregate x values)) kind told in
-      subst (λ (m : Result Value Lack). TellsRead failed (λ (v : Value). v) answer m) (sym meant) (tells_read failed answer (gathered_value aggregate (kind_of inner) values) made)
+      subst (λ (m : Result Value Lack). TellsRead failed held (λ (v : Value). v) answer m) (sym meant) (tells_read failed held answer (gathered_value aggregate (kind_of inner) values) made)

@@ -50,16 +50,16 @@ module _ (held : Cell → Option Value) (row : Row) where
   joined-meaning parts =
       ap (meaning held row) (typed_tree_of-Joined parts) ∙ ap (λ (m : Result (List Value) Lack). and_then m joined_value) (values_of-parts parts.items)
 
-  pub joined-fault : {F : Type 0} (failed : F → Type 0) (parts : Vec Typed Global) (fault : EvalFault F)
-      → IsEvalFault failed (each (λ (part : Typed). meaning held row (typed_tree_of part)) parts.items) fault
-      → IsEvalFault failed (meaning held row (typed_tree_of (Joined parts))) fault
+  pub joined-fault : {F : Type 0} (failed : F → Cell → Type 0) (parts : Vec Typed Global) (fault : EvalFault F)
+      → IsEvalFault failed held (each (λ (part : Typed). meaning held row (typed_tree_of part)) parts.items) fault
+      → IsEvalFault failed held (meaning held row (typed_tree_of (Joined parts))) fault
   joined-fault failed parts fault is =
-      subst (λ (m : Result Value Lack). IsEvalFault failed m fault) (sym (joined-meaning parts))
-      (then_fault failed (each (λ (part : Typed). meaning held row (typed_tree_of part)) parts.items) joined_value fault is)
+      subst (λ (m : Result Value Lack). IsEvalFault failed held m fault) (sym (joined-meaning parts))
+      (then_fault failed held (each (λ (part : Typed). meaning held row (typed_tree_of part)) parts.items) joined_value fault is)
 
-  pub joined-tells : {F : Type 0} (failed : F → Type 0) (parts : Vec Typed Global) (values : List Value) (answer : Result Value (EvalFault F))
+  pub joined-tells : {F : Type 0} (failed : F → Cell → Type 0) (parts : Vec Typed Global) (values : List Value) (answer : Result Value (EvalFault F))
       → each (λ (part : Typed). meaning held row (typed_tree_of part)) parts.items ≡ Ok values → TellsValue answer (joined_value values)
-      → TellsRead failed (λ (v : Value). v) answer (meaning held row (typed_tree_of (Joined parts)))
+      → TellsRead failed held (λ (v : Value). v) answer (meaning held row (typed_tree_of (Joined parts)))
   joined-tells failed parts values answer is told =
       let meant : meaning held row (typed_tree_of (Joined parts)) ≡ joined_value values = joined-meaning parts ∙ ap (λ (m : Result (List Value) Lack). and_then m joined_value) is in
-      subst (λ (m : Result Value Lack). TellsRead failed (λ (v : Value). v) answer m) (sym meant) (tells_read failed answer (joined_value values) told)
+      subst (λ (m : Result Value Lack). TellsRead failed held (λ (v : Value). v) answer m) (sym meant) (tells_read failed held answer (joined_value values) told)

@@ -36,14 +36,14 @@ pub trait Reads {
     /// The cells that may be read.
     ghost can_read: { Self → Cell → Type 0 };
 
-    /// What is known of the reads after a fault.
-    ghost has_failed: { Self → Self.Fault → Type 0 };
+    /// What is known of the reads after a fault at a cell.
+    ghost has_failed: { Self → Self.Fault → Cell → Type 0 };
 
     /// Reads a cell. No cell changes by it.
     fn value(&mut self, cell: Cell) -> Result<Value, Self::Fault>
         requires { can_read self.old cell }
         ensures value { IfOk result (λ value. held self.old cell ≡ Some value) }
-        ensures failed { IfErr result (has_failed self.new) }
+        ensures failed { IfErr result (λ fault. has_failed self.new fault cell) }
         ensures kept { held self.new ≡ held self.old }
         ensures readable { (c : Cell) → can_read self.old c → can_read self.new c };
 }
@@ -101,7 +101,7 @@ pub fn eval<R: Reads, L: Ledger>(
         (λ fresh. meaning (R.held reads.old) (row_of cell) (typed_tree_of typed.now) ≡ Ok fresh.value) }
     ensures kind { IfOk result (λ fresh. HasKind (kind_of (typed_tree_of typed.now)) fresh.value) }
     ensures fault { IfErr result
-        (IsEvalFault (R.has_failed reads.new)
+        (IsEvalFault (R.has_failed reads.new) (R.held reads.old)
         (meaning (R.held reads.old) (row_of cell) (typed_tree_of typed.now))) }
 
     ensures ticked { steps.new ≡ ticked L.noted steps.old }
@@ -135,7 +135,7 @@ fn value_in<R: Reads>(
     reads: &mut R,
 ) -> Result<Value, EvalFault<R::Fault>>
     requires { MayRead (R.held reads.old) (R.can_read reads.old) row (typed_tree_of typed.now) }
-    ensures told { TellsRead (R.has_failed reads.new) (λ v. v) result (meaning (R.held reads.old) row (typed_tree_of typed.now)) }
+    ensures told { TellsRead (R.has_failed reads.new) (R.held reads.old) (λ v. v) result (meaning (R.held reads.old) row (typed_tree_of typed.now)) }
     ensures kept { R.held reads.new ≡ R.held reads.old }
     ensures readable { (c : Cell) → R.can_read reads.old c → R.can_read reads.new c }
 {
@@ -187,7 +187,7 @@ fn values_of<R: Reads>(
     reads: &mut R,
 ) -> Result<Vec<Value>, EvalFault<R::Fault>>
     requires { EachInTurn (λ part. IsOk (meaning (R.held reads.old) row (typed_tree_of part))) (λ part. MayRead (R.held reads.old) (R.can_read reads.old) row (typed_tree_of part)) parts.now }
-    ensures told { TellsRead (R.has_failed reads.new) (λ vs. vs.items) result (each (λ part. meaning (R.held reads.old) row (typed_tree_of part)) parts.now) }
+    ensures told { TellsRead (R.has_failed reads.new) (R.held reads.old) (λ vs. vs.items) result (each (λ part. meaning (R.held reads.old) row (typed_tree_of part)) parts.now) }
     ensures kept { R.held reads.new ≡ R.held reads.old }
     ensures readable { (c : Cell) → R.can_read reads.old c → R.can_read reads.new c }
 {
@@ -208,7 +208,7 @@ fn values_at<R: Reads>(
     reads: &mut R,
 ) -> Result<Vec<Value>, EvalFault<R::Fault>>
     requires { EachInTurn (λ id. IsOk (meaning (R.held reads.old) (row_at model id) (typed_tree_of typed.now))) (λ id. MayRead (R.held reads.old) (R.can_read reads.old) (row_at model id) (typed_tree_of typed.now)) ids.now }
-    ensures told { TellsRead (R.has_failed reads.new) (λ vs. vs.items) result (each (λ id. meaning (R.held reads.old) (row_at model id) (typed_tree_of typed.now)) ids.now) }
+    ensures told { TellsRead (R.has_failed reads.new) (R.held reads.old) (λ vs. vs.items) result (each (λ id. meaning (R.held reads.old) (row_at model id) (typed_tree_of typed.now)) ids.now) }
     ensures kept { R.held reads.new ≡ R.held reads.old }
     ensures readable { (c : Cell) → R.can_read reads.old c → R.can_read reads.new c }
 {
@@ -228,7 +228,7 @@ fn path_value<R: Reads>(
     reads: &mut R,
 ) -> Result<Value, EvalFault<R::Fault>>
     requires { MayReadPath (R.held reads.old) (R.can_read reads.old) row path.now.links path.now.field }
-    ensures told { TellsRead (R.has_failed reads.new) (λ v. v) result (path_value (R.held reads.old) row path.now) }
+    ensures told { TellsRead (R.has_failed reads.new) (R.held reads.old) (λ v. v) result (path_value (R.held reads.old) row path.now) }
     ensures kept { R.held reads.new ≡ R.held reads.old }
     ensures readable { (c : Cell) → R.can_read reads.old c → R.can_read reads.new c }
 {

@@ -76,7 +76,7 @@ impl Reads for Rows {
 
     ghost can_read = { λ _ _. Unit {0} };
 
-    ghost has_failed = { λ rows _. is_none rows.price ≡ true };
+    ghost has_failed = { λ rows _ _. is_none rows.price ≡ true };
 
     fn value(&mut self, cell: Cell) -> Result<Value, ()> {
         match (cell.field.0, self.price) {

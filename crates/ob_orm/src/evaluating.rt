@@ -49,7 +49,7 @@ impl Reads for PlainValues<'_> {
 
     ghost can_read = { λ reads cell. (1 ≤ cell.field.0) × (cell.field.0 ≤ length reads.values.now) };
 
-    ghost has_failed = { λ _ _. ⊤ };
+    ghost has_failed = { λ _ _ _. ⊤ };
 
     fn value(&mut self, cell: Cell) -> Result<Value, NoMemory> {
         self.values[cell.field.0 as usize - 1].try_clone(self.alloc)

@@ -89,7 +89,7 @@ impl Reads for Cells {
 
     ghost can_read = { λ _ _. IsTrue true };
 
-    ghost has_failed = { λ _ _. Unit {0} };
+    ghost has_failed = { λ _ _ _. Unit {0} };
 
     fn value(&mut self, cell: Cell) -> Result<Value, Unread> {
         if let Some(read) = &mut self.read {

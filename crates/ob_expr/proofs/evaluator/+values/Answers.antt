@@ -127,15 +127,15 @@ value_in-returns-in_err-values_of-in-Joined-clause-told g t c =
     let fault = c.in_err-values_of-in-Joined.field-0.0 in
     let p = err_from_is_err_and c.from_residual-in_err-values_of-in-Joined.result c.from_residual-in_err-values_of-in-Joined.ensures.1 in
     rw (p.1, p.2)
-    (subst (λ (x : Typed). IsEvalFault failed (meaning held c.args.row (typed_tree_of x)) fault) (sym c.in-Joined.is)
+    (subst (λ (x : Typed). IsEvalFault failed held (meaning held c.args.row (typed_tree_of x)) fault) (sym c.in-Joined.is)
     (joined-fault held c.args.row failed c.in-Joined.parts fault
-    (subst (λ (xs : List Typed). IsEvalFault failed (each (λ (part : Typed). meaning held c.args.row (typed_tree_of part)) xs) fault) c.deref-in-Joined.ensures.value c.in_err-values_of-in-Joined.ensures.told)))
+    (subst (λ (xs : List Typed). IsEvalFault failed held (each (λ (part : Typed). meaning held c.args.row (typed_tree_of part)) xs) fault) c.deref-in-Joined.ensures.value c.in_err-values_of-in-Joined.ensures.told)))
 
 pub value_in-returns-in-Joined-clause-told : goal.value_in-returns-in-Joined-clause-told
 value_in-returns-in-Joined-clause-told g t c =
     let held = g.R.Reads.held c.args.reads.now in
     let failed = g.R.Reads.has_failed c.values_of.new.reads in
-    subst (λ (x : Typed). TellsRead failed (λ (v : Value). v) c.joined.result (meaning held c.args.row (typed_tree_of x))) (sym c.in-Joined.is)
+    subst (λ (x : Typed). TellsRead failed held (λ (v : Value). v) c.joined.result (meaning held c.args.row (typed_tree_of x))) (sym c.in-Joined.is)
     (joined-tells held c.args.row failed c.in-Joined.parts c.in_ok-values_of-in-Joined.field-0.items c.joined.result
     (subst (λ (xs : List Typed). each (λ (part : Typed). meaning held c.args.row (typed_tree_of part)) xs ≡ Ok c.in_ok-values_of-in-Joined.field-0.items) c.deref-in-Joined.ensures.value
     c.in_ok-values_of-in-Joined.ensures.told)
@@ -149,7 +149,7 @@ value_in-returns-in_err-values-in-Over-clause-told g t c =
     let same : c.deref-in-Over.result.now ≡ c.in-Over.inner.value = c.deref-in-Over.ensures in
     let p = err_from_is_err_and c.from_residual-in_err-values-in-Over.result c.from_residual-in_err-values-in-Over.ensures.1 in
     rw (p.1, p.2)
-    (subst (λ (x : Typed). IsEvalFault failed (meaning held c.args.row (typed_tree_of x)) fault) (sym c.in-Over.is)
+    (subst (λ (x : Typed). IsEvalFault failed held (meaning held c.args.row (typed_tree_of x)) fault) (sym c.in-Over.is)
     (over-fault held c.args.row failed c.in-Over.aggregate c.in-Over.path c.in-Over.target (typed_tree_of c.in-Over.inner.value) (typed_tree_of c.deref-in-Over.result.now)
     c.in_ok-targets-in-Over.targets c.ids_of.result.now (g.R.Reads.held c.path_value-in-Over.new.reads) fault c.path_value-in-Over.ensures.kept (ap typed_tree_of same) c.ids_of.ensures
     c.in_ok-targets-in-Over.ensures.told c.in_err-values-in-Over.ensures.told))
@@ -160,7 +160,7 @@ value_in-returns-clause-told g t c =
     let failed = g.R.Reads.has_failed c.values_at.new.reads in
     let same : c.deref-in-Over.result.now ≡ c.in-Over.inner.value = c.deref-in-Over.ensures in
     let again : c.deref-in-Over-2.result.now ≡ c.in-Over.inner.value = c.deref-in-Over-2.ensures in
-    subst (λ (x : Typed). TellsRead failed (λ (v : Value). v) c.gathered.result (meaning held c.args.row (typed_tree_of x))) (sym c.in-Over.is)
+    subst (λ (x : Typed). TellsRead failed held (λ (v : Value). v) c.gathered.result (meaning held c.args.row (typed_tree_of x))) (sym c.in-Over.is)
     (over-tells held c.args.row failed c.in-Over.aggregate c.in-Over.path c.in-Over.target (typed_tree_of c.in-Over.inner.value) (typed_tree_of c.deref-in-Over.result.now)
     c.in_ok-targets-in-Over.targets c.ids_of.result.now (g.R.Reads.held c.path_value-in-Over.new.reads) c.kind.result c.in_ok-values-in-Over.values.items c.gathered.result
     c.path_value-in-Over.ensures.kept (ap typed_tree_of same) c.ids_of.ensures (c.kind.ensures ∙ ap (λ (x : Typed). kind_of (typed_tree_of x)) again)
