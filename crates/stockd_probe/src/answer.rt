@@ -11,6 +11,7 @@
 //! | `kinds MODEL TEXT` | the expression's kind and the paths that it reads, or the fault |
 //! | `evaluate MODEL ID with CELL .. \| TEXT` | its kind, its value in that row or the fault, how many steps it took, and the cells that were read, in their order |
 //! | `schema DEFINITIONS` | the registry that they make, or their first fault, with its entry and its field |
+//! | `load MODULES FILES` | the registry that they mean, or what stands against them first |
 //! | `takes ORDER WANT STOCK ..` | `quant:amount` of each take |
 //! | `lines NOW NEXT QUANT .. \| LINE ..` | the quants after the lines, or `short at` a line's number |
 //! | `state RESERVED DEMAND WAITS` | the state of such a move |
@@ -46,6 +47,7 @@
 
 use crate::connections::connection;
 use crate::expressions::{evaluated, expression, kinds};
+use crate::modules::loaded;
 use crate::moves::{parts_of_demand, state};
 use crate::quants::after_lines;
 use crate::removals::taken;
@@ -79,6 +81,7 @@ pub(crate) fn answer(alloc: Global, schema: &Schema, line: &str) -> Result<Strin
         "kinds" => kinds(alloc, times, rest),
         "evaluate" => evaluated(alloc, times, rest),
         "schema" => built(alloc, times, rest),
+        "load" => loaded(alloc, times, rest),
         "http" => connection(alloc, times, rest),
         _ => stock_answer(alloc, times, word, rest),
     }

@@ -21,6 +21,7 @@ mod definitions;
 mod expressions;
 mod fields;
 mod items;
+mod modules;
 mod moves;
 mod quants;
 mod registry;

@@ -57,7 +57,7 @@ fn put_spot(alloc: Global, text: &mut String, spot: &Spot) -> Result<(), NoMemor
 }
 
 /// A whole registry.
-fn told_schema(alloc: Global, schema: &Schema) -> Result<String, NoMemory> {
+pub(crate) fn told_schema(alloc: Global, schema: &Schema) -> Result<String, NoMemory> {
     let mut text = String::new(alloc);
     for number in 1..u16::MAX {
         let Some(model) = schema.find_model(ModelNo(number)) else {

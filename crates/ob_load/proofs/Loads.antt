@@ -1,0 +1,123 @@
+-- What is loaded, or what stands against it first.
+use Rattle.std.proofs.Common.{◌≡◌, ◌≢◌, inl, inr, ℕ, ◌<◌, List, [], length, Option, None, Some, Ok, Err, refl, sym, ap, subst, ◌∙◌}
+use Rattle.std.specs.Prelude.{IfSome, option_map, slice_get}
+use Rattle.std.proofs.lemmas.Option.{same_Some}
+use Rattle.ob_base.specs.declared.place.PathStep.{PathStep}
+use Rattle.ob_definition.specs.Ranking.{rank}
+use Rattle.ob_definition.specs.declared.fault.SchemaFault.{SchemaFault}
+use Rattle.ob_definition.specs.declared.definition.ModelDef.{ModelDef}
+use Rattle.ob_schema.specs.Built.{IsBuilt}
+use Rattle.ob_schema.specs.Faults.{IsFaultless, IsFirst}
+use Rattle.ob_schema.specs.declared.schema.Schema.{Schema}
+use Rattle.ob_load.specs.Dependencies.{IsCyclic, IsFirstCyclic, Takes}
+use Rattle.ob_load.specs.Loading.{AreTaken, IsFirstFault, IsLoaded, all_models, model_place, owner_of, wanted}
+use Rattle.ob_load.specs.Reading.{Module, ReadsTo, whole}
+use Rattle.ob_load.specs.declared.fault.FaultyModule.{FaultyModule}
+use Rattle.ob_load.specs.declared.fault.LoadFault.{LoadFault}
+use Rattle.ob_load.specs.declared.fault.LoadFault.TheVariants as load
+use Rattle.ob_load.specs.declared.fault.ModuleFault.{ModuleFault}
+use Rattle.ob_load.specs.declared.fault.ModuleFault.TheVariants as fault
+use Rattle.ob_load.specs.Rooms.{Refuses, ToldAbsent}
+use Rattle.ob_load.specs.Texts.{text_in}
+use Rattle.ob_load.proofs.Owners.{owner-is}
+use Rattle.ob_load.proofs.Told.{if_some, refused-is, told-refused}
+
+-- what isn't none is something
+found : (o : Option (Module × ℕ)) → o ≢ None → (m : Module) × (n : ℕ) × (o ≡ Some (m, n))
+found None some = absurd (some refl)
+found (Some p) some = (p.0, p.1, refl)
+
+-- the owner of an entry
+pub owner-found : (all : List Module) (entry : ℕ) → entry < length (all_models all) → (m : Module) × (n : ℕ) × (owner_of all entry ≡ Some (m, n))
+owner-found all entry low = found (owner_of all entry) (owner-is all entry low)
+
+-- one entry has one owner
+pub same-owner : (all : List Module) (a b : ℕ) (m owner : Module) (k entry : ℕ) → owner_of all a ≡ Some (m, k) → owner_of all b ≡ Some (owner, entry) → a ≡ b → (m ≡ owner) × (k ≡ entry)
+same-owner all a b m owner k entry first second same =
+    let e : ◌≡◌ {A = Module × ℕ} (m, k) (owner, entry) = same_Some (m, k) (owner, entry) (sym first ∙ ap (owner_of all) same ∙ second) in
+    (ap (λ (p : Module × ℕ). p.0) e, ap (λ (p : Module × ℕ). p.1) e)
+
+-- the name that stands at a number is that of the module there
+name-of : (modules : List Module) (number : ℕ) (m : Module) (name : List ℕ) → slice_get modules number ≡ Some m → option_map (λ (m : Module). m.name) (slice_get modules number) ≡ Some name → name ≡ m.name
+name-of modules number m name at named = same_Some name m.name (sym named ∙ ap (option_map (λ (m : Module). m.name)) at)
+
+-- what is refused in the module that has the entry is refused in its owner
+pub told-there : (modules all : List Module) (number left entry : ℕ) (name field : List ℕ) (place : List PathStep) (why : SchemaFault) (told : LoadFault)
+    → (m : Module) × (slice_get modules number ≡ Some m) × (owner_of all entry ≡ Some (m, left)) → option_map (λ (m : Module). m.name) (slice_get modules number) ≡ Some name
+    → entry ≡ (rank why).entry → field ≡ (rank why).field → place ≡ model_place left field → Refuses (record { name = name; place = place; fault = fault.Schema why }) told
+    → (owner : Module) (own : ℕ) → owner_of all (rank why).entry ≡ Some (owner, own) → Refuses (record { name = owner.name; place = model_place own (rank why).field; fault = fault.Schema why }) told
+told-there modules all number left entry name field place why told (m, at, held) named entry_is field_is placed refuses owner own owned =
+    let same = same-owner all entry (rank why).entry m owner left own held owned entry_is in
+    let name_is : name ≡ owner.name = name-of modules number m name at named ∙ ap (λ (o : Module). o.name) same.0 in
+    let place_is : place ≡ model_place own (rank why).field = placed ∙ ap (λ (n : ℕ). model_place n field) same.1 ∙ ap (λ (f : List ℕ). model_place own f) field_is in
+    subst (λ (n : List ℕ). Refuses (record { name = n; place = model_place own (rank why).field; fault = fault.Schema why }) told) name_is
+    (subst (λ (p : List PathStep). Refuses (record { name = name; place = p; fault = fault.Schema why }) told) place_is refuses)
+
+module _ (text : List ℕ → Option (List ℕ)) (names : List (List ℕ)) (modules : List Module) (read : ReadsTo text [] (wanted names) (Ok modules)) where
+  -- the first circle stands against modules that were read
+  pub cycle-first : (name : List ℕ) (faulty : FaultyModule) → IsFirstCyclic modules name → faulty ≡ whole name fault.Cycle → IsFirstFault text names faulty
+  cycle-first name faulty cyclic is = subst (λ (f : FaultyModule). IsFirstFault text names f) (sym is) (inr (inl (modules, read, cyclic, refl)))
+
+  module _ (acyclic : (name : List ℕ) → IsCyclic modules name → ⊥) (taken : List Module) (order : Takes modules [] (wanted names) taken) where
+    -- without a circle they are taken in their order
+    pub taken-of : AreTaken text names taken
+    taken-of = record { modules = modules; read = read; acyclic = acyclic; order = order }
+
+    -- the first fault of their models stands against them
+    pub models-first : (why : SchemaFault) (owner : Module) (entry : ℕ) (faulty : FaultyModule) → IsFirst (all_models taken) why → owner_of taken (rank why).entry ≡ Some (owner, entry)
+        → faulty ≡ record { name = owner.name; place = model_place entry (rank why).field; fault = fault.Schema why } → IsFirstFault text names faulty
+    models-first why owner entry faulty first owned told = inr (inr (why, record { taken = taken; are_taken = taken-of; first = first; owner = owner; entry = entry; owned = owned; told = told }))
+
+-- a fault of reading is the first
+pub reading-told : (texts : Option (List ℕ → Option (List ℕ))) (folder : List ℕ) (names : List (List ℕ)) (faulty : FaultyModule)
+    → IfSome texts (λ t. ReadsTo (text_in t folder) [] (wanted names) (Err faulty)) → IfSome texts (λ t. IsFirstFault (text_in t folder) names faulty)
+reading-told texts folder names faulty read = if_some texts (λ t. ReadsTo (text_in t folder) [] (wanted names) (Err faulty)) (λ t. IsFirstFault (text_in t folder) names faulty) (λ t failed. inl failed) read
+
+-- whatever files tell
+module _ (texts : Option (List ℕ → Option (List ℕ))) (folder : List ℕ) (names : List (List ℕ)) (modules : List Module)
+    (read : IfSome texts (λ t. ReadsTo (text_in t folder) [] (wanted names) (Ok modules))) where
+  -- the first circle, where texts are told
+  pub cycle-told : (name : List ℕ) (faulty : FaultyModule) → IsFirstCyclic modules name → faulty ≡ whole name fault.Cycle → IfSome texts (λ t. IsFirstFault (text_in t folder) names faulty)
+  cycle-told name faulty cyclic is = if_some texts (λ t. ReadsTo (text_in t folder) [] (wanted names) (Ok modules)) (λ t. IsFirstFault (text_in t folder) names faulty)
+      (λ t read. cycle-first (text_in t folder) names modules read name faulty cyclic is) read
+
+  -- a circle that is refused is the first
+  pub cycle-refused : (number : ℕ) (name : List ℕ) (told : LoadFault) (faulty : FaultyModule) → (m : Module) × (slice_get modules number ≡ Some m) × IsFirstCyclic modules m.name
+      → option_map (λ (m : Module). m.name) (slice_get modules number) ≡ Some name → Refuses (whole name fault.Cycle) told → told ≡ load.Module faulty → IfSome texts (λ t. IsFirstFault (text_in t folder) names faulty)
+  cycle-refused number name told faulty (m, at, first) named refuses is =
+      cycle-told m.name faulty first (refused-is (whole name fault.Cycle) faulty told refuses is ∙ ap (λ (n : List ℕ). whole n fault.Cycle) (name-of modules number m name at named))
+
+  module _ (acyclic : (name : List ℕ) → IsCyclic modules name → ⊥) (taken : List Module) (order : Takes modules [] (wanted names) taken) (models : List ModelDef) (all : models ≡ all_models taken) where
+    -- the registry of all models is what is loaded
+    pub loaded-from : (schema : Schema) → IsBuilt models schema → IsFaultless models → IfSome texts (λ t. IsLoaded (text_in t folder) names schema)
+    loaded-from schema built faultless = if_some texts (λ t. ReadsTo (text_in t folder) [] (wanted names) (Ok modules)) (λ t. IsLoaded (text_in t folder) names schema)
+        (λ t read. record {
+          taken = taken;
+          are_taken = taken-of (text_in t folder) names modules read acyclic taken order;
+          built = subst (λ (defs : List ModelDef). IsBuilt defs schema) all built;
+          faultless = subst IsFaultless all faultless;
+        }) read
+
+    -- an entry of the models is one of all
+    pub entry-low : (n : ℕ) → n < length models → n < length (all_models taken)
+    entry-low n low = subst (λ (defs : List ModelDef). n < length defs) all low
+
+    -- the first fault of models is told
+    pub models-told : (why : SchemaFault) (told : LoadFault) (faulty : FaultyModule) → IsFirst models why → (rank why).entry < length models
+        → ((owner : Module) (entry : ℕ) → owner_of taken (rank why).entry ≡ Some (owner, entry)
+        → Refuses (record { name = owner.name; place = model_place entry (rank why).field; fault = fault.Schema why }) told)
+        → told ≡ load.Module faulty → IfSome texts (λ t. IsFirstFault (text_in t folder) names faulty)
+    models-told why told faulty first low refuses is =
+        let own = owner-found taken (rank why).entry (entry-low (rank why).entry low) in
+        let same = refused-is (record { name = own.0.name; place = model_place own.1 (rank why).field; fault = fault.Schema why }) faulty told (refuses own.0 own.1 own.2) is in
+        if_some texts (λ t. ReadsTo (text_in t folder) [] (wanted names) (Ok modules)) (λ t. IsFirstFault (text_in t folder) names faulty)
+        (λ t read. models-first (text_in t folder) names modules read acyclic taken order why own.0 own.1 faulty (subst (λ (defs : List ModelDef). IsFirst defs why) all first) own.2 same) read
+
+    -- a fault of models is never told as an absent text
+    pub models-there : (rose : Type 0) (why : SchemaFault) (told : LoadFault) → (rank why).entry < length models
+        → ((owner : Module) (entry : ℕ) → owner_of taken (rank why).entry ≡ Some (owner, entry)
+        → Refuses (record { name = owner.name; place = model_place entry (rank why).field; fault = fault.Schema why }) told) → ToldAbsent texts rose told
+    models-there rose why told low refuses =
+        let own = owner-found taken (rank why).entry (entry-low (rank why).entry low) in
+        told-refused texts rose (record { name = own.0.name; place = model_place own.1 (rank why).field; fault = fault.Schema why }) told (refuses own.0 own.1 own.2)
+        (λ same. let e : ◌≡◌ {A = ModuleFault} (fault.Schema why) fault.Absent = same in cc)

@@ -1,0 +1,11 @@
+-- What contracts of public functions cite.
+pub mod Forms
+pub mod Keys
+pub mod Meaning
+pub mod Texts
+pub mod Reading
+pub mod Dependencies
+pub mod Loading
+pub mod FaultText
+-- Private: the words by which the rooms of the crate are joined.
+pub mod Rooms

@@ -1,0 +1,27 @@
+-- Where the text of a module is: two stand inside the program, the others in files.
+use Rattle.std.specs.Prelude.{ℕ, List, ◌++◌, codes, if◌then◌else◌, Option, Some}
+use Rattle.std.specs.Str.{bytes_eq}
+
+-- users and their groups
+abbrev pub base_text : List ℕ
+base_text =
+    codes "name = 'base'\n\n"
+    ++ codes "[[model]]\nname = 'res.groups'\nmanaged = true\nunique = [['name']]\n[model.field.name]\ntype = 'char'\nrequired = true\n\n"
+    ++ codes "[[model]]\nname = 'res.users'\nunique = [['login']]\n[model.field.name]\ntype = 'char'\nrequired = true\n"
+    ++ codes "[model.field.login]\ntype = 'char'\nrequired = true\n[model.field.key]\ntype = 'char'\nrequired = true\nsecret = true\n"
+    ++ codes "[model.field.active]\ntype = 'boolean'\ndefault = true\n[model.field.groups_id]\ntype = 'many2many'\nrelation = 'res.groups'\n"
+
+-- nothing yet but that it depends on base
+abbrev pub stock_text : List ℕ
+stock_text = codes "name = 'stock'\ndepends = ['base']\n"
+
+-- the file of a module in a folder
+abbrev pub file_name : List ℕ → List ℕ → List ℕ
+file_name folder name = folder ++ codes "/" ++ name ++ codes ".toml"
+
+-- the text of a module, where files hold these texts
+abbrev pub text_in : (List ℕ → Option (List ℕ)) → List ℕ → List ℕ → Option (List ℕ)
+text_in files folder name =
+    if bytes_eq name (codes "base") then Some base_text
+    else if bytes_eq name (codes "stock") then Some stock_text
+    else files (file_name folder name)

@@ -1,0 +1,186 @@
+//! Which keys the tables of a module's text have. A key of the format that is added has its
+//! line here and in `specs/Keys`, and its meaning in `definitions` and `specs/Meaning`.
+
+ghost use Rattle.std.specs.Prelude.{◌≡◌, IfOk};
+ghost use Rattle.ob_definition.specs.Names.{is_field_name as is_name_of_field};
+ghost use Rattle.toml.specs.Data.{table};
+ghost use Rattle.toml.specs.View.{table_view, view};
+ghost use Rattle.ob_load.specs.Forms as forms;
+ghost use Rattle.ob_load.specs.Keys as spec;
+ghost use Rattle.ob_load.specs.Rooms.{type_key};
+
+use crate::form::{
+    Constant, Flag, Form, Keys, ListOf, PairOf, TableOf, Text, absent, wrong_member,
+};
+use crate::tables::has;
+use crate::wrong::Wrong;
+use ob_base::NoMemory;
+use ob_definition::is_field_name;
+use std::alloc::Global;
+use toml::{Table, Value};
+
+/// Any list of texts.
+const TEXTS: ListOf<Text<'static>> = ListOf { items: Text::Any };
+
+/// The keys of a field.
+#[derive(Clone, Copy)]
+struct FieldKeys;
+
+impl Keys for FieldKeys {
+    ghost keys = { λ _. spec.among spec.field_keys };
+
+    ghost missing = { λ _. forms.absent type_key };
+
+    fn wrong(&self, alloc: Global, key: &str, value: &Value) -> Result<Option<Wrong>, NoMemory> {
+        match key {
+            "type" => Text::FieldType.wrong(alloc, value),
+            "ondelete" => Text::OnDelete.wrong(alloc, value),
+            "default" => Constant.wrong(alloc, value),
+            "string" | "compute" | "related" | "relation" | "inverse" | "mirror" => {
+                Text::Any.wrong(alloc, value)
+            }
+            "required" | "store" | "recursive" | "managed" | "fixed" | "secret" => {
+                Flag.wrong(alloc, value)
+            }
+            "depends" | "groups" => TEXTS.wrong(alloc, value),
+            "selection" => pairs(Text::Any).wrong(alloc, value),
+            _ => Ok(Some(Wrong::here(alloc))),
+        }
+    }
+
+    fn missing(&self, table: &Table) -> Option<&'static str> {
+        absent(table, "type")
+    }
+}
+
+/// A list of pairs of a text and a text of this form.
+fn pairs<'n>(second: Text<'n>) -> ListOf<PairOf<Text<'static>, Text<'n>>>
+    ensures { result ≡ record { items = record { first = Text.Any; second = second.entry } } }
+{
+    ListOf {
+        items: PairOf {
+            first: Text::Any,
+            second,
+        },
+    }
+}
+
+/// The fields of a model, by name.
+#[derive(Clone, Copy)]
+struct Fields;
+
+impl Keys for Fields {
+    ghost keys = { λ _. forms.keys_where is_name_of_field spec.field };
+
+    ghost missing = { λ _. forms.no_key };
+
+    fn wrong(&self, alloc: Global, key: &str, value: &Value) -> Result<Option<Wrong>, NoMemory> {
+        if is_field_name(key) {
+            TableOf { keys: FieldKeys }.wrong(alloc, value)
+        } else {
+            Ok(Some(Wrong::here(alloc)))
+        }
+    }
+
+    fn missing(&self, _table: &Table) -> Option<&'static str> {
+        None
+    }
+}
+
+/// Checks, by any name.
+#[derive(Clone, Copy)]
+struct Checks;
+
+impl Keys for Checks {
+    ghost keys = { λ _. forms.keys_where forms.any_key forms.text };
+
+    ghost missing = { λ _. forms.no_key };
+
+    fn wrong(&self, alloc: Global, _key: &str, value: &Value) -> Result<Option<Wrong>, NoMemory> {
+        Text::Any.wrong(alloc, value)
+    }
+
+    fn missing(&self, _table: &Table) -> Option<&'static str> {
+        None
+    }
+}
+
+/// The keys of a model.
+#[derive(Clone, Copy)]
+struct ModelKeys;
+
+impl Keys for ModelKeys {
+    ghost keys = { λ _. spec.among spec.model_keys };
+
+    ghost missing = { λ _. spec.missing_name };
+
+    fn wrong(&self, alloc: Global, key: &str, value: &Value) -> Result<Option<Wrong>, NoMemory> {
+        match key {
+            "name" => Text::ModelName.wrong(alloc, value),
+            "inherit" | "order" | "parent" | "locked" => Text::Any.wrong(alloc, value),
+            "inherits" => pairs(Text::FieldName).wrong(alloc, value),
+            "unique" => ListOf { items: TEXTS }.wrong(alloc, value),
+            "check" => TableOf { keys: Checks }.wrong(alloc, value),
+            "managed" => Flag.wrong(alloc, value),
+            "field" => TableOf { keys: Fields }.wrong(alloc, value),
+            _ => Ok(Some(Wrong::here(alloc))),
+        }
+    }
+
+    fn missing(&self, table: &Table) -> Option<&'static str> {
+        if has(table, "inherit") {
+            None
+        } else {
+            absent(table, "name")
+        }
+    }
+}
+
+/// The keys of a document, which says the name of its module.
+#[derive(Clone, Copy)]
+struct DocumentKeys<'n> {
+    name: &'n str,
+}
+
+impl<'n> Keys for DocumentKeys<'n> {
+    ghost use Rattle.std.specs.Prelude.{codes};
+
+    ghost keys = { λ d. spec.among (spec.document_keys d.name.now) };
+
+    ghost missing = { λ _. forms.absent (codes "name") };
+
+    fn wrong(&self, alloc: Global, key: &str, value: &Value) -> Result<Option<Wrong>, NoMemory> {
+        match key {
+            "name" => Text::Exactly(self.name).wrong(alloc, value),
+            "depends" => TEXTS.wrong(alloc, value),
+            "model" => list_of_models(alloc, value),
+            _ => Ok(Some(Wrong::here(alloc))),
+        }
+    }
+
+    fn missing(&self, table: &Table) -> Option<&'static str> {
+        absent(table, "name")
+    }
+}
+
+/// Where a list of models breaks its form first.
+fn list_of_models(alloc: Global, value: &Value) -> Result<Option<Wrong>, NoMemory>
+    ensures { IfOk result (λ found. found ≡ forms.list_of spec.model (view value.now)) }
+{
+    let models = ListOf {
+        items: TableOf { keys: ModelKeys },
+    };
+    models.wrong(alloc, value)
+}
+
+/// Where the document of a module of this name breaks its form first.
+pub(crate) fn wrong_document(
+    alloc: Global,
+    name: &str,
+    document: &Table,
+) -> Result<Option<Wrong>, NoMemory>
+    ensures { IfOk result
+        (λ found. found ≡ spec.document name.now (table (table_view document.now))) }
+{
+    wrong_member(alloc, &DocumentKeys { name }, document)
+}

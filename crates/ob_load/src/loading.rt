@@ -1,0 +1,147 @@
+//! What modules are loaded, or what stands against them first: a text or its form, in the
+//! order of reading; then a circle; then their models.
+
+ghost use Rattle.std.specs.Prelude.{◌≡◌, ◌≢◌, ◌<◌, ℕ, List, IfErr, IfNone, IfOk, IfSome, IsErrOf, None, Some, length, slice_get};
+ghost use Rattle.ob_io.specs.Cause.{HasCause, Rose};
+ghost use Rattle.ob_definition.specs.Ranking.{rank};
+ghost use Rattle.ob_schema.specs.Models.{IsRegistry};
+ghost use Rattle.ob_load.specs.Loading as spec;
+ghost use Rattle.ob_load.specs.Loading.{IsFirstFault, IsLoaded};
+ghost use Rattle.ob_load.specs.Reading.{Module};
+ghost use Rattle.ob_load.specs.Rooms.{Refuses, ToldAbsent, modules_in, numbered};
+ghost use Rattle.ob_load.specs.Texts.{text_in};
+ghost use Rattle.ob_load.specs.declared.fault.FaultyModule.{FaultyModule};
+
+use crate::definitions::add_models;
+use crate::dependencies::{first_cyclic, in_order};
+use crate::fault::{LoadFault, ModuleFault};
+use crate::modules::Modules;
+use crate::reading::{read_modules, refused, refused_at};
+use crate::tables::listed_at;
+use ob_base::{NoMemory, PathStep, Place, Sequence, Word};
+use ob_io::Files;
+use ob_schema::{ModelDef, Schema, SchemaFault};
+use std::alloc::Global;
+
+/// What modules mean.
+#[derive(Debug, Drop)]
+pub struct Loaded {
+    /// The registry of all their models.
+    pub schema: Schema,
+}
+
+/// Loads the modules of these names: `base` and `stock` first, which stand inside the
+/// program, then these, whose texts are the files `FOLDER/NAME.toml`; each with those on
+/// which it depends. Each text is read once. What stands against them first is told: a
+/// text or its form, in the order of reading; then the first module in this order that
+/// depends on itself; then the first fault of all models, in the order in which modules are
+/// taken, each after those on which it depends.
+pub fn load<F: Files>(
+    alloc: Global,
+    files: &mut F,
+    folder: &str,
+    names: &[Word],
+) -> Result<Loaded, LoadFault>
+    // Over files that tell what they hold: the meaning of the texts, or the first fault.
+    ensures loaded { IfOk result (λ loaded. IfSome (F.texts files.old)
+        (λ texts. IsLoaded (text_in texts folder.now) names.now loaded.schema)) }
+    ensures fault { (faulty : FaultyModule) → IsErrOf result (LoadFault.Module faulty) → IfSome (F.texts files.old)
+        (λ texts. IsFirstFault (text_in texts folder.now) names.now faulty) }
+
+    // Whatever files tell: the registry is sound, `File` comes only where their count rose,
+    // and so does `Absent` where they don't tell.
+    ensures sound { IfOk result (λ loaded. IsRegistry loaded.schema) }
+    ensures cause { HasCause (F.faults files.old) (F.faults files.new)
+        (IsErrOf result LoadFault.File) }
+    ensures absent { IfErr result
+        (ToldAbsent (F.texts files.old) (Rose (F.faults files.old) (F.faults files.new))) }
+    ensures same { F.texts files.new ≡ F.texts files.old }
+{
+    let modules = read_modules(alloc, files, folder, names)?;
+    if let Some(number) = first_cyclic(alloc, &modules)? {
+        return Err(refused(alloc, modules.name(number), ModuleFault::Cycle));
+    }
+    let taken = in_order(alloc, &modules, names)?;
+    let models = all_models(alloc, &modules, &taken)?;
+    match Schema::build(alloc, models.as_slice()) {
+        Ok(schema) => Ok(Loaded { schema }),
+        Err(SchemaFault::NoMemory) => Err(LoadFault::NoMemory),
+        Err(fault) => Err(models_fault(alloc, &modules, &taken, fault)),
+    }
+}
+
+/// The models of modules, one after another.
+fn all_models(
+    alloc: Global,
+    modules: &Modules,
+    taken: &[usize],
+) -> Result<Sequence<ModelDef>, NoMemory>
+    requires { (all : List Module) × numbered (modules_in modules.now) taken.now all }
+    ensures { IfOk result (λ models. (all : List Module) → numbered (modules_in modules.now) taken.now all
+        → models ≡ spec.all_models all) }
+{
+    let mut models = Sequence::new(alloc);
+    for number in taken {
+        add_models(alloc, modules.document(*number), &mut models)?;
+    }
+    Ok(models)
+}
+
+/// The refusal of a fault of all models, told in the module that has its entry.
+fn models_fault(alloc: Global, modules: &Modules, taken: &[usize], fault: SchemaFault) -> LoadFault
+    requires { (all : List Module) × numbered (modules_in modules.now) taken.now all
+        × ((rank fault).entry < length (spec.all_models all)) }
+    ensures told { (all : List Module) (owner : Module) (entry : ℕ) → numbered (modules_in modules.now) taken.now all
+        → spec.owner_of all (rank fault).entry ≡ Some (owner, entry)
+        → Refuses (record { name = owner.name; place = spec.model_place entry (rank fault).field; fault = ModuleFault.Schema fault }) result }
+    ensures not_files { result ≢ LoadFault.File }
+{
+    let Some(spot) = fault.spot() else {
+        return LoadFault::NoMemory;
+    };
+    let Some((number, entry)) = owner_of(modules, taken, spot.entry) else {
+        // Each entry is one of a module.
+        unreachable!();
+    };
+    match model_place(alloc, entry, spot.field.as_str()) {
+        Ok(place) => refused_at(
+            alloc,
+            modules.name(number),
+            place,
+            ModuleFault::Schema(fault),
+        ),
+        Err(NoMemory) => LoadFault::NoMemory,
+    }
+}
+
+/// The module of an entry among all models, and the entry's number in it.
+fn owner_of(modules: &Modules, taken: &[usize], entry: u32) -> Option<(usize, usize)>
+    requires { (all : List Module) × numbered (modules_in modules.now) taken.now all }
+    ensures some { IfSome result (λ p. (all : List Module) → numbered (modules_in modules.now) taken.now all
+        → (m : Module) × (slice_get (modules_in modules.now) p.0 ≡ Some m) × (spec.owner_of all entry ≡ Some (m, p.1))) }
+    ensures none { IfNone result ((all : List Module) → numbered (modules_in modules.now) taken.now all → spec.owner_of all entry ≡ None) }
+{
+    let mut left = entry as usize;
+    for number in taken {
+        let count = listed_at(modules.document(*number), "model").len();
+        if left < count {
+            return Some((*number, left));
+        }
+        left -= count;
+    }
+    None
+}
+
+/// The place of a field of a model in its module; without a field that of the model.
+fn model_place(alloc: Global, number: usize, field: &str) -> Result<Place, NoMemory>
+    ensures { IfOk result (λ place. place ≡ spec.model_place number field.now) }
+{
+    let mut place = Place::whole(alloc);
+    place.push_key(alloc, "model")?;
+    place.push(PathStep::Item(number as u64))?;
+    if !field.is_empty() {
+        place.push_key(alloc, "field")?;
+        place.push_key(alloc, field)?;
+    }
+    Ok(place)
+}
