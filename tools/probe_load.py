@@ -6,7 +6,7 @@ import sys
 sys.path.insert(0, os.path.join(sys.argv[1]))
 import fuzz_modules  # noqa: E402
 from probe_schema import Judge, part, told_model  # noqa: E402
-from stockd_oracle import load, schema  # noqa: E402
+from stockd_oracle import load, schema, tomlio  # noqa: E402
 
 STAGE = 3
 FOLDER = "m"
@@ -68,6 +68,16 @@ def own(rng):
         return [name, *names], {**files, name: text.read()}
 
 
+def place(fault, files):
+    """The place of a fault. The machine tells a missing name of an entry after every other key; it counts where it would stand, as docs/DECISIONS.md has it."""
+    steps = fault.place.split(".")
+    if fault.kind == "Form" and fault.module in files and steps[0] == "model" and len(steps) > 2:
+        entry = tomlio.read(files[fault.module])["model"][int(steps[1])]
+        if not {"name", "inherit"} & set(entry) and steps[2].encode() > b"name":
+            return "model.%s.name" % steps[1]
+    return fault.place
+
+
 def wanted(names, files):
     """The registry, model by model, or the line of the first fault; by a judge who reads definitions as docs/DECISIONS.md does."""
     judges, build = [], schema.build
@@ -80,7 +90,7 @@ def wanted(names, files):
     try:
         loaded = load.load(lambda path: files.get(path[len(FOLDER) + 1:-len(".toml")], None), FOLDER, names, STAGE)
     except load.LoadFault as fault:
-        return "module %s: %s %s" % (fault.module, fault.kind, fault.place)
+        return "module %s: %s %s" % (fault.module, fault.kind, place(fault, files))
     finally:
         schema.build = build
     return " || ".join(told_model(judges[-1], model) for model in loaded.schema.models.values()) or "none"
