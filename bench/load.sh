@@ -11,12 +11,10 @@ set -euo pipefail
 top=$(cd "$(dirname "$0")/.." && pwd)
 modules=${1:-31}
 times=${2:-40}
-probe=${PROBE:-$("$top/tools/proved.sh" stockd_probe)}
-work=$(mktemp -d)
-trap 'rm -rf "$work"' EXIT
+. "$top/bench/measure.sh"
 
 # The texts of so many modules on a line of the probe, and their bytes.
-texts() {
+asked() {
     awk -v n="$1" -v bytes="$work/bytes" '
         function line(text) { size += length(text) + 1; gsub(/ /, "\\s", text); gsub(/:/, "\\c", text); body = body text "\\n" }
         function field(name, type, more) {
@@ -47,47 +45,9 @@ texts() {
         }'
 }
 
-# What the probe takes of a processor for an input, so that other work beside it counts little.
-seconds() {
-    local TIMEFORMAT=%U
-    { time "$probe" <"$1" >/dev/null; } 2>&1
-}
-
-least() {
-    for _ in 1 2 3 4 5; do seconds "$1"; done | sort -n | head -n 1
-}
-
-# What all calls but one take for so many modules.
-calls() {
-    texts "$1" >"$work/once"
-    sed "s/^/times $times /" "$work/once" >"$work/often"
-    awk -v often="$(least "$work/often")" -v once="$(least "$work/once")" 'BEGIN { print often - once }'
-}
-
-# The instructions that an input takes.
-instructions() {
-    valgrind --tool=callgrind --callgrind-out-file=/dev/null "$probe" <"$1" 2>&1 >/dev/null | awk '/Collected/ { print $NF }'
-}
-
-# The instructions of one call for so many modules.
-work_of() {
-    texts "$1" >"$work/once"
-    sed "s/^/times 2 /" "$work/once" >"$work/twice"
-    echo $(($(instructions "$work/twice") - $(instructions "$work/once")))
-}
-
-# How many times as many instructions a call takes for twice the modules.
-work_ratio() {
-    if ! command -v valgrind >/dev/null; then
-        echo "not counted, without valgrind"
-        return
-    fi
-    awk -v a="$(work_of "$modules")" -v b="$(work_of $((2 * modules)))" 'BEGIN { printf "%.2f", b / a }'
-}
-
 twice=$(calls $((2 * modules)))
 once=$(calls "$modules")
-awk -v n="$modules" -v m="$times" -v a="$once" -v b="$twice" -v size="$(cat "$work/bytes")" -v counted="$(work_ratio)" 'BEGIN {
+awk -v n="$modules" -v m="$times" -v a="$once" -v b="$twice" -v size="$(cat "$work/bytes")" -v counted="$(work_ratio "$modules")" 'BEGIN {
     call = a / (m - 1)
     printf "load: %.0f modules a second, %.1f MB of TOML; ratio of the times for %d and %d modules %.2f, of the instructions %s\n", n / call, size / call / 1e6, n, 2 * n, b / a, counted
 }'

@@ -11,13 +11,11 @@ set -euo pipefail
 top=$(cd "$(dirname "$0")/.." && pwd)
 models=${1:-256}
 times=${2:-6}
-probe=${PROBE:-$("$top/tools/proved.sh" stockd_probe)}
-work=$(mktemp -d)
-trap 'rm -rf "$work"' EXIT
+. "$top/bench/measure.sh"
 
 # So many models in a ring, each of whose rows has an owner in the one before; three of the 256
 # fields are automatic. The names of a model's fields stand in no order.
-definitions() {
+asked() {
     awk -v n="$1" '
         function name(i) { return sprintf("f%03d", i * 89 % 249) }
         function model(k) { return "m." ((k + n) % n) }
@@ -38,44 +36,6 @@ definitions() {
         }'
 }
 
-# What the probe takes of a processor for an input, so that other work beside it counts little.
-seconds() {
-    local TIMEFORMAT=%U
-    { time "$probe" <"$1" >/dev/null; } 2>&1
-}
-
-least() {
-    for _ in 1 2 3 4 5; do seconds "$1"; done | sort -n | head -n 1
-}
-
-# What all calls but one take for so many models.
-calls() {
-    definitions "$1" >"$work/once"
-    sed "s/^/times $times /" "$work/once" >"$work/often"
-    awk -v often="$(least "$work/often")" -v once="$(least "$work/once")" 'BEGIN { print often - once }'
-}
-
-# The instructions that an input takes.
-instructions() {
-    valgrind --tool=callgrind --callgrind-out-file=/dev/null "$probe" <"$1" 2>&1 >/dev/null | awk '/Collected/ { print $NF }'
-}
-
-# The instructions of one call for so many models.
-work_of() {
-    definitions "$1" >"$work/once"
-    sed "s/^/times 2 /" "$work/once" >"$work/twice"
-    echo $(($(instructions "$work/twice") - $(instructions "$work/once")))
-}
-
-# How many times as many instructions a call takes for twice the models.
-work_ratio() {
-    if ! command -v valgrind >/dev/null; then
-        echo "not counted, without valgrind"
-        return
-    fi
-    awk -v a="$(work_of "$models")" -v b="$(work_of $((2 * models)))" 'BEGIN { printf "%.2f", b / a }'
-}
-
-awk -v n="$models" -v m="$times" -v a="$(calls "$models")" -v b="$(calls $((2 * models)))" -v counted="$(work_ratio)" 'BEGIN {
+awk -v n="$models" -v m="$times" -v a="$(calls "$models")" -v b="$(calls $((2 * models)))" -v counted="$(work_ratio "$models")" 'BEGIN {
     printf "schema: %.0f ns a field of %d models, %.0f ns of %d; ratio of the times %.2f, of the instructions %s\n", a / (m - 1) / (n * 256) * 1e9, n, b / (m - 1) / (2 * n * 256) * 1e9, 2 * n, b / a, counted
 }'
