@@ -5,6 +5,10 @@ use Rattle.std.specs.Prelude.{ℕ, ◌^◌}
 abbrev pub max_id : ℕ
 max_id = 4294967295
 
+-- how deep a tree of rows may be; a root has depth 1
+abbrev pub max_tree_depth : ℕ
+max_tree_depth = 64
+
 -- how many targets a many2many cell may have
 abbrev pub max_targets : ℕ
 max_targets = 65536
@@ -56,6 +60,14 @@ max_path_steps = 6
 -- the greatest stratum of a field
 abbrev pub max_stratum : ℕ
 max_stratum = 8
+
+-- how many operators and criteria a domain may have, inner domains included
+abbrev pub max_domain_terms : ℕ
+max_domain_terms = 4096
+
+-- how many steps a dotted field of a domain may have
+abbrev pub max_dotted_steps : ℕ
+max_dotted_steps = 16
 
 -- the length in bytes of a line of requests, without its line feed, and of an HTTP body
 abbrev pub max_line_bytes : ℕ

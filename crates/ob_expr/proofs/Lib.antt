@@ -1,4 +1,5 @@
 pub mod Along
+pub mod Unread
 pub mod Behind
 pub mod KindsOf
 pub mod FromCells

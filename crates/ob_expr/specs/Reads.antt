@@ -1,5 +1,5 @@
 -- Which cells an evaluation comes to, in their turn, and which lie along the paths of an expression. A form of the tree that is added has its order here.
-use Rattle.std.specs.Prelude.{◌≡◌, ⊤, ◌⊎◌, List, [], ◌∷◌, Bool, false, true, IsTrue, Option, Some, Ok, IsOk}
+use Rattle.std.specs.Prelude.{◌≡◌, ⊤, ◌⊎◌, List, [], ◌∷◌, Bool, false, true, IsTrue, Option, Some, None, Ok, Err, IsOk}
 use Rattle.ob_base.specs.declared.id.Cell.{Cell}
 use Rattle.ob_base.specs.declared.id.FieldNo.{FieldNo}
 use Rattle.ob_base.specs.declared.id.ModelNo.{ModelNo}
@@ -10,7 +10,7 @@ use Rattle.ob_expr.specs.declared.kind.Kind.{Kind}
 use Rattle.ob_expr.specs.declared.kind.Kind.TheVariants as kind
 use Rattle.ob_expr.specs.declared.row.Row.{Row}
 use Rattle.ob_expr.specs.declared.typed.Link.{Link}
-use Rattle.ob_expr.specs.Computing.{decides, is_true}
+use Rattle.ob_expr.specs.Computing.{decides, is_true, unread}
 use Rattle.ob_expr.specs.Kinds.{HasKind}
 use Rattle.ob_expr.specs.Meaning.{cell_in, row_at, ids_of, meaning, path_value}
 use Rattle.ob_expr.specs.Route.{Route}
@@ -98,6 +98,10 @@ ReadsAlongPaths tree = (held other : Cell → Option Value) (row : Row) → ((ce
 -- an evaluation comes to no cell but those along its paths
 abbrev pub ComesToPaths : TypedTree → Type 0
 ComesToPaths tree = (held : Cell → Option Value) (can_read : Cell → Bool) (row : Row) → ((cell : Cell) → IsAlong held row tree cell → IsTrue (can_read cell)) → MayRead held (λ cell. IsTrue (can_read cell)) row tree
+
+-- an expression that lacks an unread cell comes to it along its paths, and the cell has no value
+abbrev pub LacksAlongPaths : TypedTree → Type 0
+LacksAlongPaths tree = (held : Cell → Option Value) (row : Row) (cell : Cell) → meaning held row tree ≡ Err (unread cell) → IsAlong held row tree cell × (held cell ≡ None)
 
 -- a value that operators make: unset, a truth, an integer, a text, or the empty list
 abbrev pub IsMade : Value → Type 0

@@ -12,7 +12,7 @@ ghost use Rattle.ob_expr.specs.Chain.{each};
 ghost use Rattle.ob_expr.specs.Kinds.{HasKind};
 ghost use Rattle.ob_expr.specs.Meaning.{ids_of, meaning, path_value, row_at, row_of};
 ghost use Rattle.ob_expr.specs.Outcome.{IsEvalFault};
-ghost use Rattle.ob_expr.specs.Reads.{ComesToPaths, EachInTurn, GivesCellsValues, HoldsKinds, MayRead, MayReadPath, ReadsAlongPaths};
+ghost use Rattle.ob_expr.specs.Reads.{ComesToPaths, EachInTurn, GivesCellsValues, HoldsKinds, LacksAlongPaths, MayRead, MayReadPath, ReadsAlongPaths};
 ghost use Rattle.ob_expr.specs.Told.{TellsRead};
 
 use crate::computing::{
@@ -113,11 +113,12 @@ pub fn eval<R: Reads, L: Ledger>(
     Ok(Fresh { cell, value })
 }
 
-/// What an expression means depends on the cells along its paths alone, and an evaluation
-/// comes to no others.
+/// What an expression means depends on the cells along its paths alone, an evaluation comes
+/// to no others, and the unread cell that an expression lacks is one of them without a value.
 pub fn reads_along_paths()
     ensures meaning { (tree : TypedTree) → ReadsAlongPaths tree }
     ensures reads { (tree : TypedTree) → ComesToPaths tree }
+    ensures lacks { (tree : TypedTree) → LacksAlongPaths tree }
 {}
 
 /// What an expression means is what a cell holds, or what operators make: so a day, a

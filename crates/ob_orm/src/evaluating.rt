@@ -30,7 +30,10 @@ use std::alloc::Global;
 pub fn each_lack_is_told()
     ensures { (model : ModelNo) (column : Column) (id : ℕ) (row : Row)
         → HasValueOrBreaks (val model column id row) }
-{}
+{
+    // The law that an unread cell which an expression lacks is one without a value.
+    reads_along_paths();
+}
 
 /// The plain values of a row by the numbers of their fields, for formulas to read.
 #[derive(Drop)]

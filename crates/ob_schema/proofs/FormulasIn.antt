@@ -26,7 +26,7 @@ use Rattle.ob_schema.specs.declared.info.Step.{Step}
 use Rattle.ob_schema.specs.Built.{IsFieldOf, IsFormula, IsOrigin}
 use Rattle.ob_schema.specs.Finds.{found_at, kind_of_type}
 use Rattle.ob_schema.specs.Formulas.{IsCovered, HasFormula, Place, declared_names, formula_paths, good_paths, paths_by_role, read_paths}
-use Rattle.ob_schema.specs.Models.{AreSteps, IsFormulaIn, field_at}
+use Rattle.ob_schema.specs.Models.{AreSteps, EndsOwn, IsFormulaIn, field_at}
 use Rattle.ob_schema.specs.Paths.{BeginsWith, path_from, step_at, steps_of_route}
 use Rattle.ob_schema.specs.RegistryOf.{IsRegistryOf}
 use Rattle.ob_schema.specs.Strata.{IsMember}
@@ -35,6 +35,7 @@ use Rattle.ob_schema.proofs.Defaults.{IsBare, computed_bare, own_fits}
 use Rattle.ob_schema.proofs.Delegated.{member_cases}
 use Rattle.ob_schema.proofs.Depending.{depends_along}
 use Rattle.ob_schema.proofs.NamedFields.{member_parts}
+use Rattle.ob_schema.proofs.OwnEnds.{ends_own}
 use Rattle.ob_schema.proofs.PathTests.{All-unmap}
 use Rattle.ob_schema.proofs.Resolved.{any_of, right_field, right_formula}
 use Rattle.ob_schema.proofs.RoutesLed.{EndsRoute, ends_routed, ends_steps, tree_by_refs, tree_ends}
@@ -182,6 +183,7 @@ module _ (models : List Gathered) (infos : List ModelInfo) (registry : IsRegistr
       record {
         kinded = (typed_ok (found_at models) number tree typed has.checked).0;
         routed = All-weaker (EndsRoute models infos registry number) _ (ends_routed models infos registry number) (paths_of typed) (reads_end tree typed has);
+        own = All-weaker (EndsRoute models infos registry number) (λ route. EndsOwn infos number route.links route.field) (ends_own models infos registry number) (paths_of typed) (reads_end tree typed has);
         by_refs = tree_by_refs models infos registry number typed (typed_ok (found_at models) number tree typed has.checked).1;
         covered = All-weaker (λ route. IsCovered (depends tree typed has) (steps_of_route number route)) (λ route. Any (λ path. BeginsWith path.steps (steps_of_route number route)) formula.depends)
             (λ route covered. Any-unmap (λ steps. BeginsWith steps (steps_of_route number route)) formula.depends

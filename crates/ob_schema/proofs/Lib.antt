@@ -87,6 +87,7 @@ pub mod LedPaths
 pub mod NamesLed
 pub mod RoutesLed
 pub mod StepsLed
+pub mod OwnEnds
 pub mod FormulasIn
 pub mod Stable
 pub mod Sourced

@@ -8,6 +8,7 @@ pub mod Faults
 pub mod Fields
 pub mod Built
 pub mod Models
+pub mod Facts
 -- Private: the words by which the rooms of the crate are joined.
 pub mod Telling
 pub mod Graphs

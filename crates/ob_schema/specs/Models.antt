@@ -94,6 +94,11 @@ is_given_from origin.Id = true
 is_given_from origin.Plain = true
 is_given_from _ = false
 
+-- a row of a parent has the value
+abbrev pub is_delegated_from : Origin → Bool
+is_delegated_from (origin.Delegated at) = true
+is_delegated_from _ = false
+
 -- the names of the moments at which a row was made and last changed
 abbrev pub is_moment : List ℕ → Bool
 is_moment name = is_one_of (codes "create_date" ∷ codes "write_date" ∷ []) name
@@ -117,6 +122,11 @@ abbrev pub IsRouted : List ModelInfo → ModelNo → List Link → FieldNo → K
 IsRouted models model [] field k = FieldHas models (λ info. (kind_of_info info ≡ Some k) × (has_value_of info ≡ true)) model field
 IsRouted models model (link ∷ links) field k = FieldHas models (IsPlainTo link.target) model link.field × IsRouted models link.target links field k
 
+-- the field at the end of a path isn't delegated: a delegated one stands for the path on to its parent's
+abbrev pub EndsOwn : List ModelInfo → ModelNo → List Link → FieldNo → Type 0
+EndsOwn models model [] field = FieldHas models (λ info. is_delegated_from info.origin ≡ false) model field
+EndsOwn models model (link ∷ links) field = EndsOwn models link.target links field
+
 -- a path that goes on by references alone: each link is a plain many2one to its target, and the field at the end has the path's kind and a value
 abbrev pub IsByRefs : List ModelInfo → ModelNo → List Link → FieldNo → Kind → Type 0
 IsByRefs models model [] field k = FieldHas models (λ info. (kind_of_info info ≡ Some k) × (has_value_of info ≡ true)) model field
@@ -128,11 +138,12 @@ AreSteps models model [] = ⊥
 AreSteps models model (step ∷ []) = (step.model ≡ model) × FieldHas models (λ info. has_value_of info ≡ true) step.model step.field
 AreSteps models model (step ∷ next ∷ steps) = (step.model ≡ model) × FieldHas models (IsPlainTo next.model) step.model step.field × AreSteps models next.model (next ∷ steps)
 
--- a formula of a model: its paths are typed, each by many2ones alone from where it stands, few steps long, and cover what is read
+-- a formula of a model: its paths are typed, each by many2ones alone from where it stands, none ends in a delegated field, and what it depends on is few steps long and covers them
 -- its values are of the field's kind; the field is no relation and no selection, isn't required and has no default
 pub record IsFormulaIn (models : List ModelInfo) (model : ModelNo) (field : FieldInfo) (formula : Formula) : Type 0 where
   pub kinded : IsWellKinded (typed_tree_of formula.typed)
   pub routed : All (λ route. IsRouted models model route.links route.field route.kind) (paths_of (typed_tree_of formula.typed))
+  pub own : All (λ route. EndsOwn models model route.links route.field) (paths_of (typed_tree_of formula.typed))
   pub by_refs : EachPath (λ from route. IsByRefs models from route.links route.field route.kind) model (typed_tree_of formula.typed)
   pub covered : All (λ route. Any (λ path. BeginsWith path.steps (steps_of_route model route)) formula.depends) (paths_of (typed_tree_of formula.typed))
   pub steps : All (λ path. AreSteps models model path.steps × (length path.steps ≤ max_path_steps)) formula.depends

@@ -2,7 +2,8 @@
 //! thing that stands against these.
 //!
 //! Rooms: `info` (models and fields with names resolved), `schema` (the registry and its
-//! look-ups), `build` (the registry from definitions). Behind it stand `model` and `models` (models with
+//! look-ups), `build` (the registry from definitions), `facts` (what domains and rules ask of
+//! rows). Behind it stand `model` and `models` (models with
 //! all their fields, and what names stand for), `model_faults`, `field_faults`, `paths`,
 //! `formulas`, `graph` and `strata` (what is wrong with models, keys, paths, expressions and
 //! circles), `building` and `field_building` (the registry's parts). The definitions that
@@ -11,6 +12,7 @@
 
 mod build;
 mod building;
+mod facts;
 mod field_building;
 mod field_faults;
 mod formulas;
@@ -25,6 +27,7 @@ mod strata;
 #[cfg(test)]
 mod tests;
 
+pub use facts::Facts;
 pub use info::{
     Delegation, FieldInfo, Formula, ModelInfo, OrderTerm, Origin, ParentInfo, Path, Step,
 };

@@ -52,6 +52,13 @@ impl Schema {
         Ok(Schema { models, index })
     }
 
+    /// The law of every registry: all that is known of one.
+    pub fn parts_fit_together(&self)
+        ensures { IsRegistry self.now }
+    {
+        let _ = &self.models;
+    }
+
     /// The model of this name.
     pub fn model(&self, name: &str) -> Option<ModelNo>
         ensures named { result ≡ model_named self.now name.now }
