@@ -1,0 +1,373 @@
+//! Tables over a registry: what their rows keep, what they tell, and what edits make of
+//! them. Contracts see a finite map of rows and a next id for each model, by
+//! `specs/Tables`; the maps here may change at will. A next id that was never raised isn't
+//! kept, so that empty tables take no memory.
+
+ghost use Rattle.std.specs.Prelude.{◌≡◌, ◌≤◌, ◌<◌, ◌+◌, ◌^◌, ◌-◌, All, IfErr, IfOk, IsSome, Ok, IsSomeAnd, Some, is_some, true, map, option_and_then, option_map};
+ghost use Rattle.std.specs.FinMap as finite;
+ghost use Rattle.ob_base.specs.declared.id.RecId.{RecId};
+ghost use Rattle.ob_schema.specs.Models.{HasModel, IsRegistry, field_at, is_given_from};
+ghost use Rattle.ob_schema.specs.declared.info.Origin.{Origin};
+ghost use Rattle.ob_schema.specs.declared.info.Origin.TheVariants as origin;
+ghost use Rattle.ob_tables.specs.After.{after, edited, with_next_id};
+ghost use Rattle.ob_tables.specs.Tied.{IsTied};
+ghost use Rattle.ob_tables.specs.Faults.{HasNoValue};
+ghost use Rattle.ob_tables.specs.Fitting.{AreFitIn, IsFitEdit, IsFitId, IsFitValueAt};
+ghost use Rattle.ob_tables.specs.Plain.{id_value, naming, plain_at};
+ghost use Rattle.ob_tables.specs.Rooms.{Gives, shown_row, shown_rows};
+ghost use Rattle.ob_tables.specs.Val.{val};
+ghost use Rattle.ob_tables.specs.Tables.{Fits, Standing, empty_tables, ids_in, key_of, kept_at, next_of, row_at, rows_in};
+ghost use Rattle.ob_tables.specs.declared.edit.Edit.TheVariants as edits;
+
+use crate::edit::Edit;
+use crate::fault::ScratchFault;
+use crate::reading::Given;
+use crate::row::{PlainRow, copy_row, names_by, new_row, put_value};
+use ob_base::{Cell, FieldNo, ModelNo, NoMemory, RecId, RefList, Value};
+use ob_io::RowKey;
+use ob_schema::{FieldInfo, Origin, Schema};
+use std::alloc::Global;
+use std::collections::BTreeMap;
+use std::collections::btree_map::Range;
+use std::marker::Model;
+use std::ops::Bound;
+
+/// The plain values of rows, and a next id for each model of the registry over which they
+/// stand. No call changes tables: those that edit give new ones.
+#[derive(Drop)]
+pub struct Tables<'a> {
+    pub(crate) alloc: Global,
+    pub(crate) schema: &'a Schema,
+    rows: BTreeMap<RowKey, PlainRow>,
+    next_ids: BTreeMap<u16, u64>,
+}
+
+impl<'a> Model for Tables<'a> {
+    ghost use Rattle.ob_tables.specs.Tables.{Fits, Standing};
+    ghost use Rattle.ob_tables.specs.Rooms.{shown_tables};
+    ghost use Rattle.ob_expr.specs.contracts.typed.Typed as typed;
+    ghost use Rattle.std.specs.Coded.{codes};
+    ghost use Rattle.ob_tables.specs.Coding.{coded_standing};
+
+    ghost coded = { coded_standing (Prim.hlevel (codes, typed.the_row.coded)) (Prim.hlevel codes) };
+
+    ghost Value = { Standing };
+
+    ghost view = { λ t. record { models = t.schema.now; tables = shown_tables t.schema.now t.rows t.next_ids } };
+
+    ghost invariant = { λ t. Fits t.schema.now (shown_tables t.schema.now t.rows t.next_ids) };
+}
+
+/// What gives a plain cell its value.
+#[derive(Clone, Copy, Debug)]
+pub(crate) enum Source<'t> {
+    /// Its row isn't there, or another cell or a formula gives it.
+    Nothing,
+    /// The row's id.
+    Id,
+    /// The row keeps it.
+    Kept(&'t Value),
+    /// The rows of a model that name the row by a field.
+    Naming(ModelNo, FieldNo),
+}
+
+impl<'a> Tables<'a> {
+    /// Tables without rows, whose models have the next id 1. They take no memory.
+    pub fn empty(alloc: Global, schema: &'a Schema) -> Tables<'a>
+        ensures { result ≡ record { models = schema.now; tables = empty_tables schema.now } }
+    {
+        Tables {
+            alloc,
+            schema,
+            rows: BTreeMap::new(alloc),
+            next_ids: BTreeMap::new(alloc),
+        }
+    }
+
+    /// What edits make of these tables in their order, without any test.
+    pub fn after(&self, edits: &[Edit]) -> Result<Tables<'a>, NoMemory>
+        requires { All (IsFitEdit self.now.models) edits.now }
+        ensures { IfOk result (λ tables. tables ≡ record { models = self.now.models; tables = after self.now.models self.now.tables edits.now }) }
+    {
+        let mut tables = self.copy()?;
+        for edit in edits {
+            tables.carry_out(edit)?;
+        }
+        Ok(tables)
+    }
+
+    /// The value of a plain cell, of `id` or of a one2many or many2many; none exactly where its
+    /// row isn't there.
+    pub fn plain(&self, cell: Cell) -> Result<Option<Value>, NoMemory>
+        requires { IsSomeAnd (field_at self.now.models cell.model cell.field)
+            (λ info. is_given_from info.origin ≡ true) }
+        ensures { IfOk result (λ value. value ≡ plain_at self.now.tables self.now.models cell) }
+    {
+        match self.source(cell) {
+            Source::Nothing => Ok(None),
+            Source::Id => Ok(Some(id_value(cell.id))),
+            Source::Kept(value) => Ok(Some(value.try_clone(self.alloc)?)),
+            Source::Naming(model, field) => {
+                let ids = self.naming(model, field, cell.id)?;
+                Ok(Some(Value::Refs(ids)))
+            }
+        }
+    }
+
+    /// The ids of a model's rows.
+    pub fn ids(&self, model: ModelNo) -> Result<RefList, NoMemory>
+        requires { HasModel self.now.models model }
+        ensures { IfOk result (λ ids. ids ≡ ids_in self.now.tables model) }
+    {
+        let mut ids = RefList::new(self.alloc);
+        for (key, _) in self.rows_of(model) {
+            ids.push(key.id)?;
+        }
+        Ok(ids)
+    }
+
+    /// The id that a model's next row takes.
+    pub fn next(&self, model: ModelNo) -> u64
+        requires { HasModel self.now.models model }
+        ensures next { result ≡ next_of self.now.tables model }
+        ensures low { 1 ≤ result }
+        ensures above { (id : RecId) → IsSome (row_at self.now.tables model id) → id.0 < result }
+    {
+        self.next_ids.get(&model.0).copied().unwrap_or(1)
+    }
+
+    /// The same rows, with another next id for a model.
+    pub fn with_next(&self, model: ModelNo, next: u64) -> Result<Tables<'a>, NoMemory>
+        requires model { HasModel self.now.models model }
+        requires low { 1 ≤ next }
+        requires above { (id : RecId) → IsSome (row_at self.now.tables model id) → id.0 < next }
+        ensures { IfOk result (λ tables. tables ≡ record { models = self.now.models; tables = with_next_id model next self.now.tables }) }
+    {
+        let mut tables = self.copy()?;
+        tables.next_ids.insert(model.0, next)?;
+        Ok(tables)
+    }
+
+    /// The value of a cell from scratch, a condition's too, over tables whose rows lead to rows
+    /// that are there and whose trees are trees.
+    pub fn scratch(&self, cell: Cell) -> Result<Value, ScratchFault>
+        requires field { IsSome (field_at self.now.models cell.model cell.field) }
+        requires tied { IsTied self.now.models self.now.tables }
+        ensures value { IfOk result (λ value. val self.now.models self.now.tables cell ≡ Ok value) }
+        ensures fault { IfErr result (HasNoValue self.now.models self.now.tables cell) }
+    {
+        if !self.has_row(cell.model, cell.id) {
+            return Err(ScratchFault::Missing);
+        }
+        Given::of(self)?.value_of(cell)
+    }
+
+    /// The law of all tables: they fit their registry, whose parts fit together.
+    pub fn fit_together(&self)
+        ensures registry { IsRegistry self.now.models }
+        ensures fits { Fits self.now.models self.now.tables }
+    {
+        self.schema.parts_fit_together();
+    }
+
+    /// Whether a row is there.
+    fn has_row(&self, model: ModelNo, id: RecId) -> bool
+        ensures { result ≡ is_some (row_at self.now.tables model id) }
+    {
+        self.rows.contains_key(&RowKey { model, id })
+    }
+
+    /// The rows of a model, rising. None has the next id or one above it.
+    pub(crate) fn rows_of(&self, model: ModelNo) -> Range<'_, RowKey, PlainRow>
+        requires { HasModel self.now.models model }
+        ensures { map (λ entry. (entry.0.id, shown_row entry.1)) result ≡ rows_in self.now.tables model }
+    {
+        self.rows.range((
+            Bound::Included(row_key(model, 0)),
+            Bound::Excluded(row_key(model, self.next(model))),
+        ))
+    }
+
+    /// What a row keeps for a field.
+    fn kept(&self, cell: Cell) -> Option<&Value>
+        ensures { option_map (λ value. value.now) result ≡ kept_at self.now.tables cell }
+    {
+        self.rows.get(&key_of(cell))?.get(&cell.field.0)
+    }
+
+    /// What gives a cell its value.
+    pub(crate) fn source(&self, cell: Cell) -> Source<'_>
+        ensures { Gives self.now cell.id (plain_at self.now.tables self.now.models cell) result }
+    {
+        let Some(info) = self.schema.find_field(cell.model, cell.field) else {
+            return Source::Nothing;
+        };
+        if !self.has_row(cell.model, cell.id) {
+            return Source::Nothing;
+        }
+        match &info.origin {
+            Origin::Id => Source::Id,
+            Origin::Plain => self.plain_source(cell, info),
+            _ => Source::Nothing,
+        }
+    }
+
+    /// What gives a plain field its value in a row that is there: the rows that name this one by
+    /// the field back, or the row itself.
+    fn plain_source(&self, cell: Cell, info: &FieldInfo) -> Source<'_>
+        requires row { IsSome (row_at self.now.tables cell.model cell.id) }
+        requires field { field_at self.now.models cell.model cell.field ≡ Some info.now }
+        requires plain { info.now.origin ≡ origin.Plain }
+        ensures { Gives self.now cell.id (plain_at self.now.tables self.now.models cell) result }
+    {
+        // The registry's law: a field with a field back has a relation.
+        let _ = self.schema.model_info(cell.model);
+        let Some(back) = info.inverse.or(info.mirror) else {
+            return match self.kept(cell) {
+                Some(value) => Source::Kept(value),
+                None => Source::Nothing,
+            };
+        };
+        match info.relation {
+            Some(model) => Source::Naming(model, back),
+            None => Source::Nothing,
+        }
+    }
+
+    /// The rows of a model that name a row by a field.
+    pub(crate) fn naming(
+        &self,
+        model: ModelNo,
+        field: FieldNo,
+        id: RecId,
+    ) -> Result<RefList, NoMemory>
+        requires { HasModel self.now.models model }
+        ensures { IfOk result (λ ids. ids ≡ naming self.now.tables model field id) }
+    {
+        let mut ids = RefList::new(self.alloc);
+        for (key, row) in self.rows_of(model) {
+            if names_by(row, field, id) {
+                ids.push(key.id)?;
+            }
+        }
+        Ok(ids)
+    }
+
+    /// Carries out an edit. After a fault these tables are of no use.
+    fn carry_out(&mut self, edit: &Edit) -> Result<(), NoMemory>
+        requires { IsFitEdit self.old.models edit.now }
+        ensures models { self.new.models ≡ self.old.models }
+        ensures tables { IfOk result (λ _. self.new.tables ≡ edited self.old.models self.old.tables edit.now) }
+    {
+        match edit {
+            Edit::Make { model, id, values } => self.make(*model, *id, values.as_slice()),
+            Edit::Set { cell, value } => self.set(*cell, value),
+            Edit::Gone { model, id } => {
+                let _gone = self.rows.remove(&RowKey {
+                    model: *model,
+                    id: *id,
+                });
+                Ok(())
+            }
+        }
+    }
+
+    /// Makes a row, or makes it anew. The next id is raised first: it may stand higher than it must.
+    fn make(
+        &mut self,
+        model: ModelNo,
+        id: RecId,
+        values: &[(FieldNo, Value)],
+    ) -> Result<(), NoMemory>
+        requires id { IsFitId id }
+        requires values { AreFitIn self.old.models model values.now }
+        ensures models { self.new.models ≡ self.old.models }
+        ensures tables { IfOk result (λ _. self.new.tables ≡ edited self.old.models self.old.tables
+            (edits.Make model id values.now)) }
+    {
+        let row = new_row(self.alloc, self.schema.model_info(model), values)?;
+        let next = self.next(model).max(id.0 + 1);
+        self.next_ids.insert(model.0, next)?;
+        self.rows.insert(RowKey { model, id }, row)?;
+        Ok(())
+    }
+
+    /// Gives a cell of a row that is there a value.
+    fn set(&mut self, cell: Cell, value: &Value) -> Result<(), NoMemory>
+        requires { IsFitValueAt self.old.models cell value.now }
+        ensures models { self.new.models ≡ self.old.models }
+        ensures tables { IfOk result (λ _. self.new.tables ≡ edited self.old.models self.old.tables
+            (edits.Set cell value.now)) }
+    {
+        // The registry's law: a model's conditions are no plain fields.
+        let _ = self.schema.model_info(cell.model);
+        let alloc = self.alloc;
+        let Some(row) = self.rows.get_mut(&key_of(cell)) else {
+            return Ok(());
+        };
+        put_value(row, cell.field, value.try_clone(alloc)?)?;
+        Ok(())
+    }
+
+    /// The same tables again.
+    fn copy(&self) -> Result<Tables<'a>, NoMemory>
+        ensures { IfOk result (λ tables. tables ≡ self.now) }
+    {
+        Ok(Tables {
+            alloc: self.alloc,
+            schema: self.schema,
+            rows: copy_rows(self.alloc, &self.rows)?,
+            next_ids: copy_next_ids(self.alloc, &self.next_ids)?,
+        })
+    }
+}
+
+/// The same rows again.
+fn copy_rows(
+    alloc: Global,
+    rows: &BTreeMap<RowKey, PlainRow>,
+) -> Result<BTreeMap<RowKey, PlainRow>, NoMemory>
+    ensures { IfOk result (λ copy. shown_rows copy ≡ shown_rows rows.now) }
+{
+    let mut copy = BTreeMap::new(alloc);
+    for (key, row) in rows.iter() {
+        copy.insert(*key, copy_row(alloc, row)?)?;
+    }
+    Ok(copy)
+}
+
+/// The same next ids again.
+fn copy_next_ids(
+    alloc: Global,
+    next_ids: &BTreeMap<u16, u64>,
+) -> Result<BTreeMap<u16, u64>, NoMemory>
+    ensures { IfOk result (λ copy. copy.entries ≡ next_ids.now.entries) }
+{
+    let mut copy = BTreeMap::new(alloc);
+    for (model, next) in next_ids.iter() {
+        copy.insert(*model, *next)?;
+    }
+    Ok(copy)
+}
+
+/// A row's id as an integer; the greatest one stands for those past it.
+pub(crate) fn id_value(id: RecId) -> Value
+    ensures { result ≡ id_value id }
+{
+    Value::Int(i64::try_from(id.0).unwrap_or(i64::MAX))
+}
+
+fn row_key(model: ModelNo, id: u64) -> RowKey
+    ensures { result ≡ key_of model (record { 0 = id }) }
+{
+    RowKey {
+        model,
+        id: RecId(id),
+    }
+}
+
+fn key_of(cell: Cell) -> RowKey
+    ensures { result ≡ key_of cell.model cell.id }
+{
+    row_key(cell.model, cell.id.0)
+}
