@@ -1,5 +1,5 @@
 #!/usr/bin/env bash
-# How fast expressions are: bench/expr.sh [TIMES]. Texts of about 4,096 bytes that are read and
+# How fast expressions are: bench/expr.sh [RUNS]. Texts of about 4,096 bytes that are read and
 # checked in a second of a processor, and evaluations of a choice between a product and a joined
 # text and of a sum over 1,000 rows; nanoseconds for each node, and how much longer each takes
 # at twice the size: about twice, as each node is looked at once. All by the proved program
@@ -7,10 +7,8 @@
 # input says; reading the line is taken off. The least of five runs counts. Figures, no test.
 set -euo pipefail
 top=$(cd "$(dirname "$0")/.." && pwd)
-times=${1:-2000}
-probe=${PROBE:-$("$top/tools/proved.sh" stockd_probe)}
-work=$(mktemp -d)
-trap 'rm -rf "$work"' EXIT
+runs=${1:-2000}
+. "$top/bench/measure.sh"
 
 # So many groups of nine nodes in one call; 162 of them are 4,054 bytes.
 checked() {
@@ -41,28 +39,16 @@ summed() {
     }'
 }
 
-# What the probe takes of a processor for an input, so that other work beside it counts little.
-seconds() {
-    local TIMEFORMAT=%U
-    { time "$probe" <"$1" >/dev/null; } 2>&1
+# The line of the call that is measured.
+asked() {
+    "$call" "$1"
 }
 
-least() {
-    for _ in 1 2 3 4 5; do seconds "$1"; done | sort -n | head -n 1
-}
-
-# What all calls but one of so many take.
-calls() {
-    "$1" "$2" >"$work/once"
-    sed "s/^/times $3 /" "$work/once" >"$work/often"
-    awk -v often="$(least "$work/often")" -v once="$(least "$work/once")" 'BEGIN { print often - once }'
-}
-
-# A call, a size of it, the nodes of each of its parts, and how often it is made for each time.
+# A call, a size of it, the nodes of each of its parts, and how often it is made for each run.
 for line in "checked 81 9 1" "chosen 20 7 40" "summed 1000 3 1"; do
     read -r call n nodes often <<<"$line"
-    count=$((times * often))
-    awk -v call="$call" -v n="$n" -v k="$nodes" -v m="$count" -v a="$(calls "$call" "$n" "$count")" -v b="$(calls "$call" $((2 * n)) "$count")" 'BEGIN {
+    times=$((runs * often))
+    awk -v call="$call" -v n="$n" -v k="$nodes" -v m="$times" -v a="$(calls "$n")" -v b="$(calls $((2 * n)))" 'BEGIN {
         printf "%s: %.0f a second of %d parts, %.0f of %d; %.0f ns a node; ratio %.2f\n", call, (m - 1) / a, n, (m - 1) / b, 2 * n, b / (m - 1) / (2 * n * k) * 1e9, b / a
     }'
 done

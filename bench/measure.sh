@@ -1,6 +1,6 @@
 # What the benches of one call of a library share, by their function `asked`, which prints a line of
 # the probe for a size: what calls take of a processor and how many instructions, with reading and
-# telling taken off. Sourced by bench/schema.sh and bench/load.sh, which set `top`; no bench itself.
+# telling taken off. The bench that sources it sets `top`, and `times`, how often the call is made; no bench itself.
 probe=${PROBE:-$("$top/tools/proved.sh" stockd_probe)}
 work=$(mktemp -d)
 trap 'rm -rf "$work"' EXIT

@@ -11,9 +11,7 @@ set -euo pipefail
 top=$(cd "$(dirname "$0")/.." && pwd)
 items=${1:-10000}
 times=${2:-300}
-probe=$("$top/tools/proved.sh" stockd_probe)
-work=$(mktemp -d)
-trap 'rm -rf "$work"' EXIT
+. "$top/bench/measure.sh"
 
 # The first to be removed first, with ties and unset dates, where all is wanted.
 takes() {
@@ -45,46 +43,13 @@ pull_chain() {
     }'
 }
 
-# What the probe takes of a processor for an input, so that other work beside it counts little.
-seconds() {
-    local TIMEFORMAT=%U
-    { time "$probe" <"$1" >/dev/null; } 2>&1
-}
-
-least() {
-    for _ in 1 2 3 4 5; do seconds "$1"; done | sort -n | head -n 1
-}
-
-# What all calls but one take for so many items.
-calls() {
-    "$1" "$2" >"$work/once"
-    sed "s/^/times $times /" "$work/once" >"$work/often"
-    awk -v often="$(least "$work/often")" -v once="$(least "$work/once")" 'BEGIN { print often - once }'
-}
-
-# The instructions that an input takes.
-instructions() {
-    valgrind --tool=callgrind --callgrind-out-file=/dev/null "$probe" <"$1" 2>&1 >/dev/null | awk '/Collected/ { print $NF }'
-}
-
-# The instructions of one call for so many items.
-work_of() {
-    "$1" "$2" >"$work/once"
-    sed "s/^/times 2 /" "$work/once" >"$work/twice"
-    echo $(($(instructions "$work/twice") - $(instructions "$work/once")))
-}
-
-# How many times as many instructions a call takes at twice the items.
-work_ratio() {
-    if ! command -v valgrind >/dev/null; then
-        echo "not counted, without valgrind"
-        return
-    fi
-    awk -v a="$(work_of "$1" "$items")" -v b="$(work_of "$1" $((2 * items)))" 'BEGIN { printf "%.2f", b / a }'
+# The line of the call that is measured.
+asked() {
+    "$call" "$1"
 }
 
 for call in takes move_lines pull_chain; do
-    awk -v call=$call -v n="$items" -v m="$times" -v a="$(calls $call "$items")" -v b="$(calls $call $((2 * items)))" -v counted="$(work_ratio $call)" 'BEGIN {
+    awk -v call=$call -v n="$items" -v m="$times" -v a="$(calls "$items")" -v b="$(calls $((2 * items)))" -v counted="$(work_ratio "$items")" 'BEGIN {
         printf "%s: %.1f million items a second at %d, %.1f million at %d; ratio of the times %.2f, of the instructions %s\n", call, n * (m - 1) / a / 1e6, n, 2 * n * (m - 1) / b / 1e6, 2 * n, b / a, counted
     }'
 done
