@@ -1,0 +1,22 @@
+-- Lemmas on definitions alone, for the proofs of functions.
+pub mod Steps
+pub mod Counts
+pub mod Texts
+pub mod TreesOfReading
+pub mod ReadingOfTrees
+pub mod Lists
+pub mod Rows
+pub mod Registry
+pub mod Aims
+pub mod Told
+pub mod Overs
+pub mod Each
+pub mod User
+pub mod CriterionTests
+pub mod Along
+pub mod Answered
+pub mod AnyOf
+pub mod Below
+pub mod Ids
+pub mod Matching
+pub mod Tested

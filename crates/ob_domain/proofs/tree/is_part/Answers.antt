@@ -1,0 +1,11 @@
+-- The parts between slashes, each compared.
+use Rattle.std.proofs.Common.{rules, tests, lit<}
+use Rattle.std.proofs.lemmas.Iterator.Search.{any_from_yields_List}
+use Rattle.std.proofs.lemmas.Iterator.Splits.{YieldsList-from_str_split}
+use Rattle.std.specs.Str.{bytes_eq}
+use Rattle.ob_domain.proofs.tree.is_part.Goals as goal
+
+pub returns : goal.returns
+returns c = any_from_yields_List (bytes_eq c.args.text.now) _ _ _ c.any.ensures.ran
+    (YieldsList-from_str_split 47 c.args.path.now (lit< tt) c.split.ensures.text c.split.ensures.has_more c.split.ensures.pattern)
+    (λ x b q k. search (rules, tests))
