@@ -176,7 +176,7 @@ def moment(rng, _model):
 def makers():
     """What makes lines of each word, and all lines of some: of expressions, definitions, modules, stock and connections only where the machine has their functions."""
     runs, found = {}, {"row": row, "value": value, "order": order, "day": day, "moment": moment}
-    for part, words in (("probe_expr", "expression, kinds and evaluate"), ("probe_schema", "schema"), ("probe_load", "load"), ("probe_stock", "takes, lines, state, split, chain and push"), ("probe_http", "http and http_cuts")):
+    for part, words in (("probe_expr", "expression, kinds and evaluate"), ("probe_schema", "schema"), ("probe_load", "load"), ("probe_domain", "domain"), ("probe_stock", "takes, lines, state, split, chain and push"), ("probe_http", "http and http_cuts")):
         try:
             module = importlib.import_module(part)
             found.update(module.MAKERS)

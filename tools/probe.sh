@@ -2,7 +2,7 @@
 # Compares the libraries, by the program stockd_probe, with those of an independent machine
 # of the same rules, over random values: tools/probe.sh [SEED [COUNT [WORD]]], where the word
 # is one of the probe's: row (which asks body too), value, order, day, moment, expression,
-# kinds, evaluate, schema, load, takes, lines, state, split, chain, push or http; without it all
+# kinds, evaluate, schema, load, domain, takes, lines, state, split, chain, push or http; without it all
 # are asked. The word http_cuts asks, whatever the seed and the count, the worked request of a login
 # and requests near it, each ended at every place and cut into pieces of every length; the words
 # expression_cases and schema_cases the cases of the files of these names in tools, worked out

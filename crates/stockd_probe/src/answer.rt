@@ -12,6 +12,7 @@
 //! | `evaluate MODEL ID with CELL .. \| TEXT` | its kind, its value in that row or the fault, how many steps it took, and the cells that were read, in their order |
 //! | `schema DEFINITIONS` | the registry that they make, or their first fault, with its entry and its field |
 //! | `load MODULES FILES` | the registry that they mean, or what stands against them first |
+//! | `domain CASE` | the ids of the rows that meet the domain, or the fault with its place |
 //! | `takes ORDER WANT STOCK ..` | `quant:amount` of each take |
 //! | `lines NOW NEXT QUANT .. \| LINE ..` | the quants after the lines, or `short at` a line's number |
 //! | `state RESERVED DEMAND WAITS` | the state of such a move |
@@ -36,16 +37,20 @@
 //! `name=m.a order=b | b integer | c integer compute=b\s+\s1 depends=b || inherit=m.a | d char`;
 //! `definitions` says which keys there are, `told_schema` how a registry is told.
 //!
+//! A CASE is `{"model":MODEL,"user":ID,"rows":[ROW, ..],"domain":DOMAIN}`, where MODEL is
+//! `probe.row` or `probe.place`; `row_facts` says what a row is.
+//!
 //! A connection in memory sends the bytes HEX, at most CUT in a read (`whole`: all). Of the
 //! door's calls the one of number FAILS fails (0: none; 1 lets the connection come). An item
 //! is `post:keep:"BODY"` or `post:close:"BODY"`, `bad:STATUS`, `ended`, `cut`, or `failed`;
 //! each message is answered by `{}`.
 //!
-//! `times N` before `row`, `body`, `value`, `expression`, `kinds`, `evaluate`, `schema`, `takes`,
-//! `lines`, `chain` or `http` makes that call N times and tells the last answer; `evaluate`
+//! `times N` before `row`, `body`, `value`, `expression`, `kinds`, `evaluate`, `schema`, `domain`,
+//! `takes`, `lines`, `chain` or `http` makes that call N times and tells the last answer; `evaluate`
 //! then reads and checks its text once, and `schema` reads its definitions once.
 
 use crate::connections::connection;
+use crate::domains::domain;
 use crate::expressions::{evaluated, expression, kinds};
 use crate::modules::loaded;
 use crate::moves::{parts_of_demand, state};
@@ -82,6 +87,7 @@ pub(crate) fn answer(alloc: Global, schema: &Schema, line: &str) -> Result<Strin
         "evaluate" => evaluated(alloc, times, rest),
         "schema" => built(alloc, times, rest),
         "load" => loaded(alloc, times, rest),
+        "domain" => domain(alloc, schema, times, rest),
         "http" => connection(alloc, times, rest),
         _ => stock_answer(alloc, times, word, rest),
     }

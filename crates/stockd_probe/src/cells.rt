@@ -190,7 +190,7 @@ fn ids_of(alloc: Global, part: &str) -> Result<Option<RefList>, NoMemory> {
 }
 
 /// Whether an id is above all of a list.
-fn is_above(ids: &RefList, id: RecId) -> bool
+pub(crate) fn is_above(ids: &RefList, id: RecId) -> bool
     ensures { result ≡ true → All (λ before. before.0 < id.0) ids.now }
 {
     ids.as_slice().iter().all(|before| before.0 < id.0)

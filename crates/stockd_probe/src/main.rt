@@ -7,7 +7,7 @@
 //! word from another, `rows` and `values` ask ob_codec, `texts` asks ob_dates, `expressions`
 //! asks ob_syntax and ob_expr, over the models of `fields` and the cells of `cells`,
 //! `told_schema` asks ob_schema what the definitions that `definitions` reads make,
-//! `removals` and `quants` ask wh_quant, `moves` asks wh_move, `routes` asks wh_route,
+//! `domains` asks ob_domain, over the rows of `row_facts`, `removals` and `quants` ask wh_quant, `moves` asks wh_move, `routes` asks wh_route,
 //! `connections` asks ob_http. `told` writes values and commands, `items` reads words of
 //! several parts, `askable` says what `move_lines` may be asked. A further library gets its
 //! word in `answer`, and a line in tools/probe.py.
@@ -18,6 +18,7 @@ mod askable;
 mod cells;
 mod connections;
 mod definitions;
+mod domains;
 mod expressions;
 mod fields;
 mod items;
@@ -27,6 +28,7 @@ mod quants;
 mod registry;
 mod removals;
 mod routes;
+mod row_facts;
 mod rows;
 mod texts;
 mod told;
