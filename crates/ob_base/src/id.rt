@@ -1,4 +1,4 @@
-//! Numbers of models and fields, ids of rows, and the cell that the three name.
+//! Numbers of models and fields, ids of rows, and the row and the cell that they name.
 //! Plain data: nothing here checks a range, since the limits belong to the calls. The
 //! order of cells is that in which an answer names the least of several: change it
 //! nowhere but here and in specs/BrokenOrder.
@@ -21,6 +21,13 @@ pub struct FieldNo(pub u16);
 /// The id of a row of its model.
 #[derive(Clone, Copy, Debug, PartialEq, Eq, PartialOrd, Ord, Hash)]
 pub struct RecId(pub u64);
+
+/// Names a row of all models. Keys are ordered by model, then id.
+#[derive(Clone, Copy, Debug, PartialEq, Eq, PartialOrd, Ord, Hash)]
+pub struct RowKey {
+    pub model: ModelNo,
+    pub id: RecId,
+}
 
 /// One field of one row. Cells are ordered by model, then id, then field.
 #[derive(Clone, Copy, Debug, PartialEq, Eq, PartialOrd, Ord, Hash)]

@@ -22,7 +22,7 @@ mod tests;
 mod value;
 mod word;
 
-pub use id::{Cell, FieldNo, ModelNo, RecId, cell_cmp};
+pub use id::{Cell, FieldNo, ModelNo, RecId, RowKey, cell_cmp};
 pub use memory::NoMemory;
 pub use place::{PathStep, Place};
 pub use ref_list::RefList;

@@ -15,7 +15,8 @@ use Rattle.ob_definition.specs.declared.field_type.FieldType.TheVariants as type
 use Rattle.ob_schema.specs.declared.info.FieldInfo.{FieldInfo}
 use Rattle.ob_codec.specs.CommandForms.{AreOrdersJson, HasElements, IsOrderListJson}
 use Rattle.ob_codec.specs.Commands.{orders_of}
-use Rattle.ob_codec.specs.Held.{HasFieldType, HasIdsAndObjects, HasLimits, HasType}
+use Rattle.ob_definition.specs.Values.{HasType}
+use Rattle.ob_codec.specs.Held.{HasFieldType, HasIdsAndObjects, HasLimits}
 use Rattle.ob_codec.specs.Input.{order_of}
 use Rattle.ob_codec.specs.JsonForm.{IsJsonOf}
 use Rattle.ob_codec.specs.Steps.{IsCodecResult}

@@ -1,7 +1,6 @@
 -- What a field may hold: a value's type, the limits of its ids, and both for what is given.
 use Rattle.std.specs.Prelude.{◌≤◌, List, All, length, Option, IfSome, ⊤}
 use Rattle.ob_base.specs.Ids.{IsId}
-use Rattle.ob_base.specs.Rising.{IsRising}
 use Rattle.ob_base.specs.Times.{IsDay, IsMoment}
 use Rattle.ob_base.specs.declared.value.Value.{Value}
 use Rattle.ob_base.specs.declared.value.Value.TheVariants as value
@@ -11,19 +10,12 @@ use Rattle.ob_codec.specs.declared.input.Command.{Command}
 use Rattle.ob_codec.specs.declared.input.Command.TheVariants as command
 use Rattle.ob_codec.specs.declared.input.Input.{Input}
 use Rattle.ob_codec.specs.declared.input.Input.TheVariants as input
-use Rattle.ob_definition.specs.Values.{IsValueOf}
+use Rattle.ob_definition.specs.Values.{HasType, IsValueOf}
 use Rattle.ob_definition.specs.declared.field_type.Choice.{Choice}
 use Rattle.ob_definition.specs.declared.field_type.FieldType.{FieldType}
 use Rattle.ob_definition.specs.declared.field_type.FieldType.TheVariants as type
 use Rattle.ob_schema.specs.declared.info.FieldInfo.{FieldInfo}
 use Rattle.serde_json.specs.View.{view}
-
--- a value of the type, whatever the ids in it are, and however many
-abbrev pub HasType : FieldType → List Choice → Value → Type 0
-HasType type.Many2one choices (value.Ref id) = ⊤
-HasType type.One2many choices (value.Refs ids) = IsRising ids
-HasType type.Many2many choices (value.Refs ids) = IsRising ids
-HasType t choices v = IsValueOf t choices v
 
 -- its ids are of 1 to 4,294,967,295, and a many2many has 65,536 of them at most
 abbrev pub HasLimits : FieldType → Value → Type 0

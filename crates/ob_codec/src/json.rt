@@ -15,7 +15,8 @@ ghost use Rattle.ob_definition.specs.declared.field_type.FieldType.{FieldType};
 ghost use Rattle.ob_schema.specs.declared.info.FieldInfo.{FieldInfo};
 ghost use Rattle.ob_codec.specs.CommandForms.{IsOrderListJson};
 ghost use Rattle.ob_codec.specs.Commands.{orders_of};
-ghost use Rattle.ob_codec.specs.Held.{GivesHeld, HasFieldType, HasLimits, HasType, HaveIdsAndObjects, IsHeldAs};
+ghost use Rattle.ob_definition.specs.Values.{HasType};
+ghost use Rattle.ob_codec.specs.Held.{GivesHeld, HasFieldType, HasLimits, HaveIdsAndObjects, IsHeldAs};
 ghost use Rattle.ob_codec.specs.Input.{Order};
 ghost use Rattle.ob_codec.specs.JsonForm.{IsInput, IsInputFault, IsJsonOf, value_from};
 

@@ -1,5 +1,5 @@
 -- The values that a field may hold, by its type and within its limits.
-use Rattle.std.specs.Prelude.{◌≤◌, ℕ, List, length, map, All, Contains, FitsSigned, ⊤}
+use Rattle.std.specs.Prelude.{◌≤◌, ℕ, List, [], length, map, All, Contains, FitsSigned, ⊤, pos, false}
 use Rattle.std.specs.Int.{w64}
 use Rattle.std.specs.Str.{IsUtf8}
 use Rattle.ob_base.specs.Ids.{IsId}
@@ -57,3 +57,18 @@ IsValueOf type.Many2one choices (value.Ref id) = IsId id
 IsValueOf type.One2many choices (value.Refs ids) = IsTargets ids
 IsValueOf type.Many2many choices (value.Refs ids) = IsTargets ids × (length ids ≤ max_targets)
 IsValueOf _ _ _ = ⊥
+
+-- a value of the type, whatever the ids in it are, and however many
+abbrev pub HasType : FieldType → List Choice → Value → Type 0
+HasType type.Many2one choices (value.Ref id) = ⊤
+HasType type.One2many choices (value.Refs ids) = IsRising ids
+HasType type.Many2many choices (value.Refs ids) = IsRising ids
+HasType t choices v = IsValueOf t choices v
+
+-- what a field of a type has without a value of its own: 0, false, unset or the empty list
+abbrev pub initial_value : FieldType → Value
+initial_value type.Boolean = value.Bool false
+initial_value type.Integer = value.Int (pos 0)
+initial_value type.One2many = value.Refs []
+initial_value type.Many2many = value.Refs []
+initial_value _ = value.Nil

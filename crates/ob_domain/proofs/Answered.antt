@@ -115,26 +115,26 @@ module _ (models : List ModelInfo) (model : ModelNo) where
   signed_over Positive tree over = over
   signed_over Negative tree over = over
 
-pub term_over : (told now : Told) (model : ModelNo) (terms : List Term) (n : ℕ) (d : Term) → now ≡ told → n < length terms → IsOver told.registry model (tree_of terms)
-    → IsItemOver now.registry model (item_of (get_or terms n d))
-term_over told now model terms n d kept l over =
-    subst (λ (t : Told). IsItemOver t.registry model (item_of (get_or terms n d))) (sym kept) (item_over told.registry model terms n d l (AreOver-all_of told.registry model (spelled (map item_of terms)) over))
+pub term_over : (models now : List ModelInfo) (model : ModelNo) (terms : List Term) (n : ℕ) (d : Term) → now ≡ models → n < length terms → IsOver models model (tree_of terms)
+    → IsItemOver now model (item_of (get_or terms n d))
+term_over models now model terms n d kept l over =
+    subst (λ (ms : List ModelInfo). IsItemOver ms model (item_of (get_or terms n d))) (sym kept) (item_over models model terms n d l (AreOver-all_of models model (spelled (map item_of terms)) over))
 
 -- ---- the answer of one term more
 
 -- the term from the right is the next
-pub answers_step : (told now : Told) (user : RecId) (row : Row) (terms : List Term) (place : ℕ) (term : Term) (old new : List Bool) (b : Bool)
-    → now ≡ told → 0 < place → place ≤ length terms → term ≡ get_or terms (place - 1) term
-    → reverse old ≡ map (held told user row) (spelled (map item_of (drop place terms))) → b ∷ reverse new ≡ answers_from now user row (item_of term) (reverse old)
+pub answers_step : (told : Told) (user : RecId) (row : Row) (terms : List Term) (place : ℕ) (term : Term) (old new : List Bool) (b : Bool)
+    → 0 < place → place ≤ length terms → term ≡ get_or terms (place - 1) term
+    → reverse old ≡ map (held told user row) (spelled (map item_of (drop place terms))) → b ∷ reverse new ≡ answers_from told user row (item_of term) (reverse old)
     → reverse (new ++ b ∷ []) ≡ map (held told user row) (spelled (map item_of (drop (place - 1) terms)))
-answers_step told now user row terms place term old new b kept some l at was is =
+answers_step told user row terms place term old new b some l at was is =
     answers_more told user row terms place (place - 1) term old new b (omega arith) (omega arith) was
-    (is ∙ ap (λ (t : Told). answers_from t user row (item_of term) (reverse old)) kept ∙ ap (λ (x : Term). answers_from told user row (item_of x) (reverse old)) at)
+    (is ∙ ap (λ (x : Term). answers_from told user row (item_of x) (reverse old)) at)
 
-pub item_known : (told now : Told) (model : ModelNo) (terms : List Term) (place : ℕ) (term : Term) → now ≡ told → 0 < place → place ≤ length terms
-    → term ≡ get_or terms (place - 1) term → IsOver told.registry model (tree_of terms) → IsItemOver now.registry model (item_of term)
-item_known told now model terms place term kept some l at over =
-    subst (λ (x : Term). IsItemOver now.registry model (item_of x)) (sym at) (term_over told now model terms (place - 1) term kept (omega arith) over)
+pub item_known : (models now : List ModelInfo) (model : ModelNo) (terms : List Term) (place : ℕ) (term : Term) → now ≡ models → 0 < place → place ≤ length terms
+    → term ≡ get_or terms (place - 1) term → IsOver models model (tree_of terms) → IsItemOver now model (item_of term)
+item_known models now model terms place term kept some l at over =
+    subst (λ (x : Term). IsItemOver now model (item_of x)) (sym at) (term_over models now model terms (place - 1) term kept (omega arith) over)
 
 -- ---- a term that asks rows behind links
 
@@ -156,13 +156,13 @@ module _ (term : Term) (sense : Sense) (links : Vec Link Global) (inner : Vec Te
 
 -- ---- rows behind links, one after another
 
-module _ (told now : Told) (user : RecId) (tree : Tree) (rows : List KeptRow) (i : ℕ) (d : KeptRow) (b : Bool) (kept : now ≡ told) (l : i < length rows) where
+module _ (told : Told) (user : RecId) (tree : Tree) (rows : List KeptRow) (i : ℕ) (d : KeptRow) (b : Bool) (l : i < length rows) where
   abbrev pub meets_at : KeptRow → Bool
   meets_at r = holds told user tree (row_at r.model r.id)
 
-  module _ (is : b ≡ holds now user tree (row_at (get_or rows i d).model (get_or rows i d).id)) (none : list_any meets_at rows ≡ list_any meets_at (drop i rows)) where
+  module _ (is : b ≡ holds told user tree (row_at (get_or rows i d).model (get_or rows i d).id)) (none : list_any meets_at rows ≡ list_any meets_at (drop i rows)) where
     here : meets_at (get_or rows i d) ≡ b
-    here = ap (λ (t : Told). holds t user tree (row_at (get_or rows i d).model (get_or rows i d).id)) (sym kept) ∙ sym is
+    here = sym is
 
     pub one_met : b ≡ true → list_any meets_at rows ≡ true
     one_met yes' = none ∙ any_found meets_at rows i d l (here ∙ yes')
@@ -170,14 +170,14 @@ module _ (told now : Told) (user : RecId) (tree : Tree) (rows : List KeptRow) (i
     pub one_passed : b ≡ false → list_any meets_at rows ≡ list_any meets_at (drop (i + 1) rows)
     one_passed no' = none ∙ any_passed meets_at rows i d l (here ∙ no')
 
-pub row_over : (told now : Told) (model : ModelNo) (tree : Tree) (rows shown : List KeptRow) (i : ℕ) (d : KeptRow) → shown ≡ rows → now ≡ told → i < length shown
-    → All (λ (r : KeptRow). r.model ≡ model) rows → IsOver told.registry model tree → IsOver now.registry (get_or shown i d).model tree
-row_over told now model tree rows shown i d same kept l ends over =
+pub row_over : (models now : List ModelInfo) (model : ModelNo) (tree : Tree) (rows shown : List KeptRow) (i : ℕ) (d : KeptRow) → shown ≡ rows → now ≡ models → i < length shown
+    → All (λ (r : KeptRow). r.model ≡ model) rows → IsOver models model tree → IsOver now (get_or shown i d).model tree
+row_over models now model tree rows shown i d same kept l ends over =
     let all : All (λ (r : KeptRow). r.model ≡ model) shown = subst (λ (rs : List KeptRow). All (λ (r : KeptRow). r.model ≡ model) rs) (sym same) ends in
-    subst (λ (t : Told). IsOver t.registry (get_or shown i d).model tree) (sym kept) (subst (λ (m : ModelNo). IsOver told.registry m tree) (sym (all i d l)) over)
+    subst (λ (ms : List ModelInfo). IsOver ms (get_or shown i d).model tree) (sym kept) (subst (λ (m : ModelNo). IsOver models m tree) (sym (all i d l)) over)
 
-pub row_known : (told now : Told) (rows shown : List KeptRow) (i : ℕ) (d : KeptRow) → shown ≡ rows → now ≡ told → i < length shown
-    → All (λ (r : KeptRow). told.knows r.model r.id ≡ true) rows → now.knows (get_or shown i d).model (get_or shown i d).id ≡ true
-row_known told now rows shown i d same kept l known =
+pub row_known : (told : Told) (rows shown : List KeptRow) (i : ℕ) (d : KeptRow) → shown ≡ rows → i < length shown
+    → All (λ (r : KeptRow). told.knows r.model r.id ≡ true) rows → told.knows (get_or shown i d).model (get_or shown i d).id ≡ true
+row_known told rows shown i d same l known =
     let all : All (λ (r : KeptRow). told.knows r.model r.id ≡ true) shown = subst (λ (rs : List KeptRow). All (λ (r : KeptRow). told.knows r.model r.id ≡ true) rs) (sym same) known in
-    ap (λ (t : Told). t.knows (get_or shown i d).model (get_or shown i d).id) kept ∙ all i d l
+    all i d l

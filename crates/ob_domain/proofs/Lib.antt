@@ -16,6 +16,7 @@ pub mod CriterionTests
 pub mod Along
 pub mod Answered
 pub mod AnyOf
+pub mod Asking
 pub mod Below
 pub mod Ids
 pub mod Matching

@@ -1,5 +1,5 @@
 -- What a domain means on a row, over facts.
-use Rattle.std.specs.Prelude.{◌≡◌, ◌&&◌, ◌||◌, List, [], ◌∷◌, Bool, true, not, drop, Result, Ok, Err, ⊤}
+use Rattle.std.specs.Prelude.{◌&&◌, ◌||◌, List, [], ◌∷◌, Bool, true, not, drop, ⊤}
 use Rattle.std.specs.List.{list_any}
 use Rattle.ob_base.specs.declared.id.RecId.{RecId}
 use Rattle.ob_base.specs.declared.value.Value.{Value}
@@ -66,8 +66,3 @@ answers_from told user row (leaf tree) answers = holds told user tree row ∷ an
 abbrev pub IsHoldFault : {F : Type 0} → (F → Type 0) → HoldFault F → Type 0
 IsHoldFault has_failed (fault.Fact why) = has_failed why
 IsHoldFault has_failed _ = ⊤
-
--- the code's answer, seen by this view, is what is meant, or there is such a fault
-abbrev pub IsHeld : {F A B : Type 0} → (F → Type 0) → (A → B) → Result A (HoldFault F) → B → Type 0
-IsHeld has_failed seen (Ok x) meant = seen x ≡ meant
-IsHeld has_failed seen (Err why) meant = IsHoldFault has_failed why

@@ -8,8 +8,9 @@ ghost use Rattle.std.specs.List.{list_all, list_any};
 ghost use Rattle.ob_base.specs.declared.id.RecId.{RecId};
 ghost use Rattle.ob_expr.specs.Meaning.{cell_in, row_at};
 ghost use Rattle.ob_expr.specs.declared.row.Row.{Row as SpecRow};
+ghost use Rattle.ob_schema.specs.Facts.{Asked, FailedBehind, OfAllTold};
 ghost use Rattle.ob_schema.specs.Models.{HasField, HasModel};
-ghost use Rattle.ob_domain.specs.Holding.{IsHeld, IsHoldFault, answers_from, holds, joined_answers, passes, some_reached};
+ghost use Rattle.ob_domain.specs.Holding.{IsHoldFault, answers_from, holds, joined_answers, passes, some_reached};
 ghost use Rattle.ob_domain.specs.Over.{AreLinks, IsItemOver, IsOver, IsTestOver, end_of};
 ghost use Rattle.ob_domain.specs.Passing.{targets_of};
 ghost use Rattle.ob_domain.specs.Trees.{item_of, tree_of, tree_of_domain};
@@ -37,12 +38,15 @@ pub fn holds<F: Facts>(
     id: RecId,
     facts: &mut F,
 ) -> Result<bool, HoldFault<F::Fault>>
-    requires over { IsOver (F.told facts.old).registry model (tree_of_domain domain.now) }
-    requires known { (F.told facts.old).knows model id ≡ true }
+    requires over { IsOver (F.registry facts.old) model (tree_of_domain domain.now) }
+    requires known { OfAllTold (F.tells facts.old) (λ told. told.knows model id ≡ true) }
     ensures holds { IfOk result
-        (λ b. b ≡ holds (F.told facts.old) user (tree_of_domain domain.now) (row_at model id)) }
-    ensures fault { IfErr result (IsHoldFault (F.has_failed facts.new)) }
-    ensures kept { F.told facts.new ≡ F.told facts.old }
+        (λ b. OfAllTold (F.tells facts.old) (λ told. b ≡ holds told user (tree_of_domain domain.now) (row_at model id))) }
+    ensures fault { IfErr result (IsHoldFault (FailedBehind F.asks F.has_failed facts.old facts.new)) }
+    ensures asked { Asked F.asks facts.old facts.new }
+    ensures same { F.registry facts.new ≡ F.registry facts.old }
+    ensures kept { OfAllTold (F.tells facts.old) (F.tells facts.new) }
+    ensures only { OfAllTold (F.tells facts.new) (F.tells facts.old) }
 {
     let row = Row { model, id };
     meets(alloc, domain.terms(), user, row, facts)
@@ -57,11 +61,15 @@ fn meets<F: Facts>(
     row: Row,
     facts: &mut F,
 ) -> Result<bool, HoldFault<F::Fault>>
-    requires over { IsOver (F.told facts.old).registry row.model (tree_of terms.now) }
-    requires known { (F.told facts.old).knows row.model row.id ≡ true }
-    ensures told { IsHeld (F.has_failed facts.new) (λ b. b) result
-        (holds (F.told facts.old) user (tree_of terms.now) (row_at row.model row.id)) }
-    ensures kept { F.told facts.new ≡ F.told facts.old }
+    requires over { IsOver (F.registry facts.old) row.model (tree_of terms.now) }
+    requires known { OfAllTold (F.tells facts.old) (λ told. told.knows row.model row.id ≡ true) }
+    ensures told { IfOk result
+        (λ b. OfAllTold (F.tells facts.old) (λ told. b ≡ holds told user (tree_of terms.now) (row_at row.model row.id))) }
+    ensures fault { IfErr result (IsHoldFault (FailedBehind F.asks F.has_failed facts.old facts.new)) }
+    ensures asked { Asked F.asks facts.old facts.new }
+    ensures same { F.registry facts.new ≡ F.registry facts.old }
+    ensures kept { OfAllTold (F.tells facts.old) (F.tells facts.new) }
+    ensures only { OfAllTold (F.tells facts.new) (F.tells facts.old) }
 {
     let mut answers = Vec::new(alloc);
     for place in (0..terms.len()).rev() {
@@ -89,11 +97,15 @@ fn answer_of<F: Facts>(
     row: Row,
     facts: &mut F,
 ) -> Result<bool, HoldFault<F::Fault>>
-    requires over { IsItemOver (F.told facts.old).registry row.model (item_of term.now) }
-    requires known { (F.told facts.old).knows row.model row.id ≡ true }
-    ensures told { IsHeld (F.has_failed facts.new) (λ b. b ∷ reverse answers.new.items) result
-        (answers_from (F.told facts.old) user (row_at row.model row.id) (item_of term.now) (reverse answers.old.items)) }
-    ensures kept { F.told facts.new ≡ F.told facts.old }
+    requires over { IsItemOver (F.registry facts.old) row.model (item_of term.now) }
+    requires known { OfAllTold (F.tells facts.old) (λ told. told.knows row.model row.id ≡ true) }
+    ensures told { IfOk result (λ b. OfAllTold (F.tells facts.old) (λ told. b ∷ reverse answers.new.items
+        ≡ answers_from told user (row_at row.model row.id) (item_of term.now) (reverse answers.old.items))) }
+    ensures fault { IfErr result (IsHoldFault (FailedBehind F.asks F.has_failed facts.old facts.new)) }
+    ensures asked { Asked F.asks facts.old facts.new }
+    ensures same { F.registry facts.new ≡ F.registry facts.old }
+    ensures kept { OfAllTold (F.tells facts.old) (F.tells facts.new) }
+    ensures only { OfAllTold (F.tells facts.new) (F.tells facts.old) }
 {
     match term {
         Term::Logical(logical) => Ok(joined(*logical, answers)),
@@ -130,12 +142,16 @@ fn any_meets<F: Facts>(
     row: Row,
     facts: &mut F,
 ) -> Result<bool, HoldFault<F::Fault>>
-    requires links { AreLinks (F.told facts.old).registry row.model links.now }
-    requires over { IsOver (F.told facts.old).registry (end_of row.model links.now) (tree_of terms.now) }
-    requires known { (F.told facts.old).knows row.model row.id ≡ true }
-    ensures told { IsHeld (F.has_failed facts.new) (λ b. b) result
-        (some_reached (F.told facts.old) (holds (F.told facts.old) user (tree_of terms.now)) links.now (row_at row.model row.id)) }
-    ensures kept { F.told facts.new ≡ F.told facts.old }
+    requires links { AreLinks (F.registry facts.old) row.model links.now }
+    requires over { IsOver (F.registry facts.old) (end_of row.model links.now) (tree_of terms.now) }
+    requires known { OfAllTold (F.tells facts.old) (λ told. told.knows row.model row.id ≡ true) }
+    ensures told { IfOk result (λ b. OfAllTold (F.tells facts.old)
+        (λ told. b ≡ some_reached told (holds told user (tree_of terms.now)) links.now (row_at row.model row.id))) }
+    ensures fault { IfErr result (IsHoldFault (FailedBehind F.asks F.has_failed facts.old facts.new)) }
+    ensures asked { Asked F.asks facts.old facts.new }
+    ensures same { F.registry facts.new ≡ F.registry facts.old }
+    ensures kept { OfAllTold (F.tells facts.old) (F.tells facts.new) }
+    ensures only { OfAllTold (F.tells facts.new) (F.tells facts.old) }
 {
     let rows = rows_along(alloc, links, row, facts)?;
     for reached in &rows {
@@ -153,14 +169,17 @@ fn rows_along<F: Facts>(
     row: Row,
     facts: &mut F,
 ) -> Result<Vec<Row>, HoldFault<F::Fault>>
-    requires links { AreLinks (F.told facts.old).registry row.model links.now }
-    requires known { (F.told facts.old).knows row.model row.id ≡ true }
-    ensures told { IfOk result (λ found. (meets : SpecRow → Bool) → list_any (λ r. meets (row_at r.model r.id)) found.items
-        ≡ some_reached (F.told facts.old) meets links.now (row_at row.model row.id)) }
-    ensures fault { IfErr result (IsHoldFault (F.has_failed facts.new)) }
-    ensures known { IfOk result (λ found. All (λ r. (F.told facts.old).knows r.model r.id ≡ true) found.items) }
+    requires links { AreLinks (F.registry facts.old) row.model links.now }
+    requires known { OfAllTold (F.tells facts.old) (λ told. told.knows row.model row.id ≡ true) }
+    ensures told { IfOk result (λ found. OfAllTold (F.tells facts.old) (λ told. (meets : SpecRow → Bool)
+        → list_any (λ r. meets (row_at r.model r.id)) found.items ≡ some_reached told meets links.now (row_at row.model row.id))) }
+    ensures fault { IfErr result (IsHoldFault (FailedBehind F.asks F.has_failed facts.old facts.new)) }
+    ensures asked { Asked F.asks facts.old facts.new }
+    ensures known { IfOk result (λ found. OfAllTold (F.tells facts.old) (λ told. All (λ r. told.knows r.model r.id ≡ true) found.items)) }
     ensures end { IfOk result (λ found. All (λ r. r.model ≡ end_of row.model links.now) found.items) }
-    ensures kept { F.told facts.new ≡ F.told facts.old }
+    ensures same { F.registry facts.new ≡ F.registry facts.old }
+    ensures kept { OfAllTold (F.tells facts.old) (F.tells facts.new) }
+    ensures only { OfAllTold (F.tells facts.new) (F.tells facts.old) }
 {
     let mut rows = Vec::new(alloc);
     rows.push(row)?;
@@ -177,15 +196,19 @@ fn rows_behind<F: Facts>(
     rows: &[Row],
     facts: &mut F,
 ) -> Result<Vec<Row>, HoldFault<F::Fault>>
-    requires field { All (λ r. HasField (F.told facts.old).registry r.model link.field) rows.now }
-    requires target { HasModel (F.told facts.old).registry link.target }
-    requires known { All (λ r. (F.told facts.old).knows r.model r.id ≡ true) rows.now }
-    ensures told { IfOk result (λ found. (meets : SpecRow → Bool) → list_any (λ r. meets (row_at r.model r.id)) found.items
-        ≡ list_any (λ r. some_reached (F.told facts.old) meets (link ∷ []) (row_at r.model r.id)) rows.now) }
-    ensures fault { IfErr result (IsHoldFault (F.has_failed facts.new)) }
-    ensures known { IfOk result (λ found. All (λ r. (F.told facts.old).knows r.model r.id ≡ true) found.items) }
+    requires field { All (λ r. HasField (F.registry facts.old) r.model link.field) rows.now }
+    requires target { HasModel (F.registry facts.old) link.target }
+    requires known { OfAllTold (F.tells facts.old) (λ told. All (λ r. told.knows r.model r.id ≡ true) rows.now) }
+    ensures told { IfOk result (λ found. OfAllTold (F.tells facts.old) (λ told. (meets : SpecRow → Bool)
+        → list_any (λ r. meets (row_at r.model r.id)) found.items
+        ≡ list_any (λ r. some_reached told meets (link ∷ []) (row_at r.model r.id)) rows.now)) }
+    ensures fault { IfErr result (IsHoldFault (FailedBehind F.asks F.has_failed facts.old facts.new)) }
+    ensures asked { Asked F.asks facts.old facts.new }
+    ensures known { IfOk result (λ found. OfAllTold (F.tells facts.old) (λ told. All (λ r. told.knows r.model r.id ≡ true) found.items)) }
     ensures end { IfOk result (λ found. All (λ r. r.model ≡ link.target) found.items) }
-    ensures kept { F.told facts.new ≡ F.told facts.old }
+    ensures same { F.registry facts.new ≡ F.registry facts.old }
+    ensures kept { OfAllTold (F.tells facts.old) (F.tells facts.new) }
+    ensures only { OfAllTold (F.tells facts.new) (F.tells facts.old) }
 {
     let mut named = BTreeSet::new(alloc);
     for row in rows {
@@ -210,17 +233,19 @@ fn add_targets<F: Facts>(
     named: &mut BTreeSet<RecId>,
     facts: &mut F,
 ) -> Result<(), HoldFault<F::Fault>>
-    requires field { HasField (F.told facts.old).registry row.model link.field }
-    requires target { HasModel (F.told facts.old).registry link.target }
-    requires known { (F.told facts.old).knows row.model row.id ≡ true }
-    ensures told { IfOk result (λ _. (test : RecId → Bool) → list_any test named.new.keys
+    requires field { HasField (F.registry facts.old) row.model link.field }
+    requires target { HasModel (F.registry facts.old) link.target }
+    requires known { OfAllTold (F.tells facts.old) (λ told. told.knows row.model row.id ≡ true) }
+    ensures told { IfOk result (λ _. OfAllTold (F.tells facts.old) (λ told. (test : RecId → Bool) → list_any test named.new.keys
         ≡ (list_any test named.old.keys
-        || list_any (λ id. (F.told facts.old).knows link.target id && test id)
-        (targets_of ((F.told facts.old).held (cell_in (row_at row.model row.id) link.field))))) }
-    ensures fault { IfErr result (IsHoldFault (F.has_failed facts.new)) }
-    ensures known { IfOk result (λ _. All (λ id. (F.told facts.old).knows link.target id ≡ true) named.old.keys
-        → All (λ id. (F.told facts.old).knows link.target id ≡ true) named.new.keys) }
-    ensures kept { F.told facts.new ≡ F.told facts.old }
+        || list_any (λ id. told.knows link.target id && test id) (targets_of (told.held (cell_in (row_at row.model row.id) link.field)))))) }
+    ensures fault { IfErr result (IsHoldFault (FailedBehind F.asks F.has_failed facts.old facts.new)) }
+    ensures asked { Asked F.asks facts.old facts.new }
+    ensures known { IfOk result (λ _. OfAllTold (F.tells facts.old) (λ told. All (λ id. told.knows link.target id ≡ true) named.old.keys
+        → All (λ id. told.knows link.target id ≡ true) named.new.keys)) }
+    ensures same { F.registry facts.new ≡ F.registry facts.old }
+    ensures kept { OfAllTold (F.tells facts.old) (F.tells facts.new) }
+    ensures only { OfAllTold (F.tells facts.new) (F.tells facts.old) }
 {
     let targets = targets_in(alloc, row, link.field, facts)?;
     for id in &targets {
@@ -239,13 +264,16 @@ fn add_known<F: Facts>(
     named: &mut BTreeSet<RecId>,
     facts: &mut F,
 ) -> Result<(), HoldFault<F::Fault>>
-    requires { HasModel (F.told facts.old).registry row.model }
-    ensures told { IfOk result (λ _. (test : RecId → Bool) → list_any test named.new.keys
-        ≡ (list_any test named.old.keys || ((F.told facts.old).knows row.model row.id && test row.id))) }
-    ensures fault { IfErr result (IsHoldFault (F.has_failed facts.new)) }
-    ensures known { IfOk result (λ _. All (λ id. (F.told facts.old).knows row.model id ≡ true) named.old.keys
-        → All (λ id. (F.told facts.old).knows row.model id ≡ true) named.new.keys) }
-    ensures kept { F.told facts.new ≡ F.told facts.old }
+    requires { HasModel (F.registry facts.old) row.model }
+    ensures told { IfOk result (λ _. OfAllTold (F.tells facts.old) (λ told. (test : RecId → Bool) → list_any test named.new.keys
+        ≡ (list_any test named.old.keys || (told.knows row.model row.id && test row.id)))) }
+    ensures fault { IfErr result (IsHoldFault (FailedBehind F.asks F.has_failed facts.old facts.new)) }
+    ensures asked { Asked F.asks facts.old facts.new }
+    ensures known { IfOk result (λ _. OfAllTold (F.tells facts.old) (λ told. All (λ id. told.knows row.model id ≡ true) named.old.keys
+        → All (λ id. told.knows row.model id ≡ true) named.new.keys)) }
+    ensures same { F.registry facts.new ≡ F.registry facts.old }
+    ensures kept { OfAllTold (F.tells facts.old) (F.tells facts.new) }
+    ensures only { OfAllTold (F.tells facts.new) (F.tells facts.old) }
 {
     if !is_known(row, facts)? {
         return Ok(());
@@ -261,11 +289,15 @@ fn targets_in<F: Facts>(
     field: FieldNo,
     facts: &mut F,
 ) -> Result<Vec<RecId>, HoldFault<F::Fault>>
-    requires field { HasField (F.told facts.old).registry row.model field }
-    requires known { (F.told facts.old).knows row.model row.id ≡ true }
-    ensures told { IsHeld (F.has_failed facts.new) (λ ids. ids.items) result
-        (targets_of ((F.told facts.old).held (cell_in (row_at row.model row.id) field))) }
-    ensures kept { F.told facts.new ≡ F.told facts.old }
+    requires field { HasField (F.registry facts.old) row.model field }
+    requires known { OfAllTold (F.tells facts.old) (λ told. told.knows row.model row.id ≡ true) }
+    ensures told { IfOk result (λ ids. OfAllTold (F.tells facts.old)
+        (λ told. ids.items ≡ targets_of (told.held (cell_in (row_at row.model row.id) field)))) }
+    ensures fault { IfErr result (IsHoldFault (FailedBehind F.asks F.has_failed facts.old facts.new)) }
+    ensures asked { Asked F.asks facts.old facts.new }
+    ensures same { F.registry facts.new ≡ F.registry facts.old }
+    ensures kept { OfAllTold (F.tells facts.old) (F.tells facts.new) }
+    ensures only { OfAllTold (F.tells facts.new) (F.tells facts.old) }
 {
     let value = value_in(row, field, facts)?;
     Ok(targets_of(alloc, &value)?)
@@ -280,12 +312,16 @@ fn passes<F: Facts>(
     row: Row,
     facts: &mut F,
 ) -> Result<bool, HoldFault<F::Fault>>
-    requires field { HasField (F.told facts.old).registry row.model field }
-    requires over { IsTestOver (F.told facts.old).registry test.now }
-    requires known { (F.told facts.old).knows row.model row.id ≡ true }
-    ensures told { IsHeld (F.has_failed facts.new) (λ b. b) result
-        (passes (F.told facts.old) user test.now ((F.told facts.old).held (cell_in (row_at row.model row.id) field))) }
-    ensures kept { F.told facts.new ≡ F.told facts.old }
+    requires field { HasField (F.registry facts.old) row.model field }
+    requires over { IsTestOver (F.registry facts.old) test.now }
+    requires known { OfAllTold (F.tells facts.old) (λ told. told.knows row.model row.id ≡ true) }
+    ensures told { IfOk result (λ b. OfAllTold (F.tells facts.old)
+        (λ told. b ≡ passes told user test.now (told.held (cell_in (row_at row.model row.id) field)))) }
+    ensures fault { IfErr result (IsHoldFault (FailedBehind F.asks F.has_failed facts.old facts.new)) }
+    ensures asked { Asked F.asks facts.old facts.new }
+    ensures same { F.registry facts.new ≡ F.registry facts.old }
+    ensures kept { OfAllTold (F.tells facts.old) (F.tells facts.new) }
+    ensures only { OfAllTold (F.tells facts.new) (F.tells facts.old) }
 {
     match test {
         Test::Always => Ok(true),

@@ -1,10 +1,11 @@
 //! Where rows stand in a tree. A row's path has the ids of the rows above it, from the root
 //! on, and its own, each with a slash behind it.
 
-ghost use Rattle.std.specs.Prelude.{◌≡◌, ◌==◌, ◌&&◌, IfOk, decimal, map, string_bytes};
+ghost use Rattle.std.specs.Prelude.{◌≡◌, ◌==◌, ◌&&◌, IfErr, IfOk, decimal, map, string_bytes};
 ghost use Rattle.std.specs.List.{list_any};
 ghost use Rattle.ob_expr.specs.Meaning.{cell_in, row_at};
-ghost use Rattle.ob_domain.specs.Holding.{IsHeld, some_below};
+ghost use Rattle.ob_schema.specs.Facts.{Asked, FailedBehind, OfAllTold};
+ghost use Rattle.ob_domain.specs.Holding.{IsHoldFault, some_below};
 ghost use Rattle.ob_domain.specs.Over.{IsTreeOver};
 ghost use Rattle.ob_domain.specs.Passing.{is_part, part_of_path, rows_named, targets_of};
 
@@ -59,9 +60,13 @@ pub(crate) fn some_below<F: Facts>(
     lowers: &[RecId],
     facts: &mut F,
 ) -> Result<bool, HoldFault<F::Fault>>
-    requires { IsTreeOver (F.told facts.old).registry paths }
-    ensures told { IsHeld (F.has_failed facts.new) (λ b. b) result (some_below (F.told facts.old) paths uppers.now lowers.now) }
-    ensures kept { F.told facts.new ≡ F.told facts.old }
+    requires { IsTreeOver (F.registry facts.old) paths }
+    ensures told { IfOk result (λ b. OfAllTold (F.tells facts.old) (λ told. b ≡ some_below told paths uppers.now lowers.now)) }
+    ensures fault { IfErr result (IsHoldFault (FailedBehind F.asks F.has_failed facts.old facts.new)) }
+    ensures asked { Asked F.asks facts.old facts.new }
+    ensures same { F.registry facts.new ≡ F.registry facts.old }
+    ensures kept { OfAllTold (F.tells facts.old) (F.tells facts.new) }
+    ensures only { OfAllTold (F.tells facts.new) (F.tells facts.old) }
 {
     let texts = texts_of(alloc, uppers)?;
     for lower in lowers {
@@ -79,11 +84,14 @@ fn stands_below<F: Facts>(
     id: RecId,
     facts: &mut F,
 ) -> Result<bool, HoldFault<F::Fault>>
-    requires { IsTreeOver (F.told facts.old).registry paths }
-    ensures told { IsHeld (F.has_failed facts.new) (λ b. b) result
-        ((F.told facts.old).knows paths.model id
-        && list_any (λ text. part_of_path (string_bytes text) ((F.told facts.old).held (cell_in (row_at paths.model id) paths.field))) texts.now) }
-    ensures kept { F.told facts.new ≡ F.told facts.old }
+    requires { IsTreeOver (F.registry facts.old) paths }
+    ensures told { IfOk result (λ b. OfAllTold (F.tells facts.old) (λ told. b ≡ (told.knows paths.model id
+        && list_any (λ text. part_of_path (string_bytes text) (told.held (cell_in (row_at paths.model id) paths.field))) texts.now))) }
+    ensures fault { IfErr result (IsHoldFault (FailedBehind F.asks F.has_failed facts.old facts.new)) }
+    ensures asked { Asked F.asks facts.old facts.new }
+    ensures same { F.registry facts.new ≡ F.registry facts.old }
+    ensures kept { OfAllTold (F.tells facts.old) (F.tells facts.new) }
+    ensures only { OfAllTold (F.tells facts.new) (F.tells facts.old) }
 {
     let row = Row {
         model: paths.model,

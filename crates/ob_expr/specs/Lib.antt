@@ -8,6 +8,7 @@ pub mod Checking
 pub mod Computing
 pub mod Meaning
 pub mod Reads
+pub mod ValueKinds
 pub mod Computed
 pub mod Outcome
 pub mod Told

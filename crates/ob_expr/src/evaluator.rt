@@ -8,6 +8,7 @@ ghost use Rattle.ob_base.specs.Tally.{ticked};
 ghost use Rattle.ob_base.specs.declared.id.Cell.{Cell};
 ghost use Rattle.ob_base.specs.declared.value.Value.{Value};
 ghost use Rattle.ob_expr.specs.TypedTree.{IsWellKinded, TypedTree, kind_of, typed_tree_of};
+ghost use Rattle.ob_expr.specs.ValueKinds.{GivesItsKind};
 ghost use Rattle.ob_expr.specs.Chain.{each};
 ghost use Rattle.ob_expr.specs.Kinds.{HasKind};
 ghost use Rattle.ob_expr.specs.Meaning.{ids_of, meaning, path_value, row_at, row_of};
@@ -125,6 +126,12 @@ pub fn reads_along_paths()
 /// moment and a reference are always a cell's.
 pub fn values_from_cells()
     ensures { (tree : TypedTree) → GivesCellsValues tree }
+{}
+
+/// What a well kinded expression means is of its kind, where the fields along its paths hold
+/// values of theirs.
+pub fn values_of_kinds()
+    ensures { (tree : TypedTree) → GivesItsKind tree }
 {}
 
 /// The value of an expression in a row.

@@ -21,7 +21,7 @@ mod row;
 mod typed;
 
 pub use checker::{TypeFault, check};
-pub use evaluator::{Fresh, Reads, eval, reads_along_paths, values_from_cells};
+pub use evaluator::{Fresh, Reads, eval, reads_along_paths, values_from_cells, values_of_kinds};
 pub use fault::EvalFault;
 pub use kind::{Found, Kind, Scope};
 pub use ob_syntax::{Expr, ExprFault, one_tree, parse};

@@ -13,7 +13,8 @@ use Rattle.ob_base.specs.declared.id.FieldNo.{FieldNo}
 use Rattle.ob_base.specs.declared.id.RecId.{RecId}
 use Rattle.ob_base.specs.Rising.{IsRising}
 use Rattle.ob_io.specs.declared.store.KeptRow.{KeptRow}
-use Rattle.ob_io.specs.Store.{Store, row_key_cmp, rows_after, holders_after, has_link, IsAnswerOf, IsPage}
+use Rattle.ob_base.specs.Ids.{row_key_cmp}
+use Rattle.ob_io.specs.Store.{Store, rows_after, holders_after, has_link, IsAnswerOf, IsPage}
 use Rattle.ob_io.specs.Kept.{IsStoreFit}
 use Rattle.ob_io.proofs.SortedEntries.{keys-from_is_sorted}
 use Rattle.ob_io.proofs.Held.{ids_of}

@@ -16,10 +16,11 @@ use Rattle.std.specs.BTreeMap.Range.{range_contains, entries_between}
 use Rattle.std.specs.FinMap as finite
 use Rattle.ob_base.specs.declared.id.ModelNo.{ModelNo}
 use Rattle.ob_base.specs.declared.id.RecId.{RecId}
-use Rattle.ob_io.specs.declared.store.RowKey.{RowKey}
+use Rattle.ob_base.specs.declared.id.RowKey.{RowKey}
 use Rattle.ob_io.specs.declared.store.KeptRow.{KeptRow}
 use Rattle.ob_io.specs.declared.slots.Slots.{Slots}
-use Rattle.ob_io.specs.Store.{Store, row_key_cmp, rows_after, Fits63, IsAnswerOf}
+use Rattle.ob_base.specs.Ids.{row_key_cmp}
+use Rattle.ob_io.specs.Store.{Store, rows_after, Fits63, IsAnswerOf}
 use Rattle.ob_io.specs.Slots.{shown_store}
 use Rattle.ob_io.specs.Kept.{IsStoreFit}
 use Rattle.ob_io.proofs.Shown.{rows_total, exact_rows}

@@ -4,12 +4,12 @@ use Rattle.std.specs.Ordering.{nat_cmp, eq_by_cmp}
 use Rattle.std.specs.Cmp.{nat_cmp_total}
 use Rattle.std.proofs.lemmas.Map.Lookups.{exact_unsigned}
 use Rattle.std.specs.BTreeMap.{BTreeMap, get}
-use Rattle.ob_io.specs.declared.store.RowKey.{RowKey}
+use Rattle.ob_base.specs.declared.id.RowKey.{RowKey}
 use Rattle.ob_io.specs.declared.store.KeptRow.{KeptRow}
 use Rattle.ob_io.specs.declared.store.Change.{Change}
 use Rattle.ob_io.specs.declared.store.Change.TheVariants.{Put, Gone, Next}
 use Rattle.ob_io.specs.declared.slots.Slots.{Slots}
-use Rattle.ob_io.specs.Store.{row_key_cmp}
+use Rattle.ob_base.specs.Ids.{row_key_cmp}
 use Rattle.ob_io.specs.Slots.{content, set_to, shown, shown_store, HasRoom}
 use Rattle.ob_io.proofs.Shown.{exact_rows, rows_total, shown_same, shown_set}
 

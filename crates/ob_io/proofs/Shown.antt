@@ -9,7 +9,8 @@ use Rattle.std.proofs.lemmas.Map.Lookups.{CmpEqualImpliesEq, exact_pairs, exact_
 use Rattle.std.specs.Map.{lookup}
 use Rattle.std.specs.BTreeMap.{BTreeMap, is_at}
 use Rattle.std.specs.FinMap.{FinMap, get, get-empty, get-insert, get-remove, same_map}
-use Rattle.ob_io.specs.Store.{row_key_cmp, link_cmp}
+use Rattle.ob_base.specs.Ids.{row_key_cmp}
+use Rattle.ob_io.specs.Store.{link_cmp}
 use Rattle.ob_io.specs.Slots.{content, set_to, shown}
 
 -- row keys and links that compare alike are one

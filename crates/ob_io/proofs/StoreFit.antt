@@ -6,11 +6,12 @@ use Rattle.std.specs.declared.cmp.Ordering.{Ordering}
 use Rattle.std.proofs.lemmas.List.Elements.{All-head, All-tail}
 use Rattle.std.proofs.lemmas.Map.Lookups.{CmpEqualImpliesEq, exact_unsigned}
 use Rattle.std.specs.FinMap as finite
-use Rattle.ob_io.specs.declared.store.RowKey.{RowKey}
+use Rattle.ob_base.specs.declared.id.RowKey.{RowKey}
 use Rattle.ob_io.specs.declared.store.KeptRow.{KeptRow}
 use Rattle.ob_io.specs.declared.store.Change.{Change}
 use Rattle.ob_io.specs.declared.store.Change.TheVariants.{Put, Gone, Next}
-use Rattle.ob_io.specs.Store.{Store, row_key_cmp, in_order, changed, all_changed, empty_store, Fits63, IsChangeFit, IsAnswerOf}
+use Rattle.ob_base.specs.Ids.{row_key_cmp}
+use Rattle.ob_io.specs.Store.{Store, in_order, changed, all_changed, empty_store, Fits63, IsChangeFit, IsAnswerOf}
 use Rattle.ob_io.specs.Kept.{IsStoreFit}
 use Rattle.ob_io.proofs.Shown.{exact_rows, rows_total}
 use Rattle.ob_io.proofs.LinksInOrder.{All-items, in_order-rising}

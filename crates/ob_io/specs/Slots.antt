@@ -8,7 +8,8 @@ use Rattle.std.specs.BTreeMap as tree
 use Rattle.ob_io.specs.declared.store.Change.{Change}
 use Rattle.ob_io.specs.declared.store.Change.TheVariants.{Put, Gone, Next}
 use Rattle.ob_io.specs.declared.slots.Slots.{Slots}
-use Rattle.ob_io.specs.Store.{Store, row_key_cmp}
+use Rattle.ob_base.specs.Ids.{row_key_cmp}
+use Rattle.ob_io.specs.Store.{Store}
 
 -- what stands in the key's slot, where it has one that is not vacant
 abbrev pub content : {K X : Type 0} → (K → K → Ordering) → tree.BTreeMap K (Option X) → K → Option X

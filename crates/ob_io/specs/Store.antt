@@ -8,16 +8,12 @@ use Rattle.std.specs.FinMap as finite
 use Rattle.ob_base.specs.declared.id.ModelNo.{ModelNo}
 use Rattle.ob_base.specs.declared.id.FieldNo.{FieldNo}
 use Rattle.ob_base.specs.declared.id.RecId.{RecId}
+use Rattle.ob_base.specs.Ids.{row_key_cmp}
 use Rattle.ob_base.specs.Rising.{IsRising}
-use Rattle.ob_io.specs.declared.store.RowKey.{RowKey}
 use Rattle.ob_io.specs.declared.store.Link.{Link}
 use Rattle.ob_io.specs.declared.store.KeptRow.{KeptRow}
 use Rattle.ob_io.specs.declared.store.Change.{Change}
 use Rattle.ob_io.specs.declared.store.Change.TheVariants.{Put, Gone, Next}
-
--- by model, then id
-abbrev pub row_key_cmp : RowKey → RowKey → Ordering
-row_key_cmp a b = ordering_then (nat_cmp a.model.0 b.model.0) (nat_cmp a.id.0 b.id.0)
 
 -- by field, then target
 abbrev pub link_cmp : Link → Link → Ordering

@@ -59,5 +59,5 @@ pub use memory_sink::{MemSink, SureSink};
 pub use memory_source::{MemSource, SureSource};
 pub use sink::Sink;
 pub use source::Source;
-pub use store::{Change, KeptRow, Link, RowKey};
+pub use store::{Change, KeptRow, Link};
 pub use sure_keeper::SureKeeper;

@@ -17,8 +17,8 @@ ghost use Rattle.ob_io.specs.Kept.{IsStoreFit};
 ghost use Rattle.ob_io.specs.Slots.{content, shown_store, HasRoom};
 
 use crate::row_copy::{copy_row, in_order};
-use crate::store::{Change, KeptRow, Link, RowKey};
-use ob_base::{FieldNo, ModelNo, NoMemory, RecId, RefList, Sequence};
+use crate::store::{Change, KeptRow, Link};
+use ob_base::{FieldNo, ModelNo, NoMemory, RecId, RefList, RowKey, Sequence};
 use std::alloc::Global;
 use std::collections::BTreeMap;
 use std::collections::btree_map::Range;

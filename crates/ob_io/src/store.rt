@@ -2,13 +2,6 @@
 
 use ob_base::{FieldNo, ModelNo, RecId, Sequence};
 
-/// Names a row of all models. Keys are ordered by model, then id.
-#[derive(Clone, Copy, Debug, PartialEq, Eq, PartialOrd, Ord, Hash)]
-pub struct RowKey {
-    pub model: ModelNo,
-    pub id: RecId,
-}
-
 /// That a row names another by a field. Links are ordered by field, then target.
 #[derive(Clone, Copy, Debug, PartialEq, Eq, PartialOrd, Ord, Hash)]
 pub struct Link {

@@ -7,8 +7,8 @@ ghost use Rattle.ob_io.specs.Kept.{starting_changes};
 use crate::keeper::{KeepFault, Keeper};
 use crate::row_copy::{copy_changes, copy_row, starting_changes};
 use crate::slots::Slots;
-use crate::store::{Change, KeptRow, RowKey};
-use ob_base::{FieldNo, ModelNo, NoMemory, RecId, RefList, Sequence};
+use crate::store::{Change, KeptRow};
+use ob_base::{FieldNo, ModelNo, NoMemory, RecId, RefList, RowKey, Sequence};
 use std::alloc::Global;
 use std::marker::Model;
 

@@ -23,8 +23,9 @@ use Rattle.ob_codec.specs.RowForm.{row_form}
 use Rattle.ob_io.specs.declared.store.Change.{Change}
 use Rattle.ob_io.specs.declared.store.KeptRow.{KeptRow}
 use Rattle.ob_io.specs.declared.store.Link.{Link}
-use Rattle.ob_io.specs.declared.store.RowKey.{RowKey}
-use Rattle.ob_io.specs.Store.{Store, all_changed, in_order, link_cmp, row_at, row_key_cmp}
+use Rattle.ob_base.specs.declared.id.RowKey.{RowKey}
+use Rattle.ob_base.specs.Ids.{row_key_cmp}
+use Rattle.ob_io.specs.Store.{Store, all_changed, in_order, link_cmp, row_at}
 use Rattle.ob_schema.specs.Fields.{Column, columns, is_plain_kept, kept_fields, plain_columns}
 use Rattle.ob_schema.specs.Models.{kept_at, model_at}
 use Rattle.ob_definition.specs.Types.{is_relation}

@@ -5,7 +5,7 @@ use Rattle.std.specs.FinMap as finite
 use Rattle.ob_base.specs.declared.id.ModelNo.{ModelNo}
 use Rattle.ob_base.specs.declared.value.Value.{Value}
 use Rattle.ob_base.specs.declared.value.Value.TheVariants.{Nil}
-use Rattle.ob_io.specs.Store.{row_key_cmp}
+use Rattle.ob_base.specs.Ids.{row_key_cmp}
 
 -- the plain values of a row, by the numbers of their fields
 abbrev pub Row : Type 0

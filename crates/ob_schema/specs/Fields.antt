@@ -7,7 +7,7 @@ use Rattle.ob_schema.specs.declared.info.ModelInfo.{ModelInfo}
 use Rattle.ob_schema.specs.declared.info.Origin.{Origin}
 use Rattle.ob_schema.specs.declared.info.Origin.TheVariants as origin
 use Rattle.ob_definition.specs.Types.{is_one2many}
-use Rattle.ob_definition.specs.Values.{IsValueOf}
+use Rattle.ob_definition.specs.Values.{HasType, IsValueOf}
 
 -- its values stand in the row itself: no one2many, and no mirror of another field
 abbrev pub is_own : FieldInfo → Bool
@@ -43,6 +43,10 @@ kept_fields model = filter is_kept model.fields
 -- a value that the field may hold
 abbrev pub Holds : FieldInfo → Value → Type 0
 Holds field v = IsValueOf field.field_type field.selection v
+
+-- a value of the field's type, whatever ids it names and however many
+abbrev pub IsGivable : FieldInfo → Value → Type 0
+IsGivable field v = HasType field.field_type field.selection v
 
 -- a field with its number
 abbrev pub Column : Type 0

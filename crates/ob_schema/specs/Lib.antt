@@ -9,6 +9,15 @@ pub mod Fields
 pub mod Built
 pub mod Models
 pub mod Facts
+-- Tables of rows, over which cells have values: what the crates above keep and evaluate.
+pub mod Tables
+pub mod Plain
+pub mod Limited
+pub mod Val
+pub mod Tied
+pub mod Checks
+pub mod Broken
+pub mod Links
 -- Private: the words by which the rooms of the crate are joined.
 pub mod Telling
 pub mod Graphs

@@ -2,9 +2,10 @@
 //! a caller may see. Whoever has rows to tell implements the trait; a question that domains or
 //! rules come to ask is added here.
 
-ghost use Rattle.std.specs.Prelude.{◌≡◌, true, IfErr, IfOk};
-ghost use Rattle.ob_schema.specs.Facts.{Told};
+ghost use Rattle.std.specs.Prelude.{◌≡◌, List, true, IfErr, IfOk};
+ghost use Rattle.ob_schema.specs.Facts.{OfAllTold, Told};
 ghost use Rattle.ob_schema.specs.Models.{HasField, HasModel};
+ghost use Rattle.ob_schema.specs.declared.info.ModelInfo.{ModelInfo};
 
 use ob_base::{Cell, ModelNo, RecId, Value};
 
@@ -14,24 +15,37 @@ use ob_base::{Cell, ModelNo, RecId, Value};
 pub trait Facts {
     type Fault;
 
-    /// What the facts tell.
-    ghost told: { Self → Told };
+    /// The models about whose rows the facts are.
+    ghost registry: { Self → List ModelInfo };
 
-    /// What is known of the facts after a fault.
-    ghost has_failed: { Self → Self.Fault → Type 0 };
+    /// The facts tell this: their answers are true of it. Of rows that nobody knows from outside,
+    /// such as those of a file, facts tell nothing.
+    ghost tells: { Self → Told → Type 0 };
+
+    /// How a question may change what is asked beside what it tells.
+    ghost asks: { Self → Self → Type 0 };
+
+    /// What is known, before and after it, of a question that failed.
+    ghost has_failed: { Self → Self → Self.Fault → Type 0 };
 
     /// Whether a row of the model is known.
     fn known(&mut self, model: ModelNo, id: RecId) -> Result<bool, Self::Fault>
-        requires { HasModel (told self.old).registry model }
-        ensures known { IfOk result (λ known. known ≡ (told self.old).knows model id) }
-        ensures failed { IfErr result (has_failed self.new) }
-        ensures kept { told self.new ≡ told self.old };
+        requires { HasModel (registry self.old) model }
+        ensures known { IfOk result (λ known. OfAllTold (tells self.old) (λ told. known ≡ told.knows model id)) }
+        ensures failed { IfErr result (has_failed self.old self.new) }
+        ensures asked { asks self.old self.new }
+        ensures same { registry self.new ≡ registry self.old }
+        ensures kept { OfAllTold (tells self.old) (tells self.new) }
+        ensures only { OfAllTold (tells self.new) (tells self.old) };
 
     /// What a cell of a known row holds.
     fn value(&mut self, cell: Cell) -> Result<Value, Self::Fault>
-        requires field { HasField (told self.old).registry cell.model cell.field }
-        requires row { (told self.old).knows cell.model cell.id ≡ true }
-        ensures value { IfOk result (λ value. value ≡ (told self.old).held cell) }
-        ensures failed { IfErr result (has_failed self.new) }
-        ensures kept { told self.new ≡ told self.old };
+        requires field { HasField (registry self.old) cell.model cell.field }
+        requires row { OfAllTold (tells self.old) (λ told. told.knows cell.model cell.id ≡ true) }
+        ensures value { IfOk result (λ value. OfAllTold (tells self.old) (λ told. value ≡ told.held cell)) }
+        ensures failed { IfErr result (has_failed self.old self.new) }
+        ensures asked { asks self.old self.new }
+        ensures same { registry self.new ≡ registry self.old }
+        ensures kept { OfAllTold (tells self.old) (tells self.new) }
+        ensures only { OfAllTold (tells self.new) (tells self.old) };
 }

@@ -3,7 +3,7 @@
 //!
 //! Rooms: `info` (models and fields with names resolved), `schema` (the registry and its
 //! look-ups), `build` (the registry from definitions), `facts` (what domains and rules ask of
-//! rows). Behind it stand `model` and `models` (models with
+//! rows), `links` (what is asked of rows to follow a change). Behind it stand `model` and `models` (models with
 //! all their fields, and what names stand for), `model_faults`, `field_faults`, `paths`,
 //! `formulas`, `graph` and `strata` (what is wrong with models, keys, paths, expressions and
 //! circles), `building` and `field_building` (the registry's parts). The definitions that
@@ -18,6 +18,7 @@ mod field_faults;
 mod formulas;
 mod graph;
 mod info;
+mod links;
 mod model;
 mod model_faults;
 mod models;
@@ -31,6 +32,7 @@ pub use facts::Facts;
 pub use info::{
     Delegation, FieldInfo, Formula, ModelInfo, OrderTerm, Origin, ParentInfo, Path, Step,
 };
+pub use links::{Links, Side};
 pub use ob_definition::{
     Check, Choice, FieldDef, FieldType, Inherits, ModelDef, OnDelete, SchemaFault, Spot,
 };

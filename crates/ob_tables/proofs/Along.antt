@@ -20,8 +20,8 @@ use Rattle.ob_schema.specs.declared.info.Origin.{Origin}
 use Rattle.ob_schema.specs.declared.info.Origin.TheVariants as origin
 use Rattle.ob_schema.specs.Fields.{is_plain_from}
 use Rattle.ob_schema.specs.Models.{FieldHas, IsPlainTo, IsRouted, field_at}
-use Rattle.ob_tables.specs.Plain.{plain_at}
-use Rattle.ob_tables.specs.Tables.{Tables}
+use Rattle.ob_schema.specs.Plain.{plain_at}
+use Rattle.ob_schema.specs.Tables.{Tables}
 use Rattle.ob_tables.proofs.KnownFields.{told_and}
 use Rattle.ob_tables.proofs.Stable.{IsDeep, held_by, plain_read}
 

@@ -19,10 +19,10 @@ use Rattle.std.specs.BTreeMap.Range.{range_contains}
 use Rattle.ob_base.specs.declared.id.ModelNo.{ModelNo}
 use Rattle.ob_base.specs.declared.id.RecId.{RecId}
 use Rattle.ob_base.specs.declared.value.Value.{Value}
-use Rattle.ob_io.specs.declared.store.RowKey.{RowKey}
-use Rattle.ob_io.specs.Store.{row_key_cmp}
+use Rattle.ob_base.specs.declared.id.RowKey.{RowKey}
+use Rattle.ob_base.specs.Ids.{row_key_cmp}
 use Rattle.ob_tables.specs.Rooms.{shown_row, shown_rows}
-use Rattle.ob_tables.specs.Tables.{PlainRow, key_of}
+use Rattle.ob_schema.specs.Tables.{PlainRow, key_of}
 use Rattle.ob_tables.proofs.Shown.{rows_total, exact_rows, keys-changed, has-shown_rows}
 
 at_most : (a b : ℕ) → a ≤ b → is_le (nat_cmp a b) ≡ true

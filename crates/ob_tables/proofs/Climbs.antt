@@ -10,6 +10,8 @@ use Rattle.ob_base.specs.declared.id.ModelNo.{ModelNo}
 use Rattle.ob_base.specs.declared.id.RecId.{RecId}
 use Rattle.ob_base.specs.declared.value.Value.{Value}
 use Rattle.ob_base.specs.declared.value.Value.TheVariants as value
+use Rattle.ob_definition.specs.Values.{HasType}
+use Rattle.ob_definition.specs.declared.field_type.FieldType.{FieldType}
 use Rattle.ob_definition.specs.declared.field_type.FieldType.TheVariants as type
 use Rattle.ob_definition.specs.Keys.{is_many2many}
 use Rattle.ob_definition.specs.Types.{is_one2many}
@@ -24,10 +26,10 @@ use Rattle.ob_schema.specs.declared.info.Origin.TheVariants as origin
 use Rattle.ob_schema.specs.declared.info.Step.{Step}
 use Rattle.ob_schema.specs.Models.{FieldHas, HoldsChildren, IsPlainTo, IsRegistry, IsRouted, LeadsDown, LeadsUp, field_at, model_at}
 use Rattle.ob_schema.specs.Paths.{step_at, steps_along}
-use Rattle.ob_tables.specs.Tied.{HasDepth, IsParentIn, IsTied}
-use Rattle.ob_tables.specs.Givable.{IsGivable}
-use Rattle.ob_tables.specs.Plain.{names, naming, plain_at, plain_by}
-use Rattle.ob_tables.specs.Tables.{Fits, PlainRow, Tables, kept_in, row_at}
+use Rattle.ob_schema.specs.Tied.{HasDepth, IsParentIn, IsTied}
+use Rattle.ob_schema.specs.Fields.{IsGivable}
+use Rattle.ob_schema.specs.Plain.{names, naming, plain_at, plain_by}
+use Rattle.ob_schema.specs.Tables.{Fits, PlainRow, Tables, kept_in, row_at}
 use Rattle.ob_tables.proofs.Along.{Leads, plain_is}
 use Rattle.ob_tables.proofs.Depths.{depth_down, depth_low, depth_up, up_there}
 use Rattle.ob_tables.proofs.KnownFields.{Field-at, is_there, known_at, known_if, tell_and, there_is, told_and}
@@ -101,7 +103,7 @@ module _ (models : List ModelInfo) (tables : Tables) (registry : IsRegistry mode
 
       of : (v : Value) → IsGivable tree.field v → names other v ≡ true → v ≡ value.Ref other
       of (value.Ref id) fit is = (let same : id.0 ≡ other.0 = eqb-true id.0 other.0 is in λ i. value.Ref (record { 0 = same i }))
-      of (value.Refs ids) fit is = absurd (let both : type.Many2one ≡ type.Many2many = sym tree.many2one ∙ fit.0 in cc)
+      of (value.Refs ids) fit is = absurd (subst (λ (t : FieldType). HasType t tree.field.selection (value.Refs ids)) tree.many2one fit)
       of value.Nil fit is = absurd cc
       of (value.Bool b) fit is = absurd cc
       of (value.Int n) fit is = absurd cc

@@ -19,7 +19,7 @@ use Rattle.ob_schema.specs.Fields.{Column, is_plain_kept, plain_columns}
 use Rattle.ob_schema.specs.declared.info.FieldInfo.{FieldInfo}
 use Rattle.ob_schema.specs.declared.info.ModelInfo.{ModelInfo}
 use Rattle.ob_tables.specs.After.{given_for, row_of}
-use Rattle.ob_tables.specs.Tables.{IsRowOf, PlainRow}
+use Rattle.ob_schema.specs.Tables.{IsRowOf, PlainRow}
 use Rattle.ob_tables.proofs.Shown.{apart, itself}
 
 -- the value that a plain kept field of a number has, and no other field has one

@@ -11,9 +11,9 @@ use Rattle.ob_base.specs.declared.value.Value.TheVariants as value
 use Rattle.ob_schema.specs.Chains.{Reaches, ReachesOver}
 use Rattle.ob_schema.specs.declared.info.ModelInfo.{ModelInfo}
 use Rattle.ob_schema.specs.Models.{model_at}
-use Rattle.ob_tables.specs.Tied.{HasDepth, IsCircled, IsLeastOf, IsParentIn, IsTied, IsTooDeep}
+use Rattle.ob_schema.specs.Tied.{HasDepth, IsCircled, IsLeastOf, IsParentIn, IsTied, IsTooDeep}
 use Rattle.ob_base.specs.Limits.{max_tree_depth}
-use Rattle.ob_tables.specs.Tables.{Fits, PlainRow, Tables, kept_in, next_of, row_at}
+use Rattle.ob_schema.specs.Tables.{Fits, PlainRow, Tables, kept_in, next_of, row_at}
 use Rattle.ob_tables.proofs.FewerIds.{below-stands, fewer, ids_below, stays}
 use Rattle.ob_tables.proofs.KnownFields.{is_there, known_at, some_or_none, tell_and, there_is}
 use Rattle.ob_tables.proofs.NamedBack.{Stands}

@@ -12,14 +12,14 @@ use Rattle.ob_base.specs.declared.id.FieldNo.{FieldNo}
 use Rattle.ob_base.specs.declared.id.ModelNo.{ModelNo}
 use Rattle.ob_base.specs.declared.id.RecId.{RecId}
 use Rattle.ob_base.specs.declared.value.Value.{Value}
-use Rattle.ob_io.specs.declared.store.RowKey.{RowKey}
-use Rattle.ob_io.specs.Store.{row_key_cmp}
+use Rattle.ob_base.specs.declared.id.RowKey.{RowKey}
+use Rattle.ob_base.specs.Ids.{row_key_cmp}
 use Rattle.ob_schema.specs.Models.{HasModel, IsCondition, model_at}
 use Rattle.ob_schema.specs.declared.info.ModelInfo.{ModelInfo}
 use Rattle.ob_tables.specs.After.{after, edited, row_of, with_row}
 use Rattle.ob_tables.specs.Fitting.{AreFitValues, IsFitValueAt}
 use Rattle.ob_tables.specs.Rooms.{shown_next_ids, shown_row, shown_rows, shown_tables}
-use Rattle.ob_tables.specs.Tables.{Fits, Tables, key_of, next_of, row_at}
+use Rattle.ob_schema.specs.Tables.{Fits, Tables, key_of, next_of, row_at}
 use Rattle.ob_tables.specs.declared.edit.Edit.{Edit}
 use Rattle.ob_tables.specs.declared.edit.Edit.TheVariants as edit
 use Rattle.ob_tables.proofs.Shown.{get-shown_rows, itself, shown_next-set, shown_next-there, shown_row-set, shown_rows-gone, shown_rows-set}

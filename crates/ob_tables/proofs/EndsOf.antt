@@ -17,9 +17,9 @@ use Rattle.ob_expr.specs.Reads.{IsAlongAny, IsAlongPath, IsAmong, LeadsTo}
 use Rattle.ob_expr.specs.Route.{Route}
 use Rattle.ob_schema.specs.declared.info.ModelInfo.{ModelInfo}
 use Rattle.ob_schema.specs.Models.{IsRouted}
-use Rattle.ob_tables.specs.Plain.{plain_at}
+use Rattle.ob_schema.specs.Plain.{plain_at}
 use Rattle.ob_tables.specs.Settling.{ends_along, rows_led}
-use Rattle.ob_tables.specs.Tables.{Tables}
+use Rattle.ob_schema.specs.Tables.{Tables}
 use Rattle.ob_tables.proofs.Along.{IsPlainCell, Leads, along_ends, link_held}
 use Rattle.ob_tables.proofs.NamedBack.{Stands, stands-among}
 use Rattle.ob_tables.proofs.Stable.{IsDeep, held_by}

@@ -21,19 +21,19 @@ use Rattle.ob_base.specs.declared.value.Value.TheVariants as value
 use Rattle.ob_definition.specs.declared.field_type.FieldType.{FieldType}
 use Rattle.ob_definition.specs.declared.field_type.FieldType.TheVariants as type
 use Rattle.ob_definition.specs.Types.{is_one2many}
-use Rattle.ob_definition.specs.Values.{IsValueOf}
-use Rattle.ob_io.specs.declared.store.RowKey.{RowKey}
-use Rattle.ob_io.specs.Store.{row_key_cmp}
+use Rattle.ob_base.specs.declared.id.RowKey.{RowKey}
+use Rattle.ob_base.specs.Ids.{row_key_cmp}
 use Rattle.ob_schema.specs.Built.{numbered}
-use Rattle.ob_schema.specs.Fields.{Holds, is_plain_from, is_plain_kept}
+use Rattle.ob_schema.specs.Fields.{is_plain_from, is_plain_kept}
 use Rattle.ob_schema.specs.Models.{HasModel, IsCondition, field_at, fields_of, model_at}
 use Rattle.ob_schema.specs.declared.info.FieldInfo.{FieldInfo}
 use Rattle.ob_schema.specs.declared.info.ModelInfo.{ModelInfo}
-use Rattle.ob_tables.specs.After.{given_for, row_of, unset_value}
+use Rattle.ob_definition.specs.Values.{HasType, initial_value}
+use Rattle.ob_tables.specs.After.{given_for, row_of}
 use Rattle.ob_tables.specs.Fitting.{AreFitValues, IsFitIn}
-use Rattle.ob_tables.specs.Givable.{IsGivable}
+use Rattle.ob_schema.specs.Fields.{IsGivable}
 use Rattle.ob_tables.specs.Rooms.{shown_row, shown_rows, shown_tables}
-use Rattle.ob_tables.specs.Tables.{Fits, IsRowOf, PlainRow, Tables, key_of, next_of, row_at}
+use Rattle.ob_schema.specs.Tables.{Fits, IsRowOf, PlainRow, Tables, key_of, next_of, row_at}
 use Rattle.ob_tables.proofs.Shown.{exact_rows, get-shown_next_ids, get-shown_rows, next_or_one, rows_total}
 use Rattle.ob_tables.proofs.Columns.{get-row_of, keeps, kept_as, row-from, row-has, row_of-IsRowOf}
 use Rattle.ob_tables.proofs.Values.{keeps-fields}
@@ -203,13 +203,13 @@ not_one2many a b t is h = by_case a b (subst (λ t. (a && (not (is_one2many t) &
     by_case false b e = cc
 
 -- what a kept field has without a value of its own is one of its values
-unset-givable : (field : FieldInfo) → is_plain_kept field ≡ true → IsGivable field (unset_value field.field_type)
+unset-givable : (field : FieldInfo) → is_plain_kept field ≡ true → IsGivable field (initial_value field.field_type)
 unset-givable field kept = by_type field.field_type refl
   where
-    holds : (t : FieldType) (v : Value) → field.field_type ≡ t → IsValueOf t field.selection v → Holds field v
-    holds t v is h = subst (λ t. IsValueOf t field.selection v) (sym is) h
+    holds : (t : FieldType) (v : Value) → field.field_type ≡ t → HasType t field.selection v → IsGivable field v
+    holds t v is h = subst (λ t. HasType t field.selection v) (sym is) h
 
-    by_type : (t : FieldType) → field.field_type ≡ t → IsGivable field (unset_value t)
+    by_type : (t : FieldType) → field.field_type ≡ t → IsGivable field (initial_value t)
     by_type type.Boolean is = holds type.Boolean (value.Bool false) is tt
     by_type type.Integer is = holds type.Integer (value.Int (pos 0)) is (search rules)
     by_type type.Char is = holds type.Char value.Nil is tt
@@ -219,7 +219,7 @@ unset-givable field kept = by_type field.field_type refl
     by_type type.Selection is = holds type.Selection value.Nil is tt
     by_type type.Many2one is = holds type.Many2one value.Nil is tt
     by_type type.One2many is = absurd (not_one2many (is_plain_from field.origin) (is_none field.mirror) field.field_type is kept)
-    by_type type.Many2many is = (is, λ k lt. absurd (omega arith))
+    by_type type.Many2many is = holds type.Many2many (value.Refs []) is (λ k lt. absurd (omega arith))
 
 module _ (info : ModelInfo) (q : ℕ) (field : FieldInfo) (at : numbered (fields_of info) q ≡ Some field) where
   one_givable : (x : FieldNo × Value) (b : Bool) (l : Option Value) → (x.0.0 == q) ≡ b → IsSomeAnd (numbered (fields_of info) x.0.0) (λ field. IsFitIn field x.1) → IfSome l (IsGivable field) → IfSome (cond b (Some x.1) l) (IsGivable field)
@@ -254,7 +254,7 @@ module _ (models : List ModelInfo) (t : Tables) (key : RowKey) where
           → IfSome (cond b (Some (given_for values (number.0, field))) None) (λ v. IsSomeAnd (field_at models key.model number) (λ f. IsGivable f v))
       by_test number field true kept is =
           known_by (field_at models key.model number) (λ f. IsGivable f (given_for values (number.0, field))) field (at_field info number.0 (Some field) at is)
-          (or_unset (IsGivable field) (lookup (λ (n : FieldNo). n.0 == number.0) values) (unset_value field.field_type) (given-givable info number.0 field is values fit.0) (unset-givable field kept))
+          (or_unset (IsGivable field) (lookup (λ (n : FieldNo). n.0 == number.0) values) (initial_value field.field_type) (given-givable info number.0 field is values fit.0) (unset-givable field kept))
       by_test number field false kept is = tt
 
       by_case : (number : FieldNo) (found : Option FieldInfo) → numbered info.fields number.0 ≡ found → IfSome (kept_as (given_for values) number.0 found) (λ v. IsSomeAnd (field_at models key.model number) (λ f. IsGivable f v))

@@ -7,9 +7,9 @@ use Rattle.ob_schema.specs.declared.info.Formula.{Formula}
 use Rattle.ob_schema.specs.declared.info.ModelInfo.{ModelInfo}
 use Rattle.ob_schema.specs.declared.info.Origin.TheVariants as origin
 use Rattle.ob_schema.specs.Models.{IsRegistry, field_at}
-use Rattle.ob_tables.specs.Tied.{IsTied}
-use Rattle.ob_tables.specs.Tables.{Fits, Tables}
-use Rattle.ob_tables.specs.Val.{AgreesOnRows, IsVal, ReadsNoneInVain, enough, val}
+use Rattle.ob_schema.specs.Tied.{IsTied}
+use Rattle.ob_schema.specs.Tables.{Fits, Tables}
+use Rattle.ob_schema.specs.Val.{AgreesOnRows, IsVal, ReadsNoneInVain, enough, val}
 use Rattle.ob_tables.proofs.KnownFields.{Field-at, Formula-at}
 use Rattle.ob_tables.proofs.Settled.{only_steps, steps_give}
 use Rattle.ob_tables.proofs.Expressions.{AreLaws}

@@ -19,8 +19,8 @@ use Rattle.ob_schema.specs.declared.info.Step.{Step}
 use Rattle.ob_schema.specs.Fields.{has_value_of}
 use Rattle.ob_schema.specs.Models.{DependsOn, IsRegistry, LeadsDown, LeadsUp, ReachesItselfBy, field_at, is_delegated_from, is_given_from, kind_of_info}
 use Rattle.ob_schema.specs.Paths.{step_at, steps_along, steps_of_route}
-use Rattle.ob_tables.specs.Tied.{HasDepth, IsTied}
-use Rattle.ob_tables.specs.Tables.{Fits, Tables, row_at}
+use Rattle.ob_schema.specs.Tied.{HasDepth, IsTied}
+use Rattle.ob_schema.specs.Tables.{Fits, Tables, row_at}
 use Rattle.ob_tables.proofs.Along.{Leads, along_ends, along_one, end_model, leads-model}
 use Rattle.ob_tables.proofs.Climbs.{StandsDown, StandsUp, StepsBy, Tree, Tree-at, climbs, none_down, none_up, steps_down, steps_up}
 use Rattle.ob_tables.proofs.Depths.{depth_low, depth_of}

@@ -8,7 +8,7 @@ use Rattle.std.proofs.lemmas.Map.Views.{Contains-from_any}
 use Rattle.std.proofs.lemmas.Slice.Eq.{bytes_eq-Decides}
 use Rattle.ob_base.specs.Limits.{max_char_bytes}
 use Rattle.ob_base.specs.declared.value.Value.TheVariants as value
-use Rattle.ob_definition.specs.Values.{IsValueOf, keys_of}
+use Rattle.ob_definition.specs.Values.{HasType, keys_of}
 use Rattle.ob_definition.specs.declared.field_type.Choice.{Choice}
 use Rattle.ob_definition.specs.declared.field_type.FieldType.{FieldType}
 use Rattle.ob_definition.specs.declared.field_type.FieldType.TheVariants as type
@@ -26,7 +26,7 @@ key_told text choices = (
 
 -- a text within the limit is one of a selection's exactly where it is found
 pub found_tells : (t : FieldType) (choices : List Choice) (text : List ℕ) (found : Bool) → t ≡ type.Selection → length text ≤ max_char_bytes → found ≡ list_any (λ (choice : Choice). bytes_eq text choice.key) choices
-    → (found ≡ true) ↔ IsValueOf t choices (value.Word text)
+    → (found ≡ true) ↔ HasType t choices (value.Word text)
 found_tells t choices text found is short told =
-    subst (λ (t : FieldType). (found ≡ true) ↔ IsValueOf t choices (value.Word text)) (sym is)
+    subst (λ (t : FieldType). (found ≡ true) ↔ HasType t choices (value.Word text)) (sym is)
     (λ e. record { short = short; declared = (key_told text choices).0 (sym told ∙ e) }, λ key. told ∙ (key_told text choices).1 key.declared)

@@ -31,10 +31,10 @@ use Rattle.ob_schema.specs.declared.info.FieldInfo.{FieldInfo}
 use Rattle.ob_schema.specs.declared.info.ModelInfo.{ModelInfo}
 use Rattle.ob_schema.specs.declared.info.Origin.{Origin}
 use Rattle.ob_schema.specs.declared.info.Origin.TheVariants as origin
-use Rattle.ob_tables.specs.Givable.{IsGivable}
-use Rattle.ob_tables.specs.Plain.{id_value, plain_at, plain_by, plain_from}
+use Rattle.ob_schema.specs.Fields.{IsGivable}
+use Rattle.ob_schema.specs.Plain.{id_value, plain_at, plain_by, plain_from}
 use Rattle.ob_tables.specs.Settling.{AreOutcomes, IsFormulaOutcome, IsOutcomeOf, held_in, held_or}
-use Rattle.ob_tables.specs.Tables.{Fits, PlainRow, Tables, kept_at, kept_in, row_at}
+use Rattle.ob_schema.specs.Tables.{Fits, PlainRow, Tables, kept_at, kept_in, row_at}
 use Rattle.ob_tables.specs.declared.outcome.Outcome.{Outcome}
 use Rattle.ob_tables.specs.declared.outcome.Outcome.TheVariants as outcome
 use Rattle.ob_tables.proofs.KnownFields.{Field-at, is_there, known_at, known_if, some_or_none, there_is, told_and}
@@ -49,8 +49,8 @@ boolean-kind f (value.Int n) g = absurd g
 boolean-kind f (value.Word text) g = absurd g
 boolean-kind f (value.Day n) g = absurd g
 boolean-kind f (value.Moment n) g = absurd g
-boolean-kind f (value.Ref id) g = absurd (let not : type.Boolean ≡ type.Many2one = g in cc)
-boolean-kind f (value.Refs ids) g = absurd (let not : type.Boolean ≡ type.Many2many = g.0 in cc)
+boolean-kind f (value.Ref id) g = absurd g
+boolean-kind f (value.Refs ids) g = absurd g
 
 integer-kind : (f : FieldInfo) (v : Value) → IsGivable (record f { field_type = type.Integer }) v → HasKind kind.Int v
 integer-kind f value.Nil g = absurd g
@@ -59,8 +59,8 @@ integer-kind f (value.Int n) g = tt
 integer-kind f (value.Word text) g = absurd g
 integer-kind f (value.Day n) g = absurd g
 integer-kind f (value.Moment n) g = absurd g
-integer-kind f (value.Ref id) g = absurd (let not : type.Integer ≡ type.Many2one = g in cc)
-integer-kind f (value.Refs ids) g = absurd (let not : type.Integer ≡ type.Many2many = g.0 in cc)
+integer-kind f (value.Ref id) g = absurd g
+integer-kind f (value.Refs ids) g = absurd g
 
 char-kind : (f : FieldInfo) (v : Value) → IsGivable (record f { field_type = type.Char }) v → HasKind kind.Word v
 char-kind f value.Nil g = tt
@@ -69,8 +69,8 @@ char-kind f (value.Int n) g = absurd g
 char-kind f (value.Word text) g = tt
 char-kind f (value.Day n) g = absurd g
 char-kind f (value.Moment n) g = absurd g
-char-kind f (value.Ref id) g = absurd (let not : type.Char ≡ type.Many2one = g in cc)
-char-kind f (value.Refs ids) g = absurd (let not : type.Char ≡ type.Many2many = g.0 in cc)
+char-kind f (value.Ref id) g = absurd g
+char-kind f (value.Refs ids) g = absurd g
 
 text-kind : (f : FieldInfo) (v : Value) → IsGivable (record f { field_type = type.Text }) v → HasKind kind.Word v
 text-kind f value.Nil g = tt
@@ -79,8 +79,8 @@ text-kind f (value.Int n) g = absurd g
 text-kind f (value.Word text) g = tt
 text-kind f (value.Day n) g = absurd g
 text-kind f (value.Moment n) g = absurd g
-text-kind f (value.Ref id) g = absurd (let not : type.Text ≡ type.Many2one = g in cc)
-text-kind f (value.Refs ids) g = absurd (let not : type.Text ≡ type.Many2many = g.0 in cc)
+text-kind f (value.Ref id) g = absurd g
+text-kind f (value.Refs ids) g = absurd g
 
 date-kind : (f : FieldInfo) (v : Value) → IsGivable (record f { field_type = type.Date }) v → HasKind kind.Day v
 date-kind f value.Nil g = tt
@@ -89,8 +89,8 @@ date-kind f (value.Int n) g = absurd g
 date-kind f (value.Word text) g = absurd g
 date-kind f (value.Day n) g = tt
 date-kind f (value.Moment n) g = absurd g
-date-kind f (value.Ref id) g = absurd (let not : type.Date ≡ type.Many2one = g in cc)
-date-kind f (value.Refs ids) g = absurd (let not : type.Date ≡ type.Many2many = g.0 in cc)
+date-kind f (value.Ref id) g = absurd g
+date-kind f (value.Refs ids) g = absurd g
 
 datetime-kind : (f : FieldInfo) (v : Value) → IsGivable (record f { field_type = type.Datetime }) v → HasKind kind.Moment v
 datetime-kind f value.Nil g = tt
@@ -99,8 +99,8 @@ datetime-kind f (value.Int n) g = absurd g
 datetime-kind f (value.Word text) g = absurd g
 datetime-kind f (value.Day n) g = absurd g
 datetime-kind f (value.Moment n) g = tt
-datetime-kind f (value.Ref id) g = absurd (let not : type.Datetime ≡ type.Many2one = g in cc)
-datetime-kind f (value.Refs ids) g = absurd (let not : type.Datetime ≡ type.Many2many = g.0 in cc)
+datetime-kind f (value.Ref id) g = absurd g
+datetime-kind f (value.Refs ids) g = absurd g
 
 selection-kind : (f : FieldInfo) (v : Value) → IsGivable (record f { field_type = type.Selection }) v → HasKind kind.Word v
 selection-kind f value.Nil g = tt
@@ -109,8 +109,8 @@ selection-kind f (value.Int n) g = absurd g
 selection-kind f (value.Word text) g = tt
 selection-kind f (value.Day n) g = absurd g
 selection-kind f (value.Moment n) g = absurd g
-selection-kind f (value.Ref id) g = absurd (let not : type.Selection ≡ type.Many2one = g in cc)
-selection-kind f (value.Refs ids) g = absurd (let not : type.Selection ≡ type.Many2many = g.0 in cc)
+selection-kind f (value.Ref id) g = absurd g
+selection-kind f (value.Refs ids) g = absurd g
 
 many2one-kind : (m : ModelNo) (f : FieldInfo) (v : Value) → IsGivable (record f { field_type = type.Many2one }) v → HasKind (kind.Ref m) v
 many2one-kind m f value.Nil g = tt
@@ -120,7 +120,7 @@ many2one-kind m f (value.Word text) g = absurd g
 many2one-kind m f (value.Day n) g = absurd g
 many2one-kind m f (value.Moment n) g = absurd g
 many2one-kind m f (value.Ref id) g = tt
-many2one-kind m f (value.Refs ids) g = absurd (let not : type.Many2one ≡ type.Many2many = g.0 in cc)
+many2one-kind m f (value.Refs ids) g = absurd g
 
 many2many-kind : (m : ModelNo) (f : FieldInfo) (v : Value) → IsGivable (record f { field_type = type.Many2many }) v → HasKind (kind.Refs m) v
 many2many-kind m f value.Nil g = absurd g
@@ -129,7 +129,7 @@ many2many-kind m f (value.Int n) g = absurd g
 many2many-kind m f (value.Word text) g = absurd g
 many2many-kind m f (value.Day n) g = absurd g
 many2many-kind m f (value.Moment n) g = absurd g
-many2many-kind m f (value.Ref id) g = absurd (let not : type.Many2many ≡ type.Many2one = g in cc)
+many2many-kind m f (value.Ref id) g = absurd g
 many2many-kind m f (value.Refs ids) g = tt
 
 -- a one2many is kept by no row
@@ -140,7 +140,7 @@ no-one2many f (value.Int n) m g = absurd g
 no-one2many f (value.Word text) m g = absurd g
 no-one2many f (value.Day n) m g = absurd g
 no-one2many f (value.Moment n) m g = absurd g
-no-one2many f (value.Ref id) m g = absurd (let not : type.One2many ≡ type.Many2one = g in cc)
+no-one2many f (value.Ref id) m g = absurd g
 no-one2many f (value.Refs ids) m g = tt
 
 -- of the kind that a relation gives
@@ -221,7 +221,7 @@ module _ (models : List ModelInfo) (tables : Tables) (registry : IsRegistry mode
       by None None p q = kept-kind c info row k at there plain is (ap (λ (o : Option FieldNo). option_or o info.mirror) p ∙ q)
 
   -- a plain cell holds a value of its field's kind
-  plain-kind : (c : Cell) (info : FieldInfo) (k : Kind) (v : Value) → field_at models c.model c.field ≡ Some info → kind_of_info info ≡ Some k → plain_at tables models c ≡ Some v → HasKind k v
+  pub plain-kind : (c : Cell) (info : FieldInfo) (k : Kind) (v : Value) → field_at models c.model c.field ≡ Some info → kind_of_info info ≡ Some k → plain_at tables models c ≡ Some v → HasKind k v
   plain-kind c info k v at is holds = elim (some_or_none (row_at tables c.model c.id)) [
     | inl none ↦ absurd (let both : None ≡ Some v = sym (ap (option_and_then (plain_from tables info.origin info c.field c.id)) none) ∙ sym (plain_by_field c info at) ∙ holds in cc)
     | inr some ↦ by info.origin refl some.0 some.1 (sym (ap (option_and_then (plain_from tables info.origin info c.field c.id)) some.1) ∙ sym (plain_by_field c info at) ∙ holds)
@@ -242,6 +242,44 @@ module _ (models : List ModelInfo) (tables : Tables) (registry : IsRegistry mode
 
   -- ---- what is held
 
+  module _ (held : Cell → Option Value) (of_kind : (c : Cell) (info : FieldInfo) (k : Kind) (v : Value) → field_at models c.model c.field ≡ Some info → kind_of_info info ≡ Some k → held c ≡ Some v → HasKind k v) where
+    -- where each cell holds a value of its field's kind, each field along a path by references does
+    path-holds : (model : ModelNo) (links : List Link) (field : FieldNo) (k : Kind) → IsByRefs models model links field k → PathHolds held model links field k
+    path-holds model [] field k by_refs =
+        λ id v holds. let t = told_and (field_at models model field) (λ info. (kind_of_info info ≡ Some k) × (has_value_of info ≡ true)) by_refs in
+        of_kind (cell_in (place_at model id) field) t.0 k v t.1 t.2.0 holds
+    path-holds model (link ∷ links) field k by_refs = (
+      λ id v holds. let t = told_and (field_at models model link.field) (IsRefTo link.target) by_refs.0 in of_kind (cell_in (place_at model id) link.field) t.0 (kind.Ref link.target) v t.1 t.2.one holds,
+      path-holds link.target links field k by_refs.1,
+    )
+
+    abbrev ByRefs : ModelNo → Route → Type 0
+    ByRefs from route = IsByRefs models from route.links route.field route.kind
+
+    abbrev Holds : ModelNo → Route → Type 0
+    Holds from route = PathHolds held from route.links route.field route.kind
+
+    -- and each along each path of an expression
+    mutual
+      pub kinds-held : (model : ModelNo) (tree : TypedTree) → EachPath ByRefs model tree → EachPath Holds model tree
+      kinds-held model row_id by_refs = tt
+      kinds-held model (integer n) by_refs = tt
+      kinds-held model (a_text bytes) by_refs = tt
+      kinds-held model (truth b) by_refs = tt
+      kinds-held model (unset k) by_refs = tt
+      kinds-held model (path route) by_refs = path-holds model route.links route.field route.kind by_refs
+      kinds-held model (prefix word inner) by_refs = kinds-held model inner by_refs
+      kinds-held model (binary op left right) by_refs = (kinds-held model left by_refs.0, kinds-held model right by_refs.1)
+      kinds-held model (chosen which left right) by_refs = (kinds-held model left by_refs.0, kinds-held model right by_refs.1)
+      kinds-held model (choice condition first second) by_refs = (kinds-held model condition by_refs.0, kinds-held model first by_refs.1, kinds-held model second by_refs.2)
+      kinds-held model (joined all) by_refs = all-held model all by_refs
+      kinds-held model (digits inner) by_refs = kinds-held model inner by_refs
+      kinds-held model (over aggregate route target inner) by_refs = (path-holds model route.links route.field route.kind by_refs.0, kinds-held target inner by_refs.1)
+
+      all-held : (model : ModelNo) (all : TypedTrees) → EachPathOfAll ByRefs model all → EachPathOfAll Holds model all
+      all-held model no_trees by_refs = tt
+      all-held model (one_more tree rest) by_refs = (kinds-held model tree by_refs.0, all-held model rest by_refs.1)
+
   module _ (outcomes : tree.BTreeMap Cell Outcome) (right : AreOutcomes models tables outcomes) where
     -- a cell holds a value of its field's kind
     held-kind : (c : Cell) (info : FieldInfo) (k : Kind) (v : Value) → field_at models c.model c.field ≡ Some info → kind_of_info info ≡ Some k → held_in models tables outcomes c ≡ Some v → HasKind k v
@@ -256,39 +294,7 @@ module _ (models : List ModelInfo) (tables : Tables) (registry : IsRegistry mode
         by (Some (outcome.Own why)) gets holds = absurd (let both : None ≡ Some v = holds in cc)
         by (Some (outcome.Inherited why)) gets holds = absurd (let both : None ≡ Some v = holds in cc)
 
-    -- so does each field along a path by references
-    path-holds : (model : ModelNo) (links : List Link) (field : FieldNo) (k : Kind) → IsByRefs models model links field k → PathHolds (held_in models tables outcomes) model links field k
-    path-holds model [] field k by_refs =
-        λ id v holds. let t = told_and (field_at models model field) (λ info. (kind_of_info info ≡ Some k) × (has_value_of info ≡ true)) by_refs in
-        held-kind (cell_in (place_at model id) field) t.0 k v t.1 t.2.0 holds
-    path-holds model (link ∷ links) field k by_refs = (
-      λ id v holds. let t = told_and (field_at models model link.field) (IsRefTo link.target) by_refs.0 in held-kind (cell_in (place_at model id) link.field) t.0 (kind.Ref link.target) v t.1 t.2.one holds,
-      path-holds link.target links field k by_refs.1,
-    )
-
-    abbrev ByRefs : ModelNo → Route → Type 0
-    ByRefs from route = IsByRefs models from route.links route.field route.kind
-
-    abbrev Holds : ModelNo → Route → Type 0
-    Holds from route = PathHolds (held_in models tables outcomes) from route.links route.field route.kind
-
-    -- and each along each path of an expression
-    mutual
-      pub tree-holds : (model : ModelNo) (tree : TypedTree) → EachPath ByRefs model tree → EachPath Holds model tree
-      tree-holds model row_id by_refs = tt
-      tree-holds model (integer n) by_refs = tt
-      tree-holds model (a_text bytes) by_refs = tt
-      tree-holds model (truth b) by_refs = tt
-      tree-holds model (unset k) by_refs = tt
-      tree-holds model (path route) by_refs = path-holds model route.links route.field route.kind by_refs
-      tree-holds model (prefix word inner) by_refs = tree-holds model inner by_refs
-      tree-holds model (binary op left right) by_refs = (tree-holds model left by_refs.0, tree-holds model right by_refs.1)
-      tree-holds model (chosen which left right) by_refs = (tree-holds model left by_refs.0, tree-holds model right by_refs.1)
-      tree-holds model (choice condition first second) by_refs = (tree-holds model condition by_refs.0, tree-holds model first by_refs.1, tree-holds model second by_refs.2)
-      tree-holds model (joined all) by_refs = trees-hold model all by_refs
-      tree-holds model (digits inner) by_refs = tree-holds model inner by_refs
-      tree-holds model (over aggregate route target inner) by_refs = (path-holds model route.links route.field route.kind by_refs.0, tree-holds target inner by_refs.1)
-
-      trees-hold : (model : ModelNo) (all : TypedTrees) → EachPathOfAll ByRefs model all → EachPathOfAll Holds model all
-      trees-hold model no_trees by_refs = tt
-      trees-hold model (one_more tree rest) by_refs = (tree-holds model tree by_refs.0, trees-hold model rest by_refs.1)
+    -- so does each field along each path of an expression
+    pub tree-holds : (model : ModelNo) (tree : TypedTree) → EachPath (λ from route. IsByRefs models from route.links route.field route.kind) model tree
+        → EachPath (λ from route. PathHolds (held_in models tables outcomes) from route.links route.field route.kind) model tree
+    tree-holds model tree by_refs = kinds-held (held_in models tables outcomes) held-kind model tree by_refs

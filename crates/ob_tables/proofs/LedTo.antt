@@ -22,9 +22,9 @@ use Rattle.ob_schema.specs.declared.info.Origin.{Origin}
 use Rattle.ob_schema.specs.declared.info.Origin.TheVariants as origin
 use Rattle.ob_schema.specs.Fields.{is_plain_from, is_plain_kept}
 use Rattle.ob_schema.specs.Models.{FieldHas, IsPlainTo, IsRegistry, IsRouted, field_at}
-use Rattle.ob_tables.specs.Tied.{Dangles, IsTied}
-use Rattle.ob_tables.specs.Plain.{names, naming, plain_at, plain_by, plain_from}
-use Rattle.ob_tables.specs.Tables.{PlainRow, Tables, kept_in, row_at}
+use Rattle.ob_schema.specs.Tied.{Dangles, IsTied}
+use Rattle.ob_schema.specs.Plain.{names, naming, plain_at, plain_by, plain_from}
+use Rattle.ob_schema.specs.Tables.{PlainRow, Tables, kept_in, row_at}
 use Rattle.ob_tables.proofs.Along.{Leads, link_held, plain_is}
 use Rattle.ob_tables.proofs.KnownFields.{Field-at, is_there, some_or_none, tell_and, there_is, told_and}
 use Rattle.ob_tables.proofs.NamedBack.{naming-there}

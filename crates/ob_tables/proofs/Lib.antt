@@ -7,6 +7,7 @@ pub mod FitTables
 pub mod Edits
 pub mod Sources
 pub mod Rising
+pub mod OneRow
 -- The test of edits.
 pub mod Apart
 pub mod KeyTests
@@ -26,9 +27,30 @@ pub mod Heights
 pub mod Settled
 pub mod Whole
 pub mod FromScratch
+pub mod Valued
 -- Evaluations.
 pub mod Within
 pub mod EndsOf
 pub mod Kinded
+pub mod TypedValues
 pub mod Settling
 pub mod Listing
+-- What is broken.
+pub mod Finds
+pub mod RowIds
+pub mod PlainCells
+pub mod Counted
+pub mod Stepping
+pub mod Everywhere
+pub mod FormulaBreaks
+pub mod Places
+pub mod Circles
+pub mod TreeLaws
+pub mod InTrees
+pub mod Moved
+pub mod Squeezed
+pub mod FrontOrder
+pub mod SharedSets
+pub mod Neighbours
+pub mod SetValues
+pub mod ListedMembers

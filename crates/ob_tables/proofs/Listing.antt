@@ -12,7 +12,7 @@ use Rattle.std.specs.Prelude.{Vec}
 use Rattle.std.specs.BTreeMap as tree
 use Rattle.std.specs.BTreeMap.{BTreeMap}
 use Rattle.std.proofs.lemmas.Option.{same_Some}
-use Rattle.ob_io.specs.declared.store.RowKey.{RowKey}
+use Rattle.ob_base.specs.declared.id.RowKey.{RowKey}
 use Rattle.ob_tables.specs.declared.index.Back.{Back}
 use Rattle.std.specs.declared.cmp.Ordering.{Ordering}
 use Rattle.std.specs.declared.cmp.Ordering.TheVariants.{Less, Equal, Greater}
@@ -26,9 +26,9 @@ use Rattle.ob_base.specs.declared.id.RecId.{RecId}
 use Rattle.ob_base.specs.declared.value.Value.{Value}
 use Rattle.ob_base.specs.declared.value.Value.TheVariants as value
 use Rattle.ob_tables.specs.Index.{AreIndexes, IsIndex, back_order, list_if}
-use Rattle.ob_tables.specs.Plain.{names, naming}
-use Rattle.ob_tables.specs.Rooms.{targets_of}
-use Rattle.ob_tables.specs.Tables.{PlainRow, Tables, kept_in, rows_in}
+use Rattle.ob_schema.specs.Plain.{names, naming}
+use Rattle.ob_schema.specs.Plain.{targets_of}
+use Rattle.ob_schema.specs.Tables.{PlainRow, Tables, kept_in, rows_in}
 use Rattle.ob_tables.proofs.Rising.{chosen-more, chosen-passed, chosen_ids, id_cmp, ids-rise, pushed, shown_entry}
 
 -- the number of an id

@@ -10,11 +10,11 @@ use Rattle.ob_base.specs.declared.id.FieldNo.{FieldNo}
 use Rattle.ob_base.specs.declared.id.ModelNo.{ModelNo}
 use Rattle.ob_base.specs.declared.id.RecId.{RecId}
 use Rattle.ob_expr.specs.Reads.{IsAmong}
-use Rattle.ob_io.specs.declared.store.RowKey.{RowKey}
-use Rattle.ob_io.specs.Store.{row_key_cmp}
+use Rattle.ob_base.specs.declared.id.RowKey.{RowKey}
+use Rattle.ob_base.specs.Ids.{row_key_cmp}
 use Rattle.ob_io.proofs.Shown.{rows_total}
-use Rattle.ob_tables.specs.Plain.{names, naming}
-use Rattle.ob_tables.specs.Tables.{PlainRow, Tables, key_of, kept_in, row_at, rows_in}
+use Rattle.ob_schema.specs.Plain.{names, naming}
+use Rattle.ob_schema.specs.Tables.{PlainRow, Tables, key_of, kept_in, row_at, rows_in}
 
 -- it is one of them
 abbrev pub Stands : {X : Type 0} → X → List X → Type 0

@@ -16,10 +16,10 @@ use Rattle.std.specs.BTreeMap.{BTreeMap}
 use Rattle.ob_base.specs.declared.id.ModelNo.{ModelNo}
 use Rattle.ob_base.specs.declared.id.RecId.{RecId}
 use Rattle.ob_base.specs.declared.value.Value.{Value}
-use Rattle.ob_io.specs.declared.store.RowKey.{RowKey}
-use Rattle.ob_io.specs.Store.{row_key_cmp}
+use Rattle.ob_base.specs.declared.id.RowKey.{RowKey}
+use Rattle.ob_base.specs.Ids.{row_key_cmp}
 use Rattle.ob_tables.specs.Rooms.{shown_row}
-use Rattle.ob_tables.specs.Tables.{PlainRow, Tables, ids_in}
+use Rattle.ob_schema.specs.Tables.{PlainRow, Tables, ids_in}
 
 -- ids by their numbers
 abbrev pub id_cmp : RecId → RecId → Ordering

@@ -17,9 +17,9 @@ use Rattle.ob_schema.specs.declared.info.Origin.TheVariants as origin
 use Rattle.ob_schema.specs.declared.info.ParentInfo.{ParentInfo}
 use Rattle.ob_schema.specs.Models.{HasKeysOf, IsDelegatedIn, IsOriginIn, IsParentIn, IsPlainTo, IsRegistry, field_at, is_delegated_from, is_given_from, model_at}
 use Rattle.ob_schema.proofs.Anys.{Any-none}
-use Rattle.ob_tables.specs.Tied.{IsTied}
-use Rattle.ob_tables.specs.Tables.{Fits, Tables}
-use Rattle.ob_tables.specs.Val.{IsVal, behind, value_by, value_in}
+use Rattle.ob_schema.specs.Tied.{IsTied}
+use Rattle.ob_schema.specs.Tables.{Fits, Tables}
+use Rattle.ob_schema.specs.Val.{IsVal, behind, value_by, value_in}
 use Rattle.ob_tables.proofs.Along.{plain_is}
 use Rattle.ob_tables.proofs.Heights.{computed_settles}
 use Rattle.ob_tables.proofs.KnownFields.{Any-at_all, Field, Field-at, known_at, some_or_none, told_and}

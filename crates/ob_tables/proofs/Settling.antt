@@ -35,12 +35,12 @@ use Rattle.ob_schema.specs.declared.info.ModelInfo.{ModelInfo}
 use Rattle.ob_schema.specs.declared.info.Origin.{Origin}
 use Rattle.ob_schema.specs.declared.info.Origin.TheVariants as origin
 use Rattle.ob_schema.specs.Models.{IsFormulaIn, IsRouted, field_at, is_computed_from, is_delegated_from, is_given_from}
-use Rattle.ob_tables.specs.After.{unset_value}
-use Rattle.ob_tables.specs.Limited.{limited}
-use Rattle.ob_tables.specs.Plain.{plain_at}
+use Rattle.ob_definition.specs.Values.{initial_value}
+use Rattle.ob_schema.specs.Limited.{limited}
+use Rattle.ob_schema.specs.Plain.{plain_at}
 use Rattle.ob_tables.specs.Settling.{AreOutcomes, FailsAt, KeepsAll, Lacks, TellsLimited, IsComputedCell, IsFormulaOutcome, IsOutcomeOf, IsSettled, Tells, ends_of, had_in, held_in, held_or, lack_for, reason_of, row_named, values_of}
-use Rattle.ob_tables.specs.Tables.{PlainRow, Tables, row_at}
-use Rattle.ob_tables.specs.Val.{behind, formula_value, or_inherited, value_by}
+use Rattle.ob_schema.specs.Tables.{PlainRow, Tables, row_at}
+use Rattle.ob_schema.specs.Val.{behind, formula_value, or_inherited, value_by}
 use Rattle.ob_tables.specs.Faults.{HasNoValue}
 use Rattle.ob_tables.specs.declared.fault.ScratchFault.{ScratchFault}
 use Rattle.ob_tables.specs.declared.fault.ScratchFault.TheVariants as scratch
@@ -330,17 +330,17 @@ module _ (models : List ModelInfo) (tables : Tables) (known : AreSound models ta
 
   -- the value of a delegated cell
   pub delegated-value : (c : Cell) (info : FieldInfo) (at : Delegation) → IsSome (row_at tables c.model c.id) → field_at models c.model c.field ≡ Some info → info.origin ≡ origin.Delegated at
-      → values c ≡ and_then (values (record c { field = at.link })) (follow (λ id. values (behind models tables at id)) (Ok (unset_value info.field_type)))
+      → values c ≡ and_then (values (record c { field = at.link })) (follow (λ id. values (behind models tables at id)) (Ok (initial_value info.field_type)))
   delegated-value c info at there found from =
       let row = is_there (row_at tables c.model c.id) there in values-law models tables known c ∙ value_there models tables values c row.0 info (origin.Delegated at) row.1 found from
 
   -- by the link's plain value
   pub behind-value : (c : Cell) (info : FieldInfo) (at : Delegation) → IsSome (row_at tables c.model c.id) → field_at models c.model c.field ≡ Some info → info.origin ≡ origin.Delegated at
-      → values c ≡ and_then (value_at (record c { field = at.link }) (plain_at tables models (record c { field = at.link }))) (follow (λ id. values (behind models tables at id)) (Ok (unset_value info.field_type)))
+      → values c ≡ and_then (value_at (record c { field = at.link }) (plain_at tables models (record c { field = at.link }))) (follow (λ id. values (behind models tables at id)) (Ok (initial_value info.field_type)))
   behind-value c info at there found from =
       let to = Behind-at models c.model c.field info at known.registry found from in
       delegated-value c info at there found from
-      ∙ ap (λ (m : Result Value Lack). and_then m (follow (λ id. values (behind models tables at id)) (Ok (unset_value info.field_type))))
+      ∙ ap (λ (m : Result Value Lack). and_then m (follow (λ id. values (behind models tables at id)) (Ok (initial_value info.field_type))))
       (given-value (record c { field = at.link }) to.link there to.link_at (ap is_given_from to.plain))
 
   -- the link is set or not
@@ -362,23 +362,23 @@ module _ (models : List ModelInfo) (tables : Tables) (known : AreSound models ta
 
   -- by what the link names
   behind-named : (c : Cell) (info : FieldInfo) (at : Delegation) (v : Value) → IsSome (row_at tables c.model c.id) → field_at models c.model c.field ≡ Some info → info.origin ≡ origin.Delegated at
-      → plain_at tables models (record c { field = at.link }) ≡ Some v → values c ≡ option_map_or (λ id. values (behind models tables at id)) (row_named v) (Ok (unset_value info.field_type))
+      → plain_at tables models (record c { field = at.link }) ≡ Some v → values c ≡ option_map_or (λ id. values (behind models tables at id)) (row_named v) (Ok (initial_value info.field_type))
   behind-named c info at v there found from holds =
       behind-value c info at there found from
-      ∙ ap (λ (o : Option Value). and_then (value_at (record c { field = at.link }) o) (follow (λ id. values (behind models tables at id)) (Ok (unset_value info.field_type)))) holds
-      ∙ follow-named (λ id. values (behind models tables at id)) (Ok (unset_value info.field_type)) v
+      ∙ ap (λ (o : Option Value). and_then (value_at (record c { field = at.link }) o) (follow (λ id. values (behind models tables at id)) (Ok (initial_value info.field_type)))) holds
+      ∙ follow-named (λ id. values (behind models tables at id)) (Ok (initial_value info.field_type)) v
 
   -- where the link is set, the cell has what the one behind it has
   pub behind-set : (c : Cell) (info : FieldInfo) (at : Delegation) (v : Value) (id : RecId) → IsSome (row_at tables c.model c.id) → field_at models c.model c.field ≡ Some info → info.origin ≡ origin.Delegated at
       → plain_at tables models (record c { field = at.link }) ≡ Some v → row_named v ≡ Some id → values c ≡ values (behind models tables at id)
   behind-set c info at v id there found from holds named =
-      behind-named c info at v there found from holds ∙ ap (λ (o : Option RecId). option_map_or (λ id. values (behind models tables at id)) o (Ok (unset_value info.field_type))) named
+      behind-named c info at v there found from holds ∙ ap (λ (o : Option RecId). option_map_or (λ id. values (behind models tables at id)) o (Ok (initial_value info.field_type))) named
 
   -- where it is unset, it is unset
   pub behind-unset : (c : Cell) (info : FieldInfo) (at : Delegation) (v : Value) → IsSome (row_at tables c.model c.id) → field_at models c.model c.field ≡ Some info → info.origin ≡ origin.Delegated at
-      → plain_at tables models (record c { field = at.link }) ≡ Some v → row_named v ≡ None → values c ≡ Ok (unset_value info.field_type)
+      → plain_at tables models (record c { field = at.link }) ≡ Some v → row_named v ≡ None → values c ≡ Ok (initial_value info.field_type)
   behind-unset c info at v there found from holds named =
-      behind-named c info at v there found from holds ∙ ap (λ (o : Option RecId). option_map_or (λ id. values (behind models tables at id)) o (Ok (unset_value info.field_type))) named
+      behind-named c info at v there found from holds ∙ ap (λ (o : Option RecId). option_map_or (λ id. values (behind models tables at id)) o (Ok (initial_value info.field_type))) named
 
 -- ---- many cells
 

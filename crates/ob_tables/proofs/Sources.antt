@@ -19,8 +19,8 @@ use Rattle.ob_schema.specs.Models.{HasModel, IsField, IsModel, field_at, fields_
 use Rattle.ob_schema.specs.declared.info.FieldInfo.{FieldInfo}
 use Rattle.ob_schema.specs.declared.info.ModelInfo.{ModelInfo}
 use Rattle.ob_schema.specs.declared.info.Origin.TheVariants as origin
-use Rattle.ob_tables.specs.Plain.{naming, naming_back, plain_at, plain_by, plain_from}
-use Rattle.ob_tables.specs.Tables.{Fits, IsRowOf, PlainRow, Tables, kept_at, row_at}
+use Rattle.ob_schema.specs.Plain.{naming, naming_back, plain_at, plain_by, plain_from}
+use Rattle.ob_schema.specs.Tables.{Fits, IsRowOf, PlainRow, Tables, kept_at, row_at}
 use Rattle.ob_tables.proofs.Columns.{keeps, row-has}
 use Rattle.ob_tables.proofs.FitTables.{known_at}
 use Rattle.ob_tables.proofs.Values.{keeps-fields}
@@ -69,7 +69,7 @@ module _ (models : List ModelInfo) (t : Tables) (cell : Cell) (m : ModelInfo) (i
   in_model = sym (ap (option_and_then (λ i. numbered (fields_of i) cell.field.0)) at) ∙ field
 
   -- the registry's law of the field
-  its_law : IsField models cell.model m info
+  pub its_law : IsField models cell.model m info
   its_law = all-numbered (IsField models cell.model m) (fields_of m) cell.field.0 info law.fields in_model
 
   -- a plain field of a row that is there
@@ -79,7 +79,7 @@ module _ (models : List ModelInfo) (t : Tables) (cell : Cell) (m : ModelInfo) (i
       ∙ ap (λ from. option_and_then (plain_from t from info cell.field cell.id) (row_at t cell.model cell.id)) plain
       ∙ ap (option_and_then (λ r. Some (plain_by t info.inverse info.mirror info cell.field cell.id r))) is
 
-  by_back : (inverse mirror : Option FieldNo) (back : FieldNo) (row : PlainRow) → option_or inverse mirror ≡ Some back → plain_by t inverse mirror info cell.field cell.id row ≡ naming_back t info.relation back cell.id
+  pub by_back : (inverse mirror : Option FieldNo) (back : FieldNo) (row : PlainRow) → option_or inverse mirror ≡ Some back → plain_by t inverse mirror info cell.field cell.id row ≡ naming_back t info.relation back cell.id
   by_back (Some inverse) mirror back row is = ap (λ b. naming_back t info.relation b cell.id) (same_Some inverse back is)
   by_back None (Some mirror) back row is = ap (λ b. naming_back t info.relation b cell.id) (same_Some mirror back is)
   by_back None None back row is = cc
@@ -103,7 +103,7 @@ module _ (models : List ModelInfo) (t : Tables) (cell : Cell) (m : ModelInfo) (i
         plain-there plain row.0 row.1 ∙ ap Some (by_back info.inverse info.mirror back row.0 is ∙ ap (λ r. naming_back t r back cell.id) leads),
       )
 
-  not_one2many : (inverse mirror : Option FieldNo) → option_or inverse mirror ≡ None → is_some inverse ≡ is_one2many info.field_type → (not (is_one2many info.field_type) && is_none mirror) ≡ true
+  pub not_one2many : (inverse mirror : Option FieldNo) → option_or inverse mirror ≡ None → is_some inverse ≡ is_one2many info.field_type → (not (is_one2many info.field_type) && is_none mirror) ≡ true
   not_one2many (Some inverse) mirror none one = cc
   not_one2many None (Some mirror) none one = cc
   not_one2many None None none one = ap (λ b. not b && true) (sym one)

@@ -19,11 +19,11 @@ use Rattle.ob_schema.specs.declared.info.ModelInfo.{ModelInfo}
 use Rattle.ob_schema.specs.declared.info.Origin.{Origin}
 use Rattle.ob_schema.specs.declared.info.Origin.TheVariants as origin
 use Rattle.ob_schema.specs.Models.{field_at, is_given_from}
-use Rattle.ob_tables.specs.After.{unset_value}
-use Rattle.ob_tables.specs.Limited.{is_short, limited, text_limit}
-use Rattle.ob_tables.specs.Plain.{plain_at, plain_from}
-use Rattle.ob_tables.specs.Tables.{PlainRow, Tables, row_at}
-use Rattle.ob_tables.specs.Val.{IsVal, behind, formula_value, or_inherited, value_by, value_from, value_in}
+use Rattle.ob_definition.specs.Values.{initial_value}
+use Rattle.ob_schema.specs.Limited.{is_short, limited, text_limit}
+use Rattle.ob_schema.specs.Plain.{plain_at, plain_from}
+use Rattle.ob_schema.specs.Tables.{PlainRow, Tables, row_at}
+use Rattle.ob_schema.specs.Val.{IsVal, behind, formula_value, or_inherited, value_by, value_from, value_in}
 use Rattle.ob_tables.proofs.Expressions.{AreLaws}
 
 -- what cells hold, by what they have
@@ -36,7 +36,7 @@ held-value_at cell None = refl
 held-value_at cell (Some v) = refl
 
 -- what a cell inherits is the same where the cell that it lacks has the same
-inherit_same : (f g : Cell → Result Value Lack) (m : Result Value Lack) → ((d : Cell) → m ≡ Err (unread d) → f d ≡ g d) → or_inherited f m ≡ or_inherited g m
+pub inherit_same : (f g : Cell → Result Value Lack) (m : Result Value Lack) → ((d : Cell) → m ≡ Err (unread d) → f d ≡ g d) → or_inherited f m ≡ or_inherited g m
 inherit_same f g (Ok v) same = refl
 inherit_same f g (Err overflow) same = refl
 inherit_same f g (Err too_long) same = refl
@@ -150,7 +150,7 @@ module _ (models : List ModelInfo) (tables : Tables) where
       settles_by n c info (origin.Delegated at) found from (λ f g deep deeper.
       let first : f (record c { field = at.link }) ≡ g (record c { field = at.link }) = link f g deep deeper in
       let second : (id : RecId) → f (behind models tables at id) ≡ g (behind models tables at id) = λ id. target id f g deep deeper in
-      λ i. and_then (first i) (follow (λ id. second id i) (Ok (unset_value info.field_type))))
+      λ i. and_then (first i) (follow (λ id. second id i) (Ok (initial_value info.field_type))))
 
   -- a computed cell, by those along the paths of its formula
   pub settles_computed : AreLaws → (n : ℕ) (c : Cell) (info : FieldInfo) (formula : Formula) → field_at models c.model c.field ≡ Some info → info.origin ≡ origin.Computed formula

@@ -19,7 +19,8 @@ use Rattle.ob_schema.specs.declared.info.FieldInfo.{FieldInfo}
 use Rattle.ob_schema.specs.declared.info.ModelInfo.{ModelInfo}
 use Rattle.ob_schema.specs.declared.info.Origin.{Origin}
 use Rattle.ob_schema.specs.declared.info.Origin.TheVariants as origin
-use Rattle.ob_tables.specs.After.{given_for, row_of, unset_value}
+use Rattle.ob_definition.specs.Values.{initial_value}
+use Rattle.ob_tables.specs.After.{given_for, row_of}
 use Rattle.ob_tables.specs.Fitting.{AreFitValues, IsFitIn}
 use Rattle.ob_tables.proofs.Shown.{apart, itself}
 use Rattle.ob_tables.proofs.Columns.{get-row_of, keeps, kept_as}
@@ -117,8 +118,8 @@ given-all info values conditions fit q =
     l : Option Value
     l = lookup (eq_by_cmp nat_cmp q) (by_number values)
 
-    by_test : (field : FieldInfo) (b : Bool) → (b ≡ false → l ≡ None) → option_or l (cond b (Some (unset_value field.field_type)) None) ≡ cond b (Some (given_for values (q, field))) None
-    by_test field true none = one_given l (unset_value field.field_type) ∙ ap (λ o. Some (unwrap_or o (unset_value field.field_type))) (same_lookup q values)
+    by_test : (field : FieldInfo) (b : Bool) → (b ≡ false → l ≡ None) → option_or l (cond b (Some (initial_value field.field_type)) None) ≡ cond b (Some (given_for values (q, field))) None
+    by_test field true none = one_given l (initial_value field.field_type) ∙ ap (λ o. Some (unwrap_or o (initial_value field.field_type))) (same_lookup q values)
     by_test field false none = ap (λ o. option_or o None) (none refl)
 
     by_case : (found : Option FieldInfo) → (keeps found ≡ false → l ≡ None) → option_or l (kept_as (given_for []) q found) ≡ kept_as (given_for values) q found

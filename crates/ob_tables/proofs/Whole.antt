@@ -17,11 +17,11 @@ use Rattle.ob_schema.specs.declared.info.ModelInfo.{ModelInfo}
 use Rattle.ob_schema.specs.declared.info.Origin.{Origin}
 use Rattle.ob_schema.specs.declared.info.Origin.TheVariants as origin
 use Rattle.ob_schema.specs.Models.{IsRegistry, IsRouted, field_at, is_given_from}
-use Rattle.ob_tables.specs.After.{unset_value}
-use Rattle.ob_tables.specs.Tied.{IsTied}
-use Rattle.ob_tables.specs.Plain.{id_value, plain_at, plain_by, plain_from}
-use Rattle.ob_tables.specs.Tables.{Fits, PlainRow, Tables, row_at}
-use Rattle.ob_tables.specs.Val.{behind, formula_value, or_inherited, value_in}
+use Rattle.ob_definition.specs.Values.{initial_value}
+use Rattle.ob_schema.specs.Tied.{IsTied}
+use Rattle.ob_schema.specs.Plain.{id_value, plain_at, plain_by, plain_from}
+use Rattle.ob_schema.specs.Tables.{Fits, PlainRow, Tables, row_at}
+use Rattle.ob_schema.specs.Val.{behind, formula_value, or_inherited, value_in}
 use Rattle.ob_tables.proofs.Along.{along_one}
 use Rattle.ob_tables.proofs.KnownFields.{Field-at, Formula-at, is_there, there_is}
 use Rattle.ob_tables.proofs.Settled.{Behind, Behind-at, all_good}
@@ -38,13 +38,13 @@ inherited_unread g (Err zero_divisor) other is = absurd cc
 inherited_unread g (Err (unread d)) other is = (d, refl, is)
 
 -- nothing is not there
-not_there : {X : Type 0} (o : Option X) → o ≡ None → IsSome o → ⊥
+pub not_there : {X : Type 0} (o : Option X) → o ≡ None → IsSome o → ⊥
 not_there None is there = cc
 not_there (Some x) is there = cc
 
 module _ (models : List ModelInfo) (tables : Tables) where
   -- a cell that its row is given has a value
-  given_value : (n : ℕ) (f : Cell → Result Value Lack) (c : Cell) (row : PlainRow) (info : FieldInfo) → IsDeep models tables (suc n) f → row_at tables c.model c.id ≡ Some row → field_at models c.model c.field ≡ Some info
+  pub given_value : (n : ℕ) (f : Cell → Result Value Lack) (c : Cell) (row : PlainRow) (info : FieldInfo) → IsDeep models tables (suc n) f → row_at tables c.model c.id ≡ Some row → field_at models c.model c.field ≡ Some info
       → is_given_from info.origin ≡ true → (v : Value) × (f c ≡ Ok v) × (plain_at tables models c ≡ Some v)
   given_value n f c row info deep there at given = by info.origin refl given
     where
@@ -79,14 +79,14 @@ module _ (laws : AreLaws) (models : List ModelInfo) (tables : Tables) (registry 
       let known = Behind-at models c.model c.field info at registry found from in
       let has = given_value models tables 0 deep.0 (link_of at) row.0 known.link (deep_less models tables 1 n deep.0 some deep.1) row.1 known.link_at (ap is_given_from known.plain) in
       let went = sym (deep.2 c ∙ value_there models tables deep.0 c row.0 info (origin.Delegated at) row.1 found from) ∙ is in
-      by at known row.0 row.1 deep.0 deep.1 other target has.0 has.2 (sym (ap (λ (m : Result Value Lack). and_then m (follow (λ id. deep.0 (behind models tables at id)) (Ok (unset_value info.field_type)))) has.1) ∙ went)
+      by at known row.0 row.1 deep.0 deep.1 other target has.0 has.2 (sym (ap (λ (m : Result Value Lack). and_then m (follow (λ id. deep.0 (behind models tables at id)) (Ok (initial_value info.field_type)))) has.1) ∙ went)
     where
       link_of : Delegation → Cell
       link_of at = record c { field = at.link }
 
       by : (at : Delegation) → Behind models c.model at → (row : PlainRow) → row_at tables c.model c.id ≡ Some row → (g : Cell → Result Value Lack)
           → IsDeep models tables n g → (other : Cell) → ((id : RecId) → Reads n (behind models tables at id))
-          → (v : Value) → plain_at tables models (record c { field = at.link }) ≡ Some v → follow (λ id. g (behind models tables at id)) (Ok (unset_value info.field_type)) v ≡ Err (unread other) → ⊥
+          → (v : Value) → plain_at tables models (record c { field = at.link }) ≡ Some v → follow (λ id. g (behind models tables at id)) (Ok (initial_value info.field_type)) v ≡ Err (unread other) → ⊥
       by at known row there g deep other target (value.Ref id) holds is =
           let leads : LeadsTo (plain_at tables models (record c { field = at.link })) id = subst (λ (o : Option Value). LeadsTo o id) (sym holds) refl in
           let there_too = step_there models tables registry tied (record c { field = at.link }) row known.link at.model id there known.link_at known.plain known.leads leads in

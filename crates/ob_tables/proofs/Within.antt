@@ -14,10 +14,10 @@ use Rattle.ob_schema.specs.declared.info.ModelInfo.{ModelInfo}
 use Rattle.ob_schema.specs.declared.info.Origin.{Origin}
 use Rattle.ob_schema.specs.declared.info.Origin.TheVariants as origin
 use Rattle.ob_schema.specs.Models.{IsRegistry, field_at, is_given_from}
-use Rattle.ob_tables.specs.Tied.{IsTied}
+use Rattle.ob_schema.specs.Tied.{IsTied}
 use Rattle.ob_tables.specs.Settling.{IsWithin, had_in, values_of}
-use Rattle.ob_tables.specs.Tables.{Fits, Tables, row_at}
-use Rattle.ob_tables.specs.Val.{IsVal, enough, val}
+use Rattle.ob_schema.specs.Tables.{Fits, Tables, row_at}
+use Rattle.ob_schema.specs.Val.{IsVal, enough, val}
 use Rattle.ob_tables.proofs.Expressions.{AreLaws}
 use Rattle.ob_tables.proofs.FromScratch.{is_val, low_strata, whole}
 use Rattle.ob_tables.proofs.Settled.{all_good}

@@ -1,5 +1,5 @@
 -- What edits make of tables, without any test.
-use Rattle.std.specs.Prelude.{◌+◌, ◌==◌, ℕ, List, [], ◌∷◌, map, max, unwrap_or, pos, false}
+use Rattle.std.specs.Prelude.{◌+◌, ◌==◌, ℕ, List, [], ◌∷◌, map, max, unwrap_or}
 use Rattle.std.specs.Option.{option_map_or}
 use Rattle.std.specs.Ordering.{nat_cmp}
 use Rattle.std.specs.FinMap as finite
@@ -8,27 +8,17 @@ use Rattle.ob_base.specs.declared.id.FieldNo.{FieldNo}
 use Rattle.ob_base.specs.declared.id.ModelNo.{ModelNo}
 use Rattle.ob_base.specs.declared.id.RecId.{RecId}
 use Rattle.ob_base.specs.declared.value.Value.{Value}
-use Rattle.ob_base.specs.declared.value.Value.TheVariants as value
-use Rattle.ob_definition.specs.declared.field_type.FieldType.{FieldType}
-use Rattle.ob_definition.specs.declared.field_type.FieldType.TheVariants as type
+use Rattle.ob_definition.specs.Values.{initial_value}
 use Rattle.ob_schema.specs.declared.info.ModelInfo.{ModelInfo}
 use Rattle.ob_schema.specs.Fields.{Column, plain_columns}
 use Rattle.ob_schema.specs.Models.{model_at}
 use Rattle.ob_tables.specs.declared.edit.Edit.{Edit}
 use Rattle.ob_tables.specs.declared.edit.Edit.TheVariants as edit
-use Rattle.ob_tables.specs.Tables.{PlainRow, Tables, key_of, next_of, row_at}
-
--- what a field of a type has without a value of its own: 0, false, unset or the empty list
-abbrev pub unset_value : FieldType → Value
-unset_value type.Boolean = value.Bool false
-unset_value type.Integer = value.Int (pos 0)
-unset_value type.One2many = value.Refs []
-unset_value type.Many2many = value.Refs []
-unset_value _ = value.Nil
+use Rattle.ob_schema.specs.Tables.{PlainRow, Tables, key_of, next_of, row_at}
 
 -- the value that is given for a field, by its number
 abbrev pub given_for : List (FieldNo × Value) → Column → Value
-given_for values column = unwrap_or (lookup (λ field. field.0 == column.0) values) (unset_value column.1.field_type)
+given_for values column = unwrap_or (lookup (λ field. field.0 == column.0) values) (initial_value column.1.field_type)
 
 -- a row of these values: one for each plain kept field of the model
 abbrev pub row_of : ModelInfo → List (FieldNo × Value) → PlainRow

@@ -4,10 +4,10 @@ use Rattle.std.specs.Coded.{Coded, code_by, coded×, coded_ℕ}
 use Rattle.std.specs.Ordering.{nat_cmp}
 use Rattle.std.specs.FinMap as finite
 use Rattle.ob_base.specs.declared.value.Value.{Value}
-use Rattle.ob_io.specs.declared.store.RowKey.{RowKey}
-use Rattle.ob_io.specs.Store.{row_key_cmp}
+use Rattle.ob_base.specs.declared.id.RowKey.{RowKey}
+use Rattle.ob_base.specs.Ids.{row_key_cmp}
 use Rattle.ob_schema.specs.declared.info.ModelInfo.{ModelInfo}
-use Rattle.ob_tables.specs.Tables.{PlainRow, Standing, Tables}
+use Rattle.ob_schema.specs.Tables.{PlainRow, Standing, Tables}
 
 abbrev coded_key : Coded RowKey
 coded_key = code_by (ℕ × ℕ) (coded× coded_ℕ coded_ℕ) (λ k. (k.model.0, k.id.0)) (λ p. record { model = record { 0 = p.0 }; id = record { 0 = p.1 } }) (λ _. refl)

@@ -5,8 +5,8 @@ use Rattle.ob_expr.specs.Computing.{overflow, too_long, zero_divisor}
 use Rattle.ob_schema.specs.declared.info.ModelInfo.{ModelInfo}
 use Rattle.ob_tables.specs.declared.fault.ScratchFault.{ScratchFault}
 use Rattle.ob_tables.specs.declared.fault.ScratchFault.TheVariants as scratch
-use Rattle.ob_tables.specs.Tables.{Tables, row_at}
-use Rattle.ob_tables.specs.Val.{val}
+use Rattle.ob_schema.specs.Tables.{Tables, row_at}
+use Rattle.ob_schema.specs.Val.{val}
 
 module _ (models : List ModelInfo) (tables : Tables) where
   -- the fault of a cell without a value: its row isn't there, or what it lacks

@@ -11,7 +11,7 @@ use Rattle.ob_schema.specs.declared.info.ModelInfo.{ModelInfo}
 use Rattle.ob_schema.specs.Built.{numbered}
 use Rattle.ob_schema.specs.Fields.{is_plain_kept}
 use Rattle.ob_schema.specs.Models.{FieldHas, HasModel, fields_of, model_at}
-use Rattle.ob_tables.specs.Givable.{IsGivable}
+use Rattle.ob_schema.specs.Fields.{IsGivable}
 use Rattle.ob_tables.specs.declared.edit.Edit.{Edit}
 use Rattle.ob_tables.specs.declared.edit.Edit.TheVariants as edit
 

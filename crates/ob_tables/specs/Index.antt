@@ -9,8 +9,8 @@ use Rattle.ob_base.specs.declared.id.FieldNo.{FieldNo}
 use Rattle.ob_base.specs.declared.id.ModelNo.{ModelNo}
 use Rattle.ob_base.specs.declared.id.RecId.{RecId}
 use Rattle.ob_tables.specs.declared.index.Back.{Back}
-use Rattle.ob_tables.specs.Plain.{naming}
-use Rattle.ob_tables.specs.Tables.{Tables}
+use Rattle.ob_schema.specs.Plain.{naming}
+use Rattle.ob_schema.specs.Tables.{Tables}
 
 -- the list of a row; of one that isn't there the empty one
 abbrev pub list_at : tree.BTreeMap ℕ (Vec RecId Global) → RecId → List RecId

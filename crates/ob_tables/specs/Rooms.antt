@@ -1,5 +1,5 @@
 -- Private: what the maps of the program show, and what its rooms tell one another.
-use Rattle.std.specs.Prelude.{◌≡◌, ℕ, List, [], ◌∷◌, map, Option, Some, None, unwrap_or}
+use Rattle.std.specs.Prelude.{◌≡◌, ℕ, List, map, Option, Some, None, unwrap_or}
 use Rattle.std.specs.List.{enumerate_from}
 use Rattle.std.specs.Ordering.{nat_cmp}
 use Rattle.std.specs.FinMap as finite
@@ -7,12 +7,12 @@ use Rattle.std.specs.BTreeMap as tree
 use Rattle.ob_base.specs.declared.id.RecId.{RecId}
 use Rattle.ob_base.specs.declared.value.Value.{Value}
 use Rattle.ob_base.specs.declared.value.Value.TheVariants as value
-use Rattle.ob_io.specs.declared.store.RowKey.{RowKey}
-use Rattle.ob_io.specs.Store.{row_key_cmp}
+use Rattle.ob_base.specs.declared.id.RowKey.{RowKey}
+use Rattle.ob_base.specs.Ids.{row_key_cmp}
 use Rattle.ob_schema.specs.Models.{HasModel}
 use Rattle.ob_schema.specs.declared.info.ModelInfo.{ModelInfo}
-use Rattle.ob_tables.specs.Plain.{id_value, naming}
-use Rattle.ob_tables.specs.Tables.{PlainRow, Standing, Tables}
+use Rattle.ob_schema.specs.Plain.{id_value, naming}
+use Rattle.ob_schema.specs.Tables.{PlainRow, Standing, Tables}
 use Rattle.ob_tables.specs.declared.tables.Source.{Source}
 use Rattle.ob_tables.specs.declared.tables.Source.TheVariants as source
 
@@ -30,12 +30,6 @@ shown_next_ids models next_ids = finite.from_entries {R = nat_cmp} (map (λ plac
 
 abbrev pub shown_tables : List ModelInfo → tree.BTreeMap RowKey (tree.BTreeMap ℕ Value) → tree.BTreeMap ℕ ℕ → Tables
 shown_tables models rows next_ids = record { rows = shown_rows rows; next_ids = shown_next_ids models next_ids }
-
--- the rows that a value names
-abbrev pub targets_of : Value → List RecId
-targets_of (value.Ref id) = id ∷ []
-targets_of (value.Refs ids) = ids
-targets_of _ = []
 
 -- where a plain cell has this value, it is from there
 abbrev pub Gives : Standing → RecId → Option Value → Source → Type 0

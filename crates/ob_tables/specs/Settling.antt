@@ -31,11 +31,11 @@ use Rattle.ob_tables.specs.declared.outcome.Unread.TheVariants as fault
 use Rattle.ob_tables.specs.declared.fault.ScratchFault.{ScratchFault}
 use Rattle.ob_tables.specs.declared.fault.ScratchFault.TheVariants as scratch
 use Rattle.ob_definition.specs.declared.field_type.FieldType.{FieldType}
-use Rattle.ob_tables.specs.Limited.{limited}
-use Rattle.ob_tables.specs.Plain.{plain_at}
-use Rattle.ob_tables.specs.Rooms.{targets_of}
-use Rattle.ob_tables.specs.Tables.{Tables, row_at}
-use Rattle.ob_tables.specs.Val.{formula_value, val}
+use Rattle.ob_schema.specs.Limited.{limited}
+use Rattle.ob_schema.specs.Plain.{plain_at}
+use Rattle.ob_schema.specs.Plain.{targets_of}
+use Rattle.ob_schema.specs.Tables.{Tables, row_at}
+use Rattle.ob_schema.specs.Val.{formula_value, val}
 
 -- the rows to which a cell leads by what it holds
 abbrev pub rows_led : Option Value → List RecId

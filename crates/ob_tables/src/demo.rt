@@ -1,6 +1,6 @@
 //! A registry for tests, and a short language for edits, cells and values over it.
 
-ghost use Rattle.std.specs.Prelude.{◌≡◌, ◌<◌, All, IfOk, IsTrue};
+ghost use Rattle.std.specs.Prelude.{◌≡◌, ◌<◌, All, IfOk, IsTrue, OnOk};
 ghost use Rattle.ob_schema.specs.Models.{HasModel};
 ghost use Rattle.ob_tables.specs.Fitting.{IsFitEdit};
 
@@ -367,10 +367,19 @@ pub(crate) fn after_fit<'a>(
     requires { tables.now.models ≡ schema.now }
     ensures { IfOk result (λ after. after.models ≡ schema.now) }
 {
-    if !all_fit(schema, edits) {
-        return Err(Fail::new("no fitting edit"));
-    }
+    test_fit(schema, edits)?;
     Ok(tables.after(edits)?)
+}
+
+/// That all edits fit.
+pub(crate) fn test_fit(schema: &Schema, edits: &[Edit]) -> Result<(), Fail>
+    ensures { OnOk result (All (IsFitEdit schema.now) edits.now) }
+{
+    if all_fit(schema, edits) {
+        Ok(())
+    } else {
+        Err(Fail::new("no fitting edit"))
+    }
 }
 
 /// Whether all edits fit.

@@ -11,18 +11,18 @@ ghost use Rattle.ob_expr.specs.Reads.{ComesToPaths, IsAlong, LacksAlongPaths, Re
 ghost use Rattle.ob_expr.specs.TypedTree.{TypedTree, typed_tree_of};
 ghost use Rattle.ob_schema.specs.Models.{IsRegistry, field_at, is_delegated_from};
 ghost use Rattle.ob_schema.specs.declared.info.Origin.TheVariants as origin;
-ghost use Rattle.ob_tables.specs.After.{unset_value};
-ghost use Rattle.ob_tables.specs.Tied.{IsTied};
+ghost use Rattle.ob_definition.specs.Values.{initial_value};
+ghost use Rattle.ob_schema.specs.Tied.{IsTied};
 ghost use Rattle.ob_tables.specs.Faults.{HasNoValue};
-ghost use Rattle.ob_tables.specs.Limited.{limited, text_limit};
+ghost use Rattle.ob_schema.specs.Limited.{limited, text_limit};
 ghost use Rattle.ob_tables.specs.Settling.{AreOutcomes, IsFormulaOutcome, IsSettled, IsWithin, KeepsAll, Lacks, TellsLimited, had_in, lack_for, reason_of, row_named, values_of};
-ghost use Rattle.ob_tables.specs.Tables.{Fits, row_at};
-ghost use Rattle.ob_tables.specs.Val.{val};
+ghost use Rattle.ob_schema.specs.Tables.{Fits, row_at};
+ghost use Rattle.ob_schema.specs.Val.{val};
 
 use crate::fault::ScratchFault;
 use crate::outcome::{Outcome, Outcomes, Reason, Unread};
 use crate::reading::{Given, Reader};
-use crate::row::unset_value;
+use crate::row::initial_value;
 use ob_base::limits::{MAX_CHAR_BYTES, MAX_STRATUM, MAX_TEXT_BYTES, MAX_TREE_DEPTH};
 use ob_base::{Cell, FieldNo, ModelNo, NoMemory, RecId, Silent, Steps, Value, cell_cmp};
 use ob_expr::{EvalFault, eval, reads_along_paths};
@@ -77,7 +77,7 @@ impl Given<'_, '_> {
                 id,
                 field: at.field,
             }),
-            None => Ok(unset_value(self.alloc(), info.field_type)),
+            None => Ok(initial_value(self.alloc(), info.field_type)),
         }
     }
 
@@ -188,7 +188,7 @@ impl Given<'_, '_> {
     }
 
     /// What holds of all tables, and of what expressions read.
-    fn laws(&self)
+    pub(crate) fn laws(&self)
         ensures registry { IsRegistry self.now.tables.now.models }
         ensures fits { Fits self.now.tables.now.models self.now.tables.now.tables }
         ensures meaning { (tree : TypedTree) → ReadsAlongPaths tree }

@@ -8,7 +8,7 @@ ghost use Rattle.ob_base.specs.Limits.{max_fields};
 ghost use Rattle.ob_base.specs.declared.value.Value.TheVariants as values;
 ghost use Rattle.ob_schema.specs.Models.{FieldHas};
 ghost use Rattle.ob_tables.specs.Fitting.{AreFitIn, IsFitEdit, IsFitId, IsFitIn};
-ghost use Rattle.ob_tables.specs.Givable.{IsGivable};
+ghost use Rattle.ob_schema.specs.Fields.{IsGivable};
 
 use crate::edit::Edit;
 use ob_base::limits::{
@@ -117,7 +117,7 @@ fn is_givable(field: &FieldInfo, value: &Value) -> bool
         Value::Refs(ids) => {
             // The law of these lists: they rise.
             let _ = ids.as_slice();
-            field.field_type.is_many2many()
+            field.field_type.is_list()
         }
     }
 }

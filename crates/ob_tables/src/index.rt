@@ -7,9 +7,9 @@ ghost use Rattle.std.specs.Ordering.{nat_cmp};
 ghost use Rattle.ob_base.specs.declared.id.RecId.{RecId};
 ghost use Rattle.ob_schema.specs.Models.{HasModel};
 ghost use Rattle.ob_tables.specs.Index.{AreIndexes, IsIndex, list_at, list_if};
-ghost use Rattle.ob_tables.specs.Plain.{names};
+ghost use Rattle.ob_schema.specs.Plain.{names};
 ghost use Rattle.ob_tables.specs.Rooms.{shown_row};
-ghost use Rattle.ob_tables.specs.Tables.{kept_in};
+ghost use Rattle.ob_schema.specs.Tables.{kept_in};
 
 use crate::row::{PlainRow, targets_of};
 use crate::tables::Tables;

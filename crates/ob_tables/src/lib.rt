@@ -2,20 +2,29 @@
 //! scratch.
 //!
 //! Rooms: `edit` (what calls do to rows), `fitting` (which edits may be asked for), `tables`
-//! (the tables and their calls), `fault` (why a call gives no answer), `laws` (what the
-//! definitions give). Behind them stand `row` (the values of a row), `index` (which rows name a
-//! row), `reading` (what evaluations read), `outcome` (what they give) and `evaluating` (what is
-//! evaluated, and when).
+//! (the tables and their calls), `applying` (edits that are carried out where that is sound),
+//! `fault` (why a call gives no answer), `laws` (what the definitions give). Behind them stand
+//! `row` (the values of a row), `index` (which rows name a row), `reading` (what evaluations
+//! read), `outcome` (what they give) and `evaluating` (what is evaluated, and when); and for
+//! what is broken `soundness`, over `cells` (one by one), `unique` (sets of fields that no two
+//! rows share), `forest` (trees) and `formulas`, which add to `findings`.
 #![tactic(auto)]
 
+#[cfg(test)]
+mod apply_tests;
+mod applying;
+mod cells;
 #[cfg(test)]
 mod demo;
 mod edit;
 mod evaluating;
 mod fault;
+mod findings;
 #[cfg(test)]
 mod fit_tests;
 mod fitting;
+mod forest;
+mod formulas;
 mod index;
 mod laws;
 mod outcome;
@@ -23,12 +32,15 @@ mod reading;
 mod row;
 #[cfg(test)]
 mod scratch_tests;
+mod soundness;
 mod tables;
 #[cfg(test)]
 mod tests;
+mod unique;
 
+pub use applying::ApplyFault;
 pub use edit::Edit;
 pub use fault::ScratchFault;
 pub use fitting::fits;
-pub use laws::{after_in_turn, values_from_scratch};
+pub use laws::{after_in_turn, one_row_changes, reads_alone, sound_values, values_from_scratch};
 pub use tables::Tables;

@@ -6,7 +6,7 @@ ghost use Rattle.ob_expr.specs.Meaning.{row_at, row_of};
 ghost use Rattle.ob_expr.specs.TypedTree.{typed_tree_of};
 ghost use Rattle.ob_schema.specs.Models.{HasModel};
 ghost use Rattle.ob_tables.specs.Index.{AreIndexes};
-ghost use Rattle.ob_tables.specs.Plain.{naming, plain_at};
+ghost use Rattle.ob_schema.specs.Plain.{naming, plain_at};
 ghost use Rattle.ob_tables.specs.Settling.{ends_along, ends_of};
 
 use crate::index::{Back, Indexes, indexes_of, listed};

@@ -6,11 +6,13 @@ ghost use Rattle.std.specs.Ordering.{eq_by_cmp, nat_cmp};
 ghost use Rattle.ob_base.specs.Limits.{max_fields};
 ghost use Rattle.ob_base.specs.Rising.{IsRising};
 ghost use Rattle.ob_schema.specs.Models.{IsCondition};
-ghost use Rattle.ob_tables.specs.After.{row_of, unset_value};
+ghost use Rattle.ob_definition.specs.Values.{initial_value};
+ghost use Rattle.ob_tables.specs.After.{row_of};
 ghost use Rattle.ob_tables.specs.Fitting.{AreFitValues};
-ghost use Rattle.ob_tables.specs.Plain.{names};
-ghost use Rattle.ob_tables.specs.Rooms.{shown_row, targets_of};
-ghost use Rattle.ob_tables.specs.Tables.{kept_in};
+ghost use Rattle.ob_schema.specs.Plain.{names};
+ghost use Rattle.ob_schema.specs.Plain.{targets_of};
+ghost use Rattle.ob_tables.specs.Rooms.{shown_row};
+ghost use Rattle.ob_schema.specs.Tables.{kept_in};
 
 use ob_base::{FieldNo, NoMemory, RecId, RefList, Value};
 use ob_schema::{FieldType, ModelInfo};
@@ -46,15 +48,15 @@ fn unset_row(alloc: Global, info: &ModelInfo) -> Result<PlainRow, NoMemory>
     let mut row = BTreeMap::new(alloc);
     for (place, field) in info.fields.as_slice().iter().enumerate() {
         if field.is_plain_kept() {
-            row.insert(place as u16 + 1, unset_value(alloc, field.field_type))?;
+            row.insert(place as u16 + 1, initial_value(alloc, field.field_type))?;
         }
     }
     Ok(row)
 }
 
 /// What a field of a type has without a value of its own.
-pub(crate) fn unset_value(alloc: Global, field_type: FieldType) -> Value
-    ensures { result ≡ unset_value field_type }
+pub(crate) fn initial_value(alloc: Global, field_type: FieldType) -> Value
+    ensures { result ≡ initial_value field_type }
 {
     match field_type {
         FieldType::Boolean => Value::Bool(false),

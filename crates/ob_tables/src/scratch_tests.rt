@@ -2,8 +2,8 @@
 //! no others, of which a test can know that they are tied. What relations bring is the clauses'.
 
 ghost use Rattle.std.specs.Prelude.{◌≡◌, All, IsTrue, None};
-ghost use Rattle.ob_tables.specs.Tables.{Tables as Contents};
-ghost use Rattle.ob_tables.specs.Tied.{IsTied};
+ghost use Rattle.ob_schema.specs.Tables.{Tables as Contents};
+ghost use Rattle.ob_schema.specs.Tied.{IsTied};
 
 use crate::demo::{cell_of, sums_schema, tables_of, text_of};
 use crate::{ScratchFault, Tables};

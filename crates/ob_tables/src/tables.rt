@@ -10,21 +10,20 @@ ghost use Rattle.ob_schema.specs.Models.{HasModel, IsRegistry, field_at, is_give
 ghost use Rattle.ob_schema.specs.declared.info.Origin.{Origin};
 ghost use Rattle.ob_schema.specs.declared.info.Origin.TheVariants as origin;
 ghost use Rattle.ob_tables.specs.After.{after, edited, with_next_id};
-ghost use Rattle.ob_tables.specs.Tied.{IsTied};
+ghost use Rattle.ob_schema.specs.Tied.{IsTied};
 ghost use Rattle.ob_tables.specs.Faults.{HasNoValue};
 ghost use Rattle.ob_tables.specs.Fitting.{AreFitIn, IsFitEdit, IsFitId, IsFitValueAt};
-ghost use Rattle.ob_tables.specs.Plain.{id_value, naming, plain_at};
+ghost use Rattle.ob_schema.specs.Plain.{id_value, naming, plain_at};
 ghost use Rattle.ob_tables.specs.Rooms.{Gives, shown_row, shown_rows};
-ghost use Rattle.ob_tables.specs.Val.{val};
-ghost use Rattle.ob_tables.specs.Tables.{Fits, Standing, empty_tables, ids_in, key_of, kept_at, next_of, row_at, rows_in};
+ghost use Rattle.ob_schema.specs.Val.{val};
+ghost use Rattle.ob_schema.specs.Tables.{Fits, Standing, empty_tables, ids_in, key_of, kept_at, next_of, row_at, rows_in};
 ghost use Rattle.ob_tables.specs.declared.edit.Edit.TheVariants as edits;
 
 use crate::edit::Edit;
 use crate::fault::ScratchFault;
 use crate::reading::Given;
 use crate::row::{PlainRow, copy_row, names_by, new_row, put_value};
-use ob_base::{Cell, FieldNo, ModelNo, NoMemory, RecId, RefList, Value};
-use ob_io::RowKey;
+use ob_base::{Cell, FieldNo, ModelNo, NoMemory, RecId, RefList, RowKey, Value};
 use ob_schema::{FieldInfo, Origin, Schema};
 use std::alloc::Global;
 use std::collections::BTreeMap;
@@ -43,7 +42,7 @@ pub struct Tables<'a> {
 }
 
 impl<'a> Model for Tables<'a> {
-    ghost use Rattle.ob_tables.specs.Tables.{Fits, Standing};
+    ghost use Rattle.ob_schema.specs.Tables.{Fits, Standing};
     ghost use Rattle.ob_tables.specs.Rooms.{shown_tables};
     ghost use Rattle.ob_expr.specs.contracts.typed.Typed as typed;
     ghost use Rattle.std.specs.Coded.{codes};
@@ -171,7 +170,7 @@ impl<'a> Tables<'a> {
     }
 
     /// Whether a row is there.
-    fn has_row(&self, model: ModelNo, id: RecId) -> bool
+    pub(crate) fn has_row(&self, model: ModelNo, id: RecId) -> bool
         ensures { result ≡ is_some (row_at self.now.tables model id) }
     {
         self.rows.contains_key(&RowKey { model, id })
@@ -189,7 +188,7 @@ impl<'a> Tables<'a> {
     }
 
     /// What a row keeps for a field.
-    fn kept(&self, cell: Cell) -> Option<&Value>
+    pub(crate) fn kept(&self, cell: Cell) -> Option<&Value>
         ensures { option_map (λ value. value.now) result ≡ kept_at self.now.tables cell }
     {
         self.rows.get(&key_of(cell))?.get(&cell.field.0)

@@ -9,10 +9,11 @@ use Rattle.std.proofs.lemmas.Map.Lookups.{exact_pairs, exact_unsigned}
 use Rattle.std.proofs.lemmas.Bool.Decides.{nat_tests}
 use Rattle.std.specs.FinMap.{find, is_sorted, entries, entries_sorted, get, get-entries}
 use Rattle.std.specs.FinMap.Entries.{below_all}
-use Rattle.ob_io.specs.declared.store.RowKey.{RowKey}
+use Rattle.ob_base.specs.declared.id.RowKey.{RowKey}
 use Rattle.ob_io.specs.declared.store.KeptRow.{KeptRow}
 use Rattle.ob_base.specs.declared.id.RecId.{RecId}
-use Rattle.ob_io.specs.Store.{Store, row_key_cmp, row_at, rows_after, RowsNamed}
+use Rattle.ob_base.specs.Ids.{row_key_cmp}
+use Rattle.ob_io.specs.Store.{Store, row_at, rows_after, RowsNamed}
 use Rattle.stockd.specs.Store.{HasNoRow, IsLeastRow}
 
 both_true : (a b : Bool) → T (a && b) → T a × T b

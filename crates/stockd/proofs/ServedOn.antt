@@ -5,7 +5,8 @@ use Rattle.std.proofs.lemmas.List.{append-nil}
 use Rattle.std.proofs.lemmas.List.Concat.{flat_map-append}
 use Rattle.std.specs.FinMap.{get-empty}
 use Rattle.ob_base.specs.declared.id.ModelNo.{ModelNo}
-use Rattle.ob_io.specs.Store.{Store, row_key_cmp}
+use Rattle.ob_base.specs.Ids.{row_key_cmp}
+use Rattle.ob_io.specs.Store.{Store}
 use Rattle.ob_orm.specs.Tables.{Tables, empty_tables, next_id}
 use Rattle.ob_orm.specs.Sound.{IsSound, IsSoundModel}
 use Rattle.ob_orm.specs.Kept.{Kept}

@@ -1,7 +1,8 @@
 -- What JSON gives a field that is no list is a value of the field's type.
 use Rattle.std.specs.Prelude.{List, Option, Some, None}
 use Rattle.ob_base.specs.declared.value.Value.{Value}
-use Rattle.ob_codec.specs.Held.{GivesHeld, HasFieldType, HasType}
+use Rattle.ob_definition.specs.Values.{HasType}
+use Rattle.ob_codec.specs.Held.{GivesHeld, HasFieldType}
 use Rattle.ob_codec.specs.declared.input.Input.TheVariants as input
 use Rattle.ob_definition.specs.Values.{IsValueOf}
 use Rattle.ob_definition.specs.declared.field_type.Choice.{Choice}

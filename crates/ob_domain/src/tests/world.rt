@@ -261,13 +261,16 @@ impl Facts for Rows<'_> {
 
     type Fault = Untold;
 
-    ghost told = { λ rows. record {
-      registry = rows.schema.now;
+    ghost registry = { λ rows. rows.schema.now };
+
+    ghost tells = { λ rows told. told ≡ record {
       knows = λ model id. is_some (get ⟦<Cell as Ord>⟧.cmp rows.cells (record { model = model; id = id; field = record { 0 = 1 } }));
       held = λ cell. unwrap_or (get ⟦<Cell as Ord>⟧.cmp rows.cells cell) value.Nil;
     } };
 
-    ghost has_failed = { λ _ _. Unit {0} };
+    ghost asks = { λ _ _. Unit {0} };
+
+    ghost has_failed = { λ _ _ _. Unit {0} };
 
     fn known(&mut self, model: ModelNo, id: RecId) -> Result<bool, Untold> {
         ask(&mut self.answered)?;

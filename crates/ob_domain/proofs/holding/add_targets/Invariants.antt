@@ -1,16 +1,21 @@
--- The known rows so far are added; the facts tell what they told.
+-- The known rows so far are added; what was told still is, and nothing else.
 use Rattle.std.proofs.Common.{◌≡◌, ◌&&◌, ◌||◌, Bool, All, true, take}
 use Rattle.std.specs.List.{list_any}
 use Rattle.ob_base.specs.declared.id.RecId.{RecId}
 use Rattle.ob_expr.specs.Meaning.{cell_in, row_at}
+use Rattle.ob_schema.specs.Facts.{Asked, OfAllTold}
 use Rattle.ob_domain.specs.Passing.{targets_of}
 use Rattle.ob_domain.proofs.holding.add_targets.Given as goal
 
 abbrev pub invariant-loop-id : goal.invariant-loop-id
 invariant-loop-id g l = record {
-  told : (test : RecId → Bool) → list_any test l.named.keys
-      ≡ (list_any test l.fn.named.keys || list_any (λ (id : RecId). (g.F.Facts.told l.fn.facts).knows l.link.target id && test id) (take l.id-index l.id-items));
-  items : l.id-items ≡ targets_of ((g.F.Facts.told l.fn.facts).held (cell_in (row_at l.fn.row.model l.fn.row.id) l.link.field));
-  known : All (λ (id : RecId). (g.F.Facts.told l.fn.facts).knows l.link.target id ≡ true) l.fn.named.keys → All (λ (id : RecId). (g.F.Facts.told l.fn.facts).knows l.link.target id ≡ true) l.named.keys;
-  kept : g.F.Facts.told l.facts ≡ g.F.Facts.told l.fn.facts;
+  told : OfAllTold (g.F.Facts.tells l.fn.facts) (λ told. (test : RecId → Bool) → list_any test l.named.keys
+      ≡ (list_any test l.fn.named.keys || list_any (λ (id : RecId). told.knows l.link.target id && test id) (take l.id-index l.id-items)));
+  items : OfAllTold (g.F.Facts.tells l.fn.facts) (λ told. l.id-items ≡ targets_of (told.held (cell_in (row_at l.fn.row.model l.fn.row.id) l.link.field)));
+  known : OfAllTold (g.F.Facts.tells l.fn.facts)
+      (λ told. All (λ (id : RecId). told.knows l.link.target id ≡ true) l.fn.named.keys → All (λ (id : RecId). told.knows l.link.target id ≡ true) l.named.keys);
+  asked : Asked g.F.Facts.asks l.fn.facts l.facts;
+  same : g.F.Facts.registry l.facts ≡ g.F.Facts.registry l.fn.facts;
+  kept : OfAllTold (g.F.Facts.tells l.fn.facts) (g.F.Facts.tells l.facts);
+  only : OfAllTold (g.F.Facts.tells l.facts) (g.F.Facts.tells l.fn.facts);
 }

@@ -1,9 +1,6 @@
 -- The row that was found known is known still.
-use Rattle.std.proofs.Common.{sym, ap, ◌∙◌}
-use Rattle.ob_schema.specs.Facts.{Told}
+use Rattle.std.proofs.Common.{sym, ◌∙◌}
 use Rattle.ob_domain.proofs.tests.is_met.Goals as goal
 
 pub holds-requires-clause-known : goal.holds-requires-clause-known
-holds-requires-clause-known c =
-    let known = sym c.in_ok-known.ensures.known ∙ c.if-branch.true in
-    ap (λ (told : Told). told.knows c.args.model c.args.id) c.in_ok-known.ensures.kept ∙ known
+holds-requires-clause-known c = λ told tells. sym (c.in_ok-known.ensures.known told (c.in_ok-known.ensures.only told tells)) ∙ c.if-branch.true

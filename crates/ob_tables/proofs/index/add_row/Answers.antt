@@ -8,7 +8,7 @@ use Rattle.ob_base.specs.declared.id.RecId.{RecId}
 use Rattle.ob_base.specs.declared.value.Value.{Value}
 use Rattle.ob_base.specs.declared.value.Value.TheVariants as value
 use Rattle.ob_tables.specs.Index.{list_at, list_if}
-use Rattle.ob_tables.specs.Plain.{names}
+use Rattle.ob_schema.specs.Plain.{names}
 use Rattle.ob_tables.specs.Rooms.{shown_row}
 use Rattle.ob_tables.proofs.Listing.{value-adds}
 use Rattle.ob_tables.proofs.Shown.{get-shown_row}

@@ -1,8 +1,8 @@
 use Rattle.std.proofs.Common.{◌∙◌}
 use Rattle.ob_base.specs.declared.id.RecId.{RecId}
 use Rattle.ob_tables.specs.Index.{list_at}
-use Rattle.ob_tables.specs.Plain.{names}
-use Rattle.ob_tables.specs.Tables.{PlainRow, kept_in}
+use Rattle.ob_schema.specs.Plain.{names}
+use Rattle.ob_schema.specs.Tables.{PlainRow, kept_in}
 use Rattle.ob_tables.proofs.Listing.{row-added}
 use Rattle.ob_tables.proofs.index.index_of.Goals as goal
 

@@ -1,8 +1,8 @@
 use Rattle.std.proofs.Common.{◌≡◌, ◌++◌}
 use Rattle.ob_base.specs.declared.id.RecId.{RecId}
 use Rattle.ob_tables.specs.Index.{list_at}
-use Rattle.ob_tables.specs.Plain.{names, naming}
-use Rattle.ob_tables.specs.Tables.{kept_in}
+use Rattle.ob_schema.specs.Plain.{names, naming}
+use Rattle.ob_schema.specs.Tables.{kept_in}
 use Rattle.ob_tables.proofs.Rising.{chosen_ids}
 use Rattle.ob_tables.proofs.index.index_of.Given as goal
 

@@ -1,7 +1,7 @@
 use Rattle.std.proofs.Common.{◌≡◌, ◌++◌, List, [], ◌∷◌, refl}
 use Rattle.ob_schema.specs.declared.info.ModelInfo.{ModelInfo}
 use Rattle.ob_tables.specs.After.{after, edited}
-use Rattle.ob_tables.specs.Tables.{Tables}
+use Rattle.ob_schema.specs.Tables.{Tables}
 use Rattle.ob_tables.specs.declared.edit.Edit.{Edit}
 use Rattle.ob_tables.proofs.laws.after_in_turn.Goals as goal
 

@@ -1,7 +1,7 @@
 use Rattle.std.proofs.Common.{unwrap_or, ap, sym, ◌∙◌}
 use Rattle.std.specs.Option.{option_copied}
 use Rattle.ob_base.specs.declared.value.Value.TheVariants as value
-use Rattle.ob_tables.specs.Plain.{names}
+use Rattle.ob_schema.specs.Plain.{names}
 use Rattle.ob_tables.proofs.Shown.{get-shown_row}
 use Rattle.ob_tables.proofs.row.names_by.Goals as goal
 

@@ -29,17 +29,17 @@ loop-place-preserved c =
     let at = subst (λ fields. slice_get fields i ≡ Some field) c.as_slice-field-items.ensures (slice_get_read all (length all) i field refl c.loop-place-test.true c.field-item.is) in
     elim c.if-is_plain_kept.branch [
       | then-is_plain_kept+in_ok-insert+in-Some+in-Word-1 w ↦ subst (λ row. (q : ℕ) → tree.get nat_cmp row q ≡ up_to g info (i + 1) q) (sym w.row-is)
-          (up_to-kept g info old (tree.get nat_cmp w.insert.new.self) i field w.unset_value.result at
-          (sym c.is_plain_kept.ensures ∙ w.if-is_plain_kept.true) w.unset_value.ensures c.loop-place.invariant w.in_ok-insert.ensures.updates.0)
+          (up_to-kept g info old (tree.get nat_cmp w.insert.new.self) i field w.initial_value.result at
+          (sym c.is_plain_kept.ensures ∙ w.if-is_plain_kept.true) w.initial_value.ensures c.loop-place.invariant w.in_ok-insert.ensures.updates.0)
       | then-is_plain_kept+in_ok-insert+in-Some+in-Refs-1 w ↦ subst (λ row. (q : ℕ) → tree.get nat_cmp row q ≡ up_to g info (i + 1) q) (sym w.row-is)
-          (up_to-kept g info old (tree.get nat_cmp w.insert.new.self) i field w.unset_value.result at
-          (sym c.is_plain_kept.ensures ∙ w.if-is_plain_kept.true) w.unset_value.ensures c.loop-place.invariant w.in_ok-insert.ensures.updates.0)
+          (up_to-kept g info old (tree.get nat_cmp w.insert.new.self) i field w.initial_value.result at
+          (sym c.is_plain_kept.ensures ∙ w.if-is_plain_kept.true) w.initial_value.ensures c.loop-place.invariant w.in_ok-insert.ensures.updates.0)
       | then-is_plain_kept+in_ok-insert+in-Some+in-Nil-1 w ↦ subst (λ row. (q : ℕ) → tree.get nat_cmp row q ≡ up_to g info (i + 1) q) (sym w.row-is)
-          (up_to-kept g info old (tree.get nat_cmp w.insert.new.self) i field w.unset_value.result at
-          (sym c.is_plain_kept.ensures ∙ w.if-is_plain_kept.true) w.unset_value.ensures c.loop-place.invariant w.in_ok-insert.ensures.updates.0)
+          (up_to-kept g info old (tree.get nat_cmp w.insert.new.self) i field w.initial_value.result at
+          (sym c.is_plain_kept.ensures ∙ w.if-is_plain_kept.true) w.initial_value.ensures c.loop-place.invariant w.in_ok-insert.ensures.updates.0)
       | then-is_plain_kept+in_ok-insert+in-None-1 w ↦ subst (λ row. (q : ℕ) → tree.get nat_cmp row q ≡ up_to g info (i + 1) q) (sym w.row-is)
-          (up_to-kept g info old (tree.get nat_cmp w.insert.new.self) i field w.unset_value.result at
-          (sym c.is_plain_kept.ensures ∙ w.if-is_plain_kept.true) w.unset_value.ensures c.loop-place.invariant w.in_ok-insert.ensures.updates.0)
+          (up_to-kept g info old (tree.get nat_cmp w.insert.new.self) i field w.initial_value.result at
+          (sym c.is_plain_kept.ensures ∙ w.if-is_plain_kept.true) w.initial_value.ensures c.loop-place.invariant w.in_ok-insert.ensures.updates.0)
       | else-is_plain_kept w ↦ subst (λ row. (q : ℕ) → tree.get nat_cmp row q ≡ up_to g info (i + 1) q) (sym w.row-is)
           (up_to-passed g info old i field at (sym c.is_plain_kept.ensures ∙ w.if-is_plain_kept.false) c.loop-place.invariant)
     ]

@@ -2,7 +2,7 @@ use Rattle.std.proofs.Common.{Some, cond, map, sym, ap, subst, ◌∙◌}
 use Rattle.std.specs.FinMap as finite
 use Rattle.std.specs.List.Sorted.{IsStrictlySortedBy}
 use Rattle.std.specs.Ordering.{nat_cmp, eq_by_cmp}
-use Rattle.ob_io.specs.Store.{row_key_cmp}
+use Rattle.ob_base.specs.Ids.{row_key_cmp}
 use Rattle.ob_tables.specs.Rooms.{shown_row, shown_rows}
 use Rattle.ob_tables.proofs.Copied.{copy-begun, copy-more, copy-done}
 use Rattle.ob_tables.proofs.Shown.{rows_total, exact_rows, get-shown_rows-set, find-lookup, keys-changed}

@@ -1,6 +1,6 @@
 use Rattle.std.proofs.Common.{map}
 use Rattle.std.specs.FinMap as finite
-use Rattle.ob_io.specs.Store.{row_key_cmp}
+use Rattle.ob_base.specs.Ids.{row_key_cmp}
 use Rattle.ob_tables.specs.Rooms.{shown_row, shown_rows}
 use Rattle.ob_tables.proofs.Copied.{LeadsTo}
 use Rattle.ob_tables.proofs.tables.copy_rows.Given as goal

@@ -2,7 +2,8 @@ use Rattle.std.proofs.Common.{◌≡◌, take, filter, sym, subst, ap, ◌∙◌
 use Rattle.std.proofs.lemmas.Result.{IfOk-weaker}
 use Rattle.std.specs.BTreeMap.Range.{entries_between}
 use Rattle.ob_base.specs.Rising.{IsRising}
-use Rattle.ob_io.specs.Store.{row_key_cmp, rows_after, has_link}
+use Rattle.ob_base.specs.Ids.{row_key_cmp}
+use Rattle.ob_io.specs.Store.{rows_after, has_link}
 use Rattle.ob_io.specs.Slots.{shown_store}
 use Rattle.ob_io.proofs.Held.{held, ids_of}
 use Rattle.ob_io.proofs.Paged.{held-between}

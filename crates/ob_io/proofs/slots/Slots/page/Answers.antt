@@ -1,7 +1,8 @@
 use Rattle.std.proofs.Common.{◌≡◌, take, ap, ◌∙◌, arith, ◌-◌, ◌^◌}
 use Rattle.std.proofs.lemmas.Result.{IfOk-weaker}
 use Rattle.std.specs.BTreeMap.Range.{entries_between}
-use Rattle.ob_io.specs.Store.{row_key_cmp, rows_after}
+use Rattle.ob_base.specs.Ids.{row_key_cmp}
+use Rattle.ob_io.specs.Store.{rows_after}
 use Rattle.ob_io.specs.Slots.{shown_store}
 use Rattle.ob_io.proofs.Held.{held}
 use Rattle.ob_io.proofs.Paged.{held-between}

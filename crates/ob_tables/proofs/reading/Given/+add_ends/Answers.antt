@@ -5,7 +5,7 @@ use Rattle.ob_base.specs.declared.id.Cell.{Cell}
 use Rattle.ob_base.specs.declared.id.RecId.{RecId}
 use Rattle.ob_expr.specs.declared.typed.Link.{Link}
 use Rattle.ob_expr.specs.Meaning.{row_at}
-use Rattle.ob_tables.specs.Plain.{plain_at}
+use Rattle.ob_schema.specs.Plain.{plain_at}
 use Rattle.ob_tables.specs.Settling.{ends_along, rows_led}
 use Rattle.ob_tables.proofs.reading.Given.+add_ends.Goals as goal
 

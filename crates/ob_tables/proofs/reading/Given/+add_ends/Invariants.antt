@@ -1,7 +1,7 @@
 use Rattle.std.proofs.Common.{◌≡◌, ◌++◌, length, take}
 use Rattle.std.specs.List.{flat_map}
 use Rattle.ob_expr.specs.Meaning.{cell_in, row_at}
-use Rattle.ob_tables.specs.Plain.{plain_at}
+use Rattle.ob_schema.specs.Plain.{plain_at}
 use Rattle.ob_tables.specs.Settling.{ends_along, rows_led}
 use Rattle.ob_tables.proofs.reading.Given.+add_ends.Given as goal
 

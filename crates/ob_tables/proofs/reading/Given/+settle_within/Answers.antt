@@ -4,7 +4,7 @@ use Rattle.ob_base.specs.declared.id.Cell.{Cell}
 use Rattle.ob_schema.specs.declared.info.Origin.TheVariants as origin
 use Rattle.ob_schema.specs.Models.{field_at}
 use Rattle.ob_tables.specs.Settling.{IsFormulaOutcome}
-use Rattle.ob_tables.specs.Tables.{Standing}
+use Rattle.ob_schema.specs.Tables.{Standing}
 use Rattle.ob_tables.proofs.KnownFields.{tell_and}
 use Rattle.ob_tables.proofs.NamedBack.{Stands}
 use Rattle.ob_tables.proofs.Settling.{all-settled, along-own, end_is-along, insert-keeps, insert-right, settled-more, stands-item}

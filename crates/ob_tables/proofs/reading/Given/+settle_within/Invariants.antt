@@ -2,7 +2,7 @@ use Rattle.std.proofs.Common.{◌≡◌, take}
 use Rattle.ob_base.specs.declared.id.Cell.{Cell}
 use Rattle.ob_expr.specs.Meaning.{row_of}
 use Rattle.ob_expr.specs.TypedTree.{typed_tree_of}
-use Rattle.ob_tables.specs.Plain.{plain_at}
+use Rattle.ob_schema.specs.Plain.{plain_at}
 use Rattle.ob_tables.specs.Settling.{AreOutcomes, IsSettled, KeepsAll, ends_of}
 use Rattle.ob_tables.proofs.NamedBack.{Stands}
 use Rattle.ob_tables.proofs.reading.Given.+settle_within.Given as goal

@@ -6,7 +6,7 @@ use Rattle.ob_base.specs.declared.id.FieldNo.{FieldNo}
 use Rattle.ob_expr.specs.declared.typed.Link.{Link}
 use Rattle.ob_expr.specs.Meaning.{row_of}
 use Rattle.ob_expr.specs.Route.{Route}
-use Rattle.ob_tables.specs.Plain.{plain_at}
+use Rattle.ob_schema.specs.Plain.{plain_at}
 use Rattle.ob_tables.specs.Settling.{ends_along}
 use Rattle.ob_tables.proofs.reading.Given.ends_of.Goals as goal
 

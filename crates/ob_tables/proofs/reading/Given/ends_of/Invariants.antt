@@ -2,7 +2,7 @@ use Rattle.std.proofs.Common.{◌≡◌, take}
 use Rattle.std.specs.List.{flat_map}
 use Rattle.ob_expr.specs.Meaning.{row_of}
 use Rattle.ob_expr.specs.TypedTree.{paths_of, typed_tree_of}
-use Rattle.ob_tables.specs.Plain.{plain_at}
+use Rattle.ob_schema.specs.Plain.{plain_at}
 use Rattle.ob_tables.specs.Settling.{ends_along}
 use Rattle.ob_tables.proofs.reading.Given.ends_of.Given as goal
 

@@ -5,7 +5,7 @@ use Rattle.std.specs.BTreeMap as tree
 use Rattle.std.proofs.lemmas.Result.{IfOk-weaker}
 use Rattle.ob_base.specs.declared.id.RecId.{RecId}
 use Rattle.ob_tables.specs.Index.{back_order, list_at}
-use Rattle.ob_tables.specs.Plain.{naming}
+use Rattle.ob_schema.specs.Plain.{naming}
 use Rattle.ob_tables.proofs.Listing.{naming-rises}
 use Rattle.ob_tables.proofs.Rising.{id_cmp}
 use Rattle.ob_tables.proofs.reading.Given.naming.Goals as goal

@@ -57,4 +57,4 @@ returns-clause-value c =
     let known : AreSound models tables =
     record { laws = record { along = c.laws.ensures.meaning; lacks = c.laws.ensures.lacks }; registry = c.laws.ensures.registry; fits = c.laws.ensures.fits; tied = c.requires.tied } in
     behind-unset models tables known c.args.cell c.args.info.now c.args.at c.in-Some.value c.requires.row c.requires.field c.requires.delegated
-    (sym c.in_ok-value.ensures ∙ c.in-Some.is) (sym c.row_named.ensures ∙ c.in-None.is) ∙ ap Ok (sym c.unset_value.ensures)
+    (sym c.in_ok-value.ensures ∙ c.in-Some.is) (sym c.row_named.ensures ∙ c.in-None.is) ∙ ap Ok (sym c.initial_value.ensures)

@@ -1,7 +1,7 @@
 use Rattle.std.proofs.Common.{◌≡◌, ap, sym, subst, ◌∙◌}
 use Rattle.ob_tables.specs.After.{edited}
 use Rattle.ob_tables.specs.Rooms.{shown_tables}
-use Rattle.ob_tables.specs.Tables.{key_of}
+use Rattle.ob_schema.specs.Tables.{key_of}
 use Rattle.ob_tables.specs.declared.edit.Edit.TheVariants as edits
 use Rattle.ob_tables.proofs.Edits.{fits-gone, shows-gone}
 use Rattle.ob_tables.proofs.tables.Tables.carry_out.Goals as goal

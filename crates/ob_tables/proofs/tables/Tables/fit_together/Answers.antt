@@ -1,6 +1,6 @@
 use Rattle.std.proofs.Common.{subst}
 use Rattle.ob_schema.specs.Models.{IsRegistry}
-use Rattle.ob_tables.specs.Tables.{Standing}
+use Rattle.ob_schema.specs.Tables.{Standing}
 use Rattle.ob_tables.proofs.tables.Tables.fit_together.Goals as goal
 
 pub returns-clause-registry : goal.returns-clause-registry

@@ -1,5 +1,5 @@
 use Rattle.std.proofs.Common.{◌≡◌, sym, subst, ◌∙◌, is_some}
-use Rattle.ob_tables.specs.Tables.{key_of, row_at}
+use Rattle.ob_schema.specs.Tables.{key_of, row_at}
 use Rattle.ob_tables.proofs.Shown.{has-shown_rows}
 use Rattle.ob_tables.proofs.tables.Tables.has_row.Goals as goal
 

@@ -2,7 +2,7 @@ use Rattle.std.proofs.Common.{◌++◌, map, ap, sym, subst, ◌∙◌}
 use Rattle.std.proofs.lemmas.List.{append-nil}
 use Rattle.std.specs.List.Sorted.{IsStrictlySortedBy}
 use Rattle.ob_base.specs.declared.id.RecId.{RecId}
-use Rattle.ob_tables.specs.Tables.{PlainRow}
+use Rattle.ob_schema.specs.Tables.{PlainRow}
 use Rattle.ob_tables.proofs.Rising.{below-next, entry-ids, entry_id, id_cmp, ids-rise, pushed}
 use Rattle.ob_tables.proofs.tables.Tables.ids.Goals as goal
 

@@ -1,5 +1,5 @@
 use Rattle.std.proofs.Common.{◌≡◌, ◌++◌, map}
-use Rattle.ob_tables.specs.Tables.{ids_in}
+use Rattle.ob_schema.specs.Tables.{ids_in}
 use Rattle.ob_tables.proofs.Rising.{entry_id}
 use Rattle.ob_tables.proofs.tables.Tables.ids.Given as goal
 

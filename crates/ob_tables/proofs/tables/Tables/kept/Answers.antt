@@ -2,8 +2,8 @@ use Rattle.std.proofs.Common.{◌≡◌, ap, sym, subst, ◌∙◌, option_map, 
 use Rattle.std.specs.Option.{option_copied}
 use Rattle.std.specs.BTreeMap as tree
 use Rattle.std.specs.Ordering.{nat_cmp}
-use Rattle.ob_io.specs.Store.{row_key_cmp}
-use Rattle.ob_tables.specs.Tables.{key_of, kept_at}
+use Rattle.ob_base.specs.Ids.{row_key_cmp}
+use Rattle.ob_schema.specs.Tables.{key_of, kept_at}
 use Rattle.ob_tables.proofs.Shown.{kept-shown_rows}
 use Rattle.ob_tables.proofs.tables.Tables.kept.Goals as goal
 

@@ -3,7 +3,7 @@ use Rattle.ob_schema.specs.Models.{model_at}
 use Rattle.ob_tables.specs.After.{edited}
 use Rattle.ob_tables.specs.Fitting.{AreFitIn, AreFitValues}
 use Rattle.ob_tables.specs.Rooms.{shown_tables}
-use Rattle.ob_tables.specs.Tables.{Fits, next_of}
+use Rattle.ob_schema.specs.Tables.{Fits, next_of}
 use Rattle.ob_tables.specs.declared.edit.Edit.TheVariants as edits
 use Rattle.ob_tables.proofs.Edits.{makes, raises, shows-same}
 use Rattle.ob_tables.proofs.FitTables.{known_at}

@@ -1,8 +1,8 @@
 use Rattle.std.proofs.Common.{◌++◌, List, map, filter, ap, sym, subst, ◌∙◌}
 use Rattle.std.specs.List.Sorted.{IsStrictlySortedBy}
 use Rattle.ob_base.specs.declared.id.RecId.{RecId}
-use Rattle.ob_tables.specs.Plain.{names}
-use Rattle.ob_tables.specs.Tables.{PlainRow, kept_in}
+use Rattle.ob_schema.specs.Plain.{names}
+use Rattle.ob_schema.specs.Tables.{PlainRow, kept_in}
 use Rattle.ob_tables.proofs.Rising.{below-next, chosen-more, chosen-passed, chosen_ids, entry-ids, entry_id, id_cmp, ids-rise, pushed, sorted-without}
 use Rattle.ob_tables.proofs.tables.Tables.naming.Goals as goal
 

@@ -1,7 +1,7 @@
 use Rattle.std.proofs.Common.{◌≡◌, ◌++◌, map}
 use Rattle.std.specs.List.Sorted.{IsStrictlySortedBy}
-use Rattle.ob_tables.specs.Plain.{names, naming}
-use Rattle.ob_tables.specs.Tables.{kept_in}
+use Rattle.ob_schema.specs.Plain.{names, naming}
+use Rattle.ob_schema.specs.Tables.{kept_in}
 use Rattle.ob_tables.proofs.Rising.{chosen_ids, entry_id, id_cmp}
 use Rattle.ob_tables.proofs.tables.Tables.naming.Given as goal
 

@@ -1,6 +1,6 @@
 use Rattle.std.proofs.Common.{◌≡◌, ◌<◌, ◌≤◌, ap, sym, subst, ◌∙◌, unwrap_or}
 use Rattle.ob_schema.specs.Models.{HasModel}
-use Rattle.ob_tables.specs.Tables.{Fits, next_of}
+use Rattle.ob_schema.specs.Tables.{Fits, next_of}
 use Rattle.ob_tables.proofs.Shown.{shown_next-there}
 use Rattle.ob_tables.proofs.tables.Tables.next.Goals as goal
 

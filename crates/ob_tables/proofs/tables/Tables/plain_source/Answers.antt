@@ -1,6 +1,6 @@
 use Rattle.std.proofs.Common.{◌≡◌, Some, true, false, is_some, option_map, ap, sym, subst, ◌∙◌}
 use Rattle.ob_schema.specs.Models.{IsModel, model_at}
-use Rattle.ob_tables.specs.Tables.{Fits}
+use Rattle.ob_schema.specs.Tables.{Fits}
 use Rattle.ob_tables.proofs.Sources.{from-naming, has-kept, has-relation}
 use Rattle.ob_tables.proofs.tables.Tables.plain_source.Goals as goal
 

@@ -2,9 +2,9 @@ use Rattle.std.proofs.Common.{◌≡◌, ◌<◌, ◌==◌, IsSome, map, filter,
 use Rattle.std.specs.declared.ops.Bound.TheVariants.{Included, Excluded}
 use Rattle.std.specs.BTreeMap.Range.{entries_between}
 use Rattle.ob_base.specs.declared.id.RecId.{RecId}
-use Rattle.ob_io.specs.Store.{row_key_cmp}
+use Rattle.ob_base.specs.Ids.{row_key_cmp}
 use Rattle.ob_tables.specs.Rooms.{shown_row}
-use Rattle.ob_tables.specs.Tables.{key_of, row_at, rows_in}
+use Rattle.ob_schema.specs.Tables.{key_of, row_at, rows_in}
 use Rattle.ob_tables.proofs.Between.{entries-shown_rows, ids-below, shown-between}
 use Rattle.ob_tables.proofs.tables.Tables.rows_of.Goals as goal
 

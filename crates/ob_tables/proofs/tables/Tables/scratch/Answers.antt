@@ -5,8 +5,8 @@ use Rattle.ob_base.specs.declared.value.Value.{Value}
 use Rattle.ob_expr.specs.Computing.{Lack}
 use Rattle.ob_tables.specs.Faults.{HasNoValue}
 use Rattle.ob_tables.specs.Settling.{Lacks, values_of}
-use Rattle.ob_tables.specs.Tables.{Standing}
-use Rattle.ob_tables.specs.Val.{val}
+use Rattle.ob_schema.specs.Tables.{Standing}
+use Rattle.ob_schema.specs.Val.{val}
 use Rattle.ob_tables.proofs.Settling.{lacks-has}
 use Rattle.ob_tables.proofs.Within.{values_are}
 use Rattle.ob_tables.proofs.tables.Tables.scratch.Goals as goal

@@ -1,12 +1,12 @@
 use Rattle.std.proofs.Common.{◌≡◌, cond, Some, is_some, ap, sym, subst, ◌∙◌, refl}
 use Rattle.std.specs.BTreeMap as tree
 use Rattle.std.specs.Ordering.{nat_cmp, eq_by_cmp}
-use Rattle.ob_io.specs.declared.store.RowKey.{RowKey}
-use Rattle.ob_io.specs.Store.{row_key_cmp}
+use Rattle.ob_base.specs.declared.id.RowKey.{RowKey}
+use Rattle.ob_base.specs.Ids.{row_key_cmp}
 use Rattle.ob_tables.specs.After.{edited}
 use Rattle.ob_tables.specs.Fitting.{IsFitValueAt}
 use Rattle.ob_tables.specs.Rooms.{shown_tables}
-use Rattle.ob_tables.specs.Tables.{key_of}
+use Rattle.ob_schema.specs.Tables.{key_of}
 use Rattle.ob_tables.specs.declared.edit.Edit.TheVariants as edits
 use Rattle.ob_tables.proofs.Edits.{none-there, sets, writes-same}
 use Rattle.ob_tables.proofs.tables.Tables.set.Goals as goal

@@ -3,7 +3,7 @@ use Rattle.ob_base.specs.declared.id.RecId.{RecId}
 use Rattle.ob_schema.specs.Models.{HasModel}
 use Rattle.ob_tables.specs.After.{with_next_id}
 use Rattle.ob_tables.specs.Rooms.{shown_tables}
-use Rattle.ob_tables.specs.Tables.{Standing, Tables, row_at}
+use Rattle.ob_schema.specs.Tables.{Standing, Tables, row_at}
 use Rattle.ob_tables.proofs.Edits.{fits-raised, shows-next}
 use Rattle.ob_tables.proofs.tables.Tables.with_next.Goals as goal
 
