@@ -1,0 +1,14 @@
+pub mod Apart
+pub mod Asking
+pub mod Denying
+pub mod Growing
+pub mod Having
+pub mod Indexing
+pub mod Inserting
+pub mod Least
+pub mod Numbering
+pub mod Rising
+pub mod Ruled
+pub mod Searching
+pub mod Unfound
+pub mod Walking

@@ -1,0 +1,9 @@
+pub mod Admission
+pub mod Asked
+pub mod Coding
+pub mod Finding
+pub mod Groups
+pub mod Index
+pub mod Ops
+pub mod Policies
+pub mod Rights
