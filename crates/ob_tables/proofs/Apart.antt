@@ -32,7 +32,8 @@ module _ (values : List (FieldNo × Value)) (i : ℕ) (d : FieldNo × Value) (k 
   marks_next met low marked n lt = by (cases_eq n k) ∙ sym (list_any_more (λ given. given.0.0 == n) values i d within)
     where
       by : (n ≡ k) ⊎ (n ≡ k → ⊥) → get_or (set met k true) n false ≡ (is_met (take i values) n || ((get_or values i d).0.0 == n))
-      by (inl same) = ap (λ (m : ℕ). get_or (set met k true) m false) same ∙ get_or-set_same met k true false low ∙ or_true (is_met (take i values) n) ((get_or values i d).0.0 == n) (eq-eqb (get_or values i d).0.0 n (sym here ∙ sym same))
+      by (inl same) = ap (λ (m : ℕ). get_or (set met k true) m false) same ∙ get_or-set_same met k true false low
+          ∙ or_true (is_met (take i values) n) ((get_or values i d).0.0 == n) (eq-eqb (get_or values i d).0.0 n (sym here ∙ sym same))
       by (inr other) = get_or-set_other met k n true false other ∙ marked n lt ∙ or_false (is_met (take i values) n) ((get_or values i d).0.0 == n) (ne_eqb (get_or values i d).0.0 n (λ same. other (sym same ∙ sym here)))
 
   -- a field that isn't met is apart from those before

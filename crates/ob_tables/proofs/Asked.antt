@@ -14,7 +14,7 @@ use Rattle.ob_tables.specs.Fitting.{AreFitIn, AreFitValues, IsFitIn}
 use Rattle.ob_tables.proofs.Apart.{AreApart}
 use Rattle.ob_tables.proofs.Columns.{keeps}
 use Rattle.ob_tables.proofs.FitTables.{known_at, known_by}
-use Rattle.ob_tables.proofs.Values.{fit-keeps, keeps-fields}
+use Rattle.ob_tables.proofs.GivenValues.{fit-keeps, keeps-fields}
 
 -- a field that rows keep is one of the list
 kept_within : (fields : List FieldInfo) (q : ℕ) → keeps (numbered fields q) ≡ true → q ≤ length fields

@@ -100,7 +100,8 @@ all-found P (e ∷ es) h = (
 )
 
 -- ids of entries are those of rows that are shown
-pub ids-below : (rows : BTreeMap RowKey (BTreeMap ℕ Value)) (model : ModelNo) (n : ℕ) → ((id : RecId) → IsSome (finite.get (shown_rows rows) (key_of model id)) → id.0 < n) → AllByRecursion (λ e. IsBelow model n e.0) rows.entries
+pub ids-below : (rows : BTreeMap RowKey (BTreeMap ℕ Value)) (model : ModelNo) (n : ℕ) → ((id : RecId) → IsSome (finite.get (shown_rows rows) (key_of model id)) → id.0 < n)
+    → AllByRecursion (λ e. IsBelow model n e.0) rows.entries
 ids-below rows model n h = all-found (IsBelow model n) rows.entries (λ q s same.
     h q.id (subst (λ k. IsSome (finite.get (shown_rows rows) k)) (ap (λ m. key_of (record { 0 = m }) q.id) same) (has-shown_rows rows q ∙ s)))
 

@@ -206,7 +206,8 @@ module _ (models : List ModelInfo) (tables : Tables) (registry : IsRegistry mode
 
   -- by such steps alone, and by one at least, there are fewer left
   pub climbs : (Through : Step → Type 0) (Stands : ℕ → RecId → Type 0) → StepsBy Through Stands → ((n : ℕ) (id : RecId) → Stands n id → Stands (suc n) id)
-      → (n : ℕ) (at : ModelNo) (id : RecId) (links : List Link) (field : FieldNo) (k : Kind) (end : Row) (own : Step) (front : List Step) → at ≡ model → IsRouted models at links field k → steps_along at links field ≡ front ++ own ∷ []
+      → (n : ℕ) (at : ModelNo) (id : RecId) (links : List Link) (field : FieldNo) (k : Kind) (end : Row) (own : Step) (front : List Step) → at ≡ model → IsRouted models at links field k
+      → steps_along at links field ≡ front ++ own ∷ []
       → front ≢ [] → All Through front → Stands (suc n) id → Leads models tables (place_at at id) links end → Stands n end.id
   climbs Through Stands step more n at id [] field k end own front same routed is some all stands leads = absurd (one_end (step_at at field) front own is some)
   climbs Through Stands step more n at id (link ∷ links) field k end own [] same routed is some all stands leads = absurd (some refl)

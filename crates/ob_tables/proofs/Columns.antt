@@ -27,7 +27,8 @@ abbrev pub kept_as : (Column → Value) → ℕ → Option FieldInfo → Option 
 kept_as g q None = None
 kept_as g q (Some field) = cond (is_plain_kept field) (Some (g (q, field))) None
 
-abbrev valued : (Column → Value) → List Column → List (ℕ × Value)
+-- values by their fields' numbers
+abbrev pub valued : (Column → Value) → List Column → List (ℕ × Value)
 valued g columns = map (λ column. (column.0, g column)) columns
 
 abbrev kept_only : List Column → List Column
@@ -61,7 +62,8 @@ module _ (g : Column → Value) where
       passed (from + suc i) from f (is_plain_kept f) rest (kept_as g (from + suc i) (slice_get fields i)) (λ is. absurd (omega arith))
       (ap (λ k. find nat_cmp k (valued g rest)) next ∙ find-from (from + 1) i fields ∙ ap (λ k. kept_as g k (slice_get fields i)) (sym next))
 
-  find-columns : (info : ModelInfo) (q : ℕ) → find nat_cmp q (valued g (plain_columns info)) ≡ kept_as g q (numbered info.fields q)
+  -- the value at each number
+  pub find-columns : (info : ModelInfo) (q : ℕ) → find nat_cmp q (valued g (plain_columns info)) ≡ kept_as g q (numbered info.fields q)
   find-columns info zero = find-before zero 1 info.fields (omega arith)
   find-columns info (suc n) = ap (λ k. find nat_cmp k (valued g (plain_columns info))) next ∙ find-from 1 n info.fields ∙ ap (λ k. kept_as g k (slice_get info.fields n)) (sym next)
     where

@@ -143,7 +143,8 @@ module _ (t : Tables) (model : ModelNo) (field : FieldNo) where
   there-all es is k e at = rows_in-there t model e (stands_at (rows_in t model) k e (ap (λ l. slice_get l k) (sym is) ∙ at))
 
   -- one more row is counted
-  pub holder-more : (old new : ℕ) (from es : List (RowKey × BTreeMap ℕ Value)) (e : RowKey × BTreeMap ℕ Value) (v : Value) (id : RecId) (total : ℕ) → from ≡ e ∷ es → kept_in (shown_row e.1) field ≡ v → IsRising (targets_of v)
+  pub holder-more : (old new : ℕ) (from es : List (RowKey × BTreeMap ℕ Value)) (e : RowKey × BTreeMap ℕ Value) (v : Value) (id : RecId) (total : ℕ) → from ≡ e ∷ es → kept_in (shown_row e.1) field ≡ v
+      → IsRising (targets_of v)
       → new ≡ old + count_by (is_id id) (targets_of v) → old + length (holders id from) ≡ total → new + length (holders id es) ≡ total
   holder-more old new from es e v id total is kept rising one all = by (names id (kept_in (shown_row e.1) field)) refl (one ∙ ap (λ n. old + n) (count-names v id rising ∙ ap (λ w. if names id w then 1 else 0) (sym kept)))
     where

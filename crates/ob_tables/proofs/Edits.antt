@@ -34,7 +34,8 @@ module _ (models : List ModelInfo) (rows : BTreeMap RowKey (BTreeMap ℕ Value))
       → shown_tables models rows others ≡ record { rows = tables.rows; next_ids = finite.insert tables.next_ids model.0 n }
   shows-next others model n has h = ap (λ ids. record { rows = shown_rows rows; next_ids = ids }) (shown_next-set models next_ids others model n has h)
 
-  pub fits-raised : Fits models tables → (others : BTreeMap ℕ ℕ) (model : ModelNo) (n : ℕ) → HasModel models model → ((q : ℕ) → tree.get nat_cmp others q ≡ cond (eq_by_cmp nat_cmp model.0 q) (Some n) (tree.get nat_cmp next_ids q))
+  pub fits-raised : Fits models tables → (others : BTreeMap ℕ ℕ) (model : ModelNo) (n : ℕ) → HasModel models model
+      → ((q : ℕ) → tree.get nat_cmp others q ≡ cond (eq_by_cmp nat_cmp model.0 q) (Some n) (tree.get nat_cmp next_ids q))
       → 1 ≤ n → ((id : RecId) → IsSome (row_at tables model id) → id.0 < n) → Fits models (shown_tables models rows others)
   fits-raised fits others model n has h low above = subst (Fits models) (sym (shows-next others model n has h)) (fits-next models tables fits model n has low above)
 
@@ -86,8 +87,10 @@ module _ (models : List ModelInfo) (rows : BTreeMap RowKey (BTreeMap ℕ Value))
       high a b n i is h = grind (arith, common_steps)
 
 -- a row is made, after the next id is raised
-pub makes : (models : List ModelInfo) (rows others : BTreeMap RowKey (BTreeMap ℕ Value)) (next_ids ids : BTreeMap ℕ ℕ) (model : ModelNo) (id : RecId) (n : ℕ) (info : ModelInfo) (values : List (FieldNo × Value)) (row : BTreeMap ℕ Value)
-    → Fits models (shown_tables models rows next_ids) → model_at models model ≡ Some info → AreFitValues info values → n ≡ max (next_of (shown_tables models rows next_ids) model) (id.0 + 1) → shown_row row ≡ row_of info values
+pub makes : (models : List ModelInfo) (rows others : BTreeMap RowKey (BTreeMap ℕ Value)) (next_ids ids : BTreeMap ℕ ℕ) (model : ModelNo) (id : RecId) (n : ℕ)
+    (info : ModelInfo) (values : List (FieldNo × Value)) (row : BTreeMap ℕ Value)
+    → Fits models (shown_tables models rows next_ids) → model_at models model ≡ Some info → AreFitValues info values → n ≡ max (next_of (shown_tables models rows next_ids) model) (id.0 + 1)
+    → shown_row row ≡ row_of info values
     → ((q : ℕ) → tree.get nat_cmp ids q ≡ cond (eq_by_cmp nat_cmp model.0 q) (Some n) (tree.get nat_cmp next_ids q))
     → ((q : RowKey) → tree.get row_key_cmp others q ≡ cond (eq_by_cmp row_key_cmp (key_of model id) q) (Some row) (tree.get row_key_cmp rows q))
     → (shown_tables models others ids ≡ edited models (shown_tables models rows next_ids) (edit.Make model id values)) × Fits models (shown_tables models others ids)

@@ -135,7 +135,8 @@ module _ (models : List ModelInfo) (tables : Tables) where
         by (stands-either d (ends_along (plain_at tables models) row route.links route.field) (ends_in row routes) among)
         (λ later. ends-along row routes (All-tail (λ r. IsRouted models row.model r.links r.field r.kind) route routes routed) d later)
       where
-        by : Stands d (ends_along (plain_at tables models) row route.links route.field) ⊎ Stands d (ends_in row routes) → (Stands d (ends_in row routes) → IsAlongAny (held_by f) row routes d) → IsAlongAny (held_by f) row (route ∷ routes) d
+        by : Stands d (ends_along (plain_at tables models) row route.links route.field) ⊎ Stands d (ends_in row routes) → (Stands d (ends_in row routes) → IsAlongAny (held_by f) row routes d)
+            → IsAlongAny (held_by f) row (route ∷ routes) d
         by (inl here) rest = inl (end-along row route.links route.field route.kind (All-head (λ r. IsRouted models row.model r.links r.field r.kind) route routes routed) d here)
         by (inr later) rest = inr (rest later)
 

@@ -1,12 +1,11 @@
 -- What rows break, model by model.
-use Rattle.std.proofs.Common.{◌≡◌, ◌<◌, ◌≤◌, ◌+◌, ◌⊎◌, ◌||◌, ℕ, zero, suc, Bool, true, false, List, Option, Some, None, is_some, IsSome, length, refl, sym, ap, subst, ◌∙◌, inl, inr, ⊎_elim, arith}
+use Rattle.std.proofs.Common.{◌≡◌, ◌<◌, ◌⊎◌, ◌||◌, ℕ, zero, suc, Bool, true, false, List, Option, Some, None, is_some, IsSome, length, refl, sym, ap, subst, ◌∙◌, inl, inr, ⊎_elim, arith}
 use Rattle.std.specs.Prelude.{slice_get}
 use Rattle.std.specs.Option.{IfSome, IsSomeAnd}
 use Rattle.std.proofs.lemmas.Option.{slice_get_within}
 use Rattle.ob_base.specs.Limits.{max_models}
 use Rattle.ob_base.specs.declared.id.Cell.{Cell}
 use Rattle.ob_base.specs.declared.id.ModelNo.{ModelNo}
-use Rattle.ob_base.specs.declared.id.RecId.{RecId}
 use Rattle.ob_base.specs.declared.refusal.Broken.{Broken}
 use Rattle.ob_base.specs.declared.refusal.BrokenKind.{BrokenKind}
 use Rattle.ob_base.specs.declared.refusal.BrokenKind.TheVariants as kind
@@ -18,7 +17,7 @@ use Rattle.ob_tables.specs.Finding.{Anywhere, BreaksIn, Finds, IsUpTo, is_of_for
 use Rattle.ob_tables.specs.Applying.{IsFirstOrSound}
 use Rattle.ob_tables.specs.declared.findings.Findings.{Findings}
 use Rattle.ob_schema.specs.Tables.{Fits, IsRowOf, PlainRow, Tables, row_at}
-use Rattle.ob_schema.specs.Tied.{Dangles, IsCircled, IsLeastOf, IsTied, IsTooDeep}
+use Rattle.ob_schema.specs.Tied.{IsTied}
 
 contrary : {P : Type 0} → false ≡ true → P
 contrary e = cc
@@ -158,5 +157,6 @@ module _ (models : List ModelInfo) (t : Tables) where
   }
 
   -- the first of all that is broken was found
-  pub first-or-sound : (P : Broken → Type 0) (old new : Findings) → old.first ≡ None → Finds P old new → ((b : Broken) → P b → IsBroken models t b) → ((b : Broken) → IsBroken models t b → P b) → IsFirstOrSound models t new.first
+  pub first-or-sound : (P : Broken → Type 0) (old new : Findings) → old.first ≡ None → Finds P old new → ((b : Broken) → P b → IsBroken models t b) → ((b : Broken) → IsBroken models t b → P b)
+      → IsFirstOrSound models t new.first
   first-or-sound P old new none found to back = first_by P old.first new.first none found.among found.least to back

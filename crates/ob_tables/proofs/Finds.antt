@@ -1,5 +1,5 @@
 -- What is found in turn: the first of all that was found.
-use Rattle.std.proofs.Common.{◌≡◌, ◌<◌, ◌≤◌, ◌+◌, ◌⊎◌, ◌↔◌, ℕ, Bool, true, false, List, length, Option, Some, None, refl, sym, ap, subst, ◌∙◌, inl, inr, ⊎_elim, arith}
+use Rattle.std.proofs.Common.{◌≡◌, ◌<◌, ◌≤◌, ◌+◌, ◌⊎◌, ℕ, List, length, Option, Some, None, refl, sym, ap, subst, ◌∙◌, inl, inr, ⊎_elim, arith}
 use Rattle.std.specs.Option.{IfSome, IsSomeAnd}
 use Rattle.std.specs.declared.cmp.Ordering.{Ordering}
 use Rattle.std.specs.declared.cmp.Ordering.TheVariants.{Less, Equal, Greater}
@@ -11,7 +11,7 @@ use Rattle.std.proofs.lemmas.Option.{same_Some, slice_get_within}
 use Rattle.std.specs.Prelude.{slice_get}
 use Rattle.ob_base.specs.BrokenOrder.{broken_order, kind_place}
 use Rattle.ob_base.specs.declared.refusal.Broken.{Broken}
-use Rattle.ob_tables.specs.Finding.{Finds, IsUpTo, unties}
+use Rattle.ob_tables.specs.Finding.{Finds, IsUpTo}
 use Rattle.ob_tables.specs.declared.findings.Findings.{Findings}
 
 pub broken_total : IsTotalOrder broken_order

@@ -36,7 +36,7 @@ use Rattle.ob_tables.specs.Rooms.{shown_row, shown_rows, shown_tables}
 use Rattle.ob_schema.specs.Tables.{Fits, IsRowOf, PlainRow, Tables, key_of, next_of, row_at}
 use Rattle.ob_tables.proofs.Shown.{exact_rows, get-shown_next_ids, get-shown_rows, next_or_one, rows_total}
 use Rattle.ob_tables.proofs.Columns.{get-row_of, keeps, kept_as, row-from, row-has, row_of-IsRowOf}
-use Rattle.ob_tables.proofs.Values.{keeps-fields}
+use Rattle.ob_tables.proofs.GivenValues.{keeps-fields}
 
 module _ {K X : Type 0} {R : K → K → Ordering} (o : IsTotalOrder R) (exact : CmpEqualImpliesEq R) (P : K → X → Type 0) (m : finite.FinMap R X) (k : K) where
   one_set : (b : Bool) (q : K) (x : X) (old : Option X) → (b ≡ true → q ≡ k) → P k x → IfSome old (P q) → IfSome (cond b (Some x) old) (P q)
@@ -222,12 +222,14 @@ unset-givable field kept = by_type field.field_type refl
     by_type type.Many2many is = holds type.Many2many (value.Refs []) is (λ k lt. absurd (omega arith))
 
 module _ (info : ModelInfo) (q : ℕ) (field : FieldInfo) (at : numbered (fields_of info) q ≡ Some field) where
-  one_givable : (x : FieldNo × Value) (b : Bool) (l : Option Value) → (x.0.0 == q) ≡ b → IsSomeAnd (numbered (fields_of info) x.0.0) (λ field. IsFitIn field x.1) → IfSome l (IsGivable field) → IfSome (cond b (Some x.1) l) (IsGivable field)
+  one_givable : (x : FieldNo × Value) (b : Bool) (l : Option Value) → (x.0.0 == q) ≡ b → IsSomeAnd (numbered (fields_of info) x.0.0) (λ field. IsFitIn field x.1) → IfSome l (IsGivable field)
+      → IfSome (cond b (Some x.1) l) (IsGivable field)
   one_givable x true l same fit rest = (known_at (numbered (fields_of info) x.0.0) (λ field. IsFitIn field x.1) field (ap (numbered (fields_of info)) (eqb-true x.0.0 q same) ∙ at) fit).1
   one_givable x false l same fit rest = rest
 
   -- what is given for a field is one of its values
-  given-givable : (values : List (FieldNo × Value)) → All (λ given. IsSomeAnd (numbered (fields_of info) given.0.0) (λ field. IsFitIn field given.1)) values → IfSome (lookup (λ (number : FieldNo). number.0 == q) values) (IsGivable field)
+  given-givable : (values : List (FieldNo × Value)) → All (λ given. IsSomeAnd (numbered (fields_of info) given.0.0) (λ field. IsFitIn field given.1)) values
+      → IfSome (lookup (λ (number : FieldNo). number.0 == q) values) (IsGivable field)
   given-givable [] h = tt
   given-givable (x ∷ values) h =
       let Fit = λ (given : FieldNo × Value). IsSomeAnd (numbered (fields_of info) given.0.0) (λ field. IsFitIn field given.1) in

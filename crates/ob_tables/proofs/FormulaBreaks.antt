@@ -1,5 +1,5 @@
 -- What formulas break, by the outcomes of their cells.
-use Rattle.std.proofs.Common.{◌≡◌, ◌<◌, ◌≤◌, ◌+◌, ◌++◌, ◌↔◌, ℕ, zero, suc, Bool, true, false, List, [], ◌∷◌, length, Option, Some, None, is_some, IsSome, option_and_then, Result, Ok, Err, refl, sym, ap, subst, ◌∙◌, arith, length-append}
+use Rattle.std.proofs.Common.{◌≡◌, ◌<◌, ◌≤◌, ◌+◌, ◌++◌, ◌↔◌, ℕ, zero, suc, Bool, true, false, List, [], ◌∷◌, length, Some, None, is_some, IsSome, option_and_then, Result, Ok, Err, refl, sym, ap, subst, ◌∙◌, arith, length-append}
 use Rattle.std.specs.Prelude.{All, IsTrue, slice_get}
 use Rattle.std.specs.Option.{IsSomeAnd}
 use Rattle.std.specs.BTreeMap as tree
@@ -260,8 +260,11 @@ module _ (models : List ModelInfo) (t : Tables) (known : AreSound models t) (cel
     value_kind kind.TooLong such h = no_fault too_long h.1
     value_kind kind.ZeroDivisor such h = no_fault zero_divisor h.1
     value_kind kind.Check such h =
-        let m = model_of_check models t cell h.1 in
-        (refl, same_value (val models t cell) v (value.Bool false) (told (outcome.Value v) is).value h.1.1, tell_and (model_at models cell.model) m.0 (λ m. IsSomeAnd (field_at models cell.model cell.field) (IsCheck m cell.field)) m.1 m.2.1)
+        let m = model_of_check models t cell h.1 in (
+          refl,
+          same_value (val models t cell) v (value.Bool false) (told (outcome.Value v) is).value h.1.1,
+          tell_and (model_at models cell.model) m.0 (λ m. IsSomeAnd (field_at models cell.model cell.field) (IsCheck m cell.field)) m.1 m.2.1,
+        )
     value_kind _ such h = contrary such
 
     pub value-found : (broken : Bool) → IsTrue broken ↔ ((v ≡ value.Bool false) × IsOfCheck) → (a b : Findings) → Finds (Found cell broken kind.Check) a b → Finds Here a b

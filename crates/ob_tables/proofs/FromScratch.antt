@@ -16,7 +16,8 @@ use Rattle.ob_tables.proofs.Expressions.{AreLaws}
 use Rattle.ob_tables.proofs.Whole.{reads_none}
 
 -- each stratum is within the limit
-pub low_strata : (models : List ModelInfo) → IsRegistry models → (c : Cell) (f : FieldInfo) (formula : Formula) → field_at models c.model c.field ≡ Some f → f.origin ≡ origin.Computed formula → formula.stratum < max_stratum + 1
+pub low_strata : (models : List ModelInfo) → IsRegistry models → (c : Cell) (f : FieldInfo) (formula : Formula) → field_at models c.model c.field ≡ Some f → f.origin ≡ origin.Computed formula
+    → formula.stratum < max_stratum + 1
 low_strata models registry c f formula at from = let low = (Formula-at models c.model c.field f formula (Field-at models c.model c.field f registry at) from).low in omega (arith, low)
 
 module _ (laws : AreLaws) (models : List ModelInfo) (tables : Tables) (registry : IsRegistry models) (fits : Fits models tables) (tied : IsTied models tables) where

@@ -61,12 +61,14 @@ module _ {A : Type 0} (R : A → A → Ordering) where
         second = drop_more ys n y b ∙ ap (λ z. z ∷ drop (n + 1) ys) (sym at_y)
 
     -- two that are alike leave it to the rest
-    pub left-alike : (whole : Ordering) (n m : ℕ) (x y : B) → n < length xs → n < length ys → x ≡ get_or xs n x → y ≡ get_or ys n y → m ≡ n + 1 → is_ne (R (shows x) (shows y)) ≡ false → whole ≡ left_cmp n → whole ≡ left_cmp m
+    pub left-alike : (whole : Ordering) (n m : ℕ) (x y : B) → n < length xs → n < length ys → x ≡ get_or xs n x → y ≡ get_or ys n y → m ≡ n + 1 → is_ne (R (shows x) (shows y)) ≡ false
+        → whole ≡ left_cmp n → whole ≡ left_cmp m
     left-alike whole n m x y a b at_x at_y next same so_far =
         so_far ∙ left n x y a b at_x at_y ∙ first-alike (shows x) (shows y) (map shows (drop (n + 1) xs)) (map shows (drop (n + 1) ys)) same ∙ ap left_cmp (sym next)
 
     -- the first two that differ decide
-    pub left-apart : (whole : Ordering) (n : ℕ) (x y : B) → n < length xs → n < length ys → x ≡ get_or xs n x → y ≡ get_or ys n y → is_ne (R (shows x) (shows y)) ≡ true → whole ≡ left_cmp n → whole ≡ R (shows x) (shows y)
+    pub left-apart : (whole : Ordering) (n : ℕ) (x y : B) → n < length xs → n < length ys → x ≡ get_or xs n x → y ≡ get_or ys n y → is_ne (R (shows x) (shows y)) ≡ true → whole ≡ left_cmp n
+        → whole ≡ R (shows x) (shows y)
     left-apart whole n x y a b at_x at_y apart so_far =
         so_far ∙ left n x y a b at_x at_y ∙ first-apart (shows x) (shows y) (map shows (drop (n + 1) xs)) (map shows (drop (n + 1) ys)) apart
 

@@ -52,7 +52,8 @@ module _ (models : List ModelInfo) (tables : Tables) (Good : ℕ → Cell → Ty
     end_settles : (m : ℕ) → b ≤ m → (route : Route) → RouteOf models model formula route → (end : Row) → end.model ≡ end_model model route.links
         → (IsPath route → step_at (end_model model route.links) route.field ≡ own → Good m (cell_of end.id)) → Good m (cell_in end route.field)
     end_settles m high route known end end_is again =
-        let t = told_and (field_at models (end_model model route.links) route.field) (λ info. (kind_of_info info ≡ Some route.kind) × (has_value_of info ≡ true)) (routed_end models model route.links route.field route.kind known.routed) in
+        let t = told_and (field_at models (end_model model route.links) route.field) (λ info. (kind_of_info info ≡ Some route.kind) × (has_value_of info ≡ true))
+        (routed_end models model route.links route.field route.kind known.routed) in
         let there : field_at models end.model route.field ≡ Some t.0 = ap (λ (m : ModelNo). field_at models m route.field) end_is ∙ t.1 in
         by t.0 t.1 there t.0.origin refl
       where

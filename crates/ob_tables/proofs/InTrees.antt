@@ -237,7 +237,8 @@ module _ (models : List ModelInfo) (t : Tables) (model : ModelNo) (parent : Fiel
             let is = one_parent (model_at models model) field parent here.0 tree in
             (is, subst (λ x. IsLeastOf models t P (At x model id)) is here)
 
-        found : (k : BrokenKind) (o : Option ℕ) (cell : Cell) → cell.model ≡ model → cell.field ≡ parent → (at : ℕ) × (o ≡ Some at) × (slice_get ids at ≡ Some cell.id) → IsAt k model parent ids o (record { kind = k; cell = cell })
+        found : (k : BrokenKind) (o : Option ℕ) (cell : Cell) → cell.model ≡ model → cell.field ≡ parent → (at : ℕ) × (o ≡ Some at) × (slice_get ids at ≡ Some cell.id)
+            → IsAt k model parent ids o (record { kind = k; cell = cell })
         found k o cell m f place = record {
           at = place.0;
           id = cell.id;

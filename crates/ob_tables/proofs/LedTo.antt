@@ -65,7 +65,8 @@ plain_there models tables c row f there at from =
 
 module _ (models : List ModelInfo) (tables : Tables) (registry : IsRegistry models) (tied : IsTied models tables) where
   -- a link leads from a row that is there to one that is there
-  pub step_there : (c : Cell) (row : PlainRow) (f : FieldInfo) (target : ModelNo) (id : RecId) → row_at tables c.model c.id ≡ Some row → field_at models c.model c.field ≡ Some f → f.origin ≡ origin.Plain → f.relation ≡ Some target
+  pub step_there : (c : Cell) (row : PlainRow) (f : FieldInfo) (target : ModelNo) (id : RecId) → row_at tables c.model c.id ≡ Some row → field_at models c.model c.field ≡ Some f → f.origin ≡ origin.Plain
+      → f.relation ≡ Some target
       → LeadsTo (plain_at tables models c) id → IsSome (row_at tables target id)
   step_there c row f target id there at from to leads =
       by f.inverse f.mirror refl refl (subst (λ (o : Option Value). LeadsTo o id) (plain_there models tables c row f there at from) leads)
@@ -86,7 +87,8 @@ module _ (models : List ModelInfo) (tables : Tables) (registry : IsRegistry mode
             plain_there models tables c row f there at from ∙ ap (λ (o : Option FieldNo). Some (plain_by tables o f.mirror f c.field c.id row)) p ∙ ap (λ (o : Option FieldNo). Some (plain_by tables None o f c.field c.id row)) q in
             let missing : IsSomeAnd f.relation (λ to. row_at tables to id ≡ None) = tell_and f.relation target (λ to. row_at tables to id ≡ None) to none in
             let names_it : IsSomeAnd (plain_at tables models c) (λ v. (id : RecId) × (names id v ≡ true) × IsSomeAnd f.relation (λ to. row_at tables to id ≡ None)) =
-            tell_and (plain_at tables models c) (kept_in row c.field) (λ v. (id : RecId) × (names id v ≡ true) × IsSomeAnd f.relation (λ to. row_at tables to id ≡ None)) plain (id, leads-names (kept_in row c.field) id on, missing) in
+            tell_and (plain_at tables models c) (kept_in row c.field) (λ v. (id : RecId) × (names id v ≡ true) × IsSomeAnd f.relation (λ to. row_at tables to id ≡ None))
+            plain (id, leads-names (kept_in row c.field) id on, missing) in
             let dangles : Dangles models tables c = (
               there_is (row_at tables c.model c.id) row there,
               tell_and (field_at models c.model c.field) f

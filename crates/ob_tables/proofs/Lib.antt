@@ -2,12 +2,15 @@ pub mod Shown
 pub mod Copied
 pub mod Columns
 pub mod Between
-pub mod Values
+pub mod Above
+pub mod GivenValues
 pub mod FitTables
 pub mod Edits
 pub mod Sources
 pub mod Rising
+pub mod FirstIds
 pub mod OneRow
+pub mod NextIds
 -- The test of edits.
 pub mod Apart
 pub mod KeyTests

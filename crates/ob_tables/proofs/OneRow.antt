@@ -179,7 +179,8 @@ module _ (model : ModelNo) (p : RecId × PlainRow → Bool) where
       outer false = refl
 
   -- a test of keys that is one of ids in the model
-  chosen-where : (test : RowKey → Bool) (part : RecId → Bool) → ((q : RowKey) → q.model.0 ≡ model.0 → test q ≡ part q.id) → (es : List (RowKey × PlainRow)) → chosen (where_key row_key_cmp test es) ≡ filter part (chosen es)
+  chosen-where : (test : RowKey → Bool) (part : RecId → Bool) → ((q : RowKey) → q.model.0 ≡ model.0 → test q ≡ part q.id) → (es : List (RowKey × PlainRow))
+      → chosen (where_key row_key_cmp test es) ≡ filter part (chosen es)
   chosen-where test part same [] = refl
   chosen-where test part same (e ∷ es) = by (chosen-where test part same es)
     where

@@ -16,10 +16,12 @@ use Rattle.std.proofs.lemmas.List.Kept.{AllPairs-from_increasing}
 use Rattle.std.proofs.lemmas.List.Sorted.{searchable_from_sorted}
 use Rattle.std.proofs.lemmas.Map.Keys.{IsStrictlyIncreasing-from_sorted}
 use Rattle.std.proofs.lemmas.Option.{get_or_from_slice_get, none-some, same_Some, slice_get-get_or, slice_get_within}
+use Rattle.ob_base.specs.declared.id.FieldNo.{FieldNo}
 use Rattle.ob_base.specs.declared.id.ModelNo.{ModelNo}
 use Rattle.ob_base.specs.declared.id.RecId.{RecId}
-use Rattle.ob_schema.specs.Tables.{Tables, ids_in}
-use Rattle.ob_tables.proofs.Rising.{id_cmp, ids-rise}
+use Rattle.ob_schema.specs.Plain.{names, naming}
+use Rattle.ob_schema.specs.Tables.{Tables, ids_in, kept_in, rows_in}
+use Rattle.ob_tables.proofs.Rising.{chosen-rise, id_cmp, ids-rise}
 
 above_all : (a : RecId) (ids : List RecId) → AllByRecursion (λ b. id_cmp a b ≡ Less) ids → AllByRecursion (λ n. nat_cmp a.0 n ≡ Less) (map (λ i. i.0) ids)
 above_all a [] h = tt
@@ -33,6 +35,12 @@ by_numbers (x ∷ ids) h = (above_all x ids h.0, by_numbers ids h.1)
 -- the ids of a model rise
 pub ids-increase : (t : Tables) (model : ModelNo) → IsStrictlyIncreasing (map (λ i. i.0) (ids_in t model))
 ids-increase t model = IsStrictlyIncreasing-from_sorted (map (λ i. i.0) (ids_in t model)) (by_numbers (ids_in t model) (ids-rise model t))
+
+-- and so do those of the rows that name one
+pub naming-increase : (t : Tables) (model : ModelNo) (field : FieldNo) (id : RecId) → IsStrictlyIncreasing (map (λ i. i.0) (naming t model field id))
+naming-increase t model field id =
+    IsStrictlyIncreasing-from_sorted (map (λ i. i.0) (naming t model field id))
+    (by_numbers (naming t model field id) (chosen-rise (λ entry. names id (kept_in entry.1 field)) (rows_in t model) (ids-rise model t)))
 
 module _ (ids : List RecId) (rising : IsStrictlyIncreasing (map (λ i. i.0) ids)) where
   none : RecId

@@ -26,7 +26,7 @@ use Rattle.ob_schema.specs.declared.info.Origin.TheVariants as origin
 use Rattle.ob_schema.specs.Fields.{is_own, is_plain_from, is_plain_kept}
 use Rattle.ob_schema.specs.Built.{numbered}
 use Rattle.ob_schema.specs.Models.{HasModel, IsCondition, IsField, IsModel, IsRegistry, field_at, fields_of, is_computed_from, is_id_from, model_at}
-use Rattle.ob_schema.specs.Broken.{BreaksAs, IsPastIds, IsTooFull}
+use Rattle.ob_schema.specs.Broken.{BreaksAs, IsTooFull}
 use Rattle.ob_tables.specs.Finding.{BreaksIn, Counts, Is, is_mirror, is_of_plain}
 use Rattle.ob_schema.specs.Plain.{names, naming, plain_at, plain_by}
 use Rattle.ob_schema.specs.Plain.{targets_of}
@@ -151,9 +151,11 @@ module _ (models : List ModelInfo) (tables : Tables) (cell : Cell) (info : Field
       pub kept-to : (b : Broken) → KeptFound b → BreaksIn models tables is_of_plain (Is cell) b
       kept-to b h = ⊎_elim
           (λ g. ⊎_elim
-          (λ r. let is = wanting.0 r.1 in here kind.Required refl (at-cell (λ info. (is_plain_kept info ≡ true) × (info.required ≡ true) × (plain_at tables models cell ≡ Some value.Nil)) (kept, is.0, plain ∙ ap Some is.1)) b r.0)
+          (λ r. let is = wanting.0 r.1 in
+          here kind.Required refl (at-cell (λ info. (is_plain_kept info ≡ true) × (info.required ≡ true) × (plain_at tables models cell ≡ Some value.Nil)) (kept, is.0, plain ∙ ap Some is.1)) b r.0)
           (λ r. let is = dangling.0 r.1 in
-          here kind.MissingRef refl (at-cell (λ info. (is_plain_kept info ≡ true) × IsSomeAnd (plain_at tables models cell) (λ v. (id : RecId) × (names id v ≡ true) × IsSomeAnd info.relation (λ target. row_at tables target id ≡ None)))
+          here kind.MissingRef refl
+          (at-cell (λ info. (is_plain_kept info ≡ true) × IsSomeAnd (plain_at tables models cell) (λ v. (id : RecId) × (names id v ≡ true) × IsSomeAnd info.relation (λ target. row_at tables target id ≡ None)))
           (kept, subst (λ o. IsSomeAnd o (λ v. (id : RecId) × (names id v ≡ true) × IsSomeAnd info.relation (λ target. row_at tables target id ≡ None))) (sym plain) is)) b r.0)
           g)
           (λ r. here kind.Limit refl (inr (full (length (targets_of v)) refl (too_full.0 r.1))) b r.0)
@@ -250,7 +252,8 @@ module _ (models : List ModelInfo) (t : Tables) (cell : Cell) (info : FieldInfo)
   many_one type.Many2one h = contrary h
 
   -- the list of a mirror is made of the rows that name this one
-  pub mirror-value : info.origin ≡ origin.Plain → (back : FieldNo) (model : ModelNo) → info.mirror ≡ Some back → info.relation ≡ Some model → HasModel models model × (plain_at t models cell ≡ Some (value.Refs (naming t model back cell.id)))
+  pub mirror-value : info.origin ≡ origin.Plain → (back : FieldNo) (model : ModelNo) → info.mirror ≡ Some back → info.relation ≡ Some model
+      → HasModel models model × (plain_at t models cell ≡ Some (value.Refs (naming t model back cell.id)))
   mirror-value plain back model is leads =
       let none = no_inverse info.inverse (is_one2many info.field_type) of_field.inverse (many_one info.field_type (of_field.mirror (ap is_some is))) in
       from-naming models t cell owner.0 info owner.1 law field plain there back model (ap (λ o. option_or o info.mirror) none ∙ is) leads
@@ -300,7 +303,8 @@ module _ (models : List ModelInfo) (t : Tables) (cell : Cell) (info : FieldInfo)
         b.kind h.0 in_it.1)
 
 -- the model to which a field leads is there
-pub relation-there : (models : List ModelInfo) (t : Tables) (cell : Cell) (info : FieldInfo) → IsRegistry models → field_at models cell.model cell.field ≡ Some info → (target : ModelNo) → info.relation ≡ Some target → HasModel models target
+pub relation-there : (models : List ModelInfo) (t : Tables) (cell : Cell) (info : FieldInfo) → IsRegistry models → field_at models cell.model cell.field ≡ Some info → (target : ModelNo)
+    → info.relation ≡ Some target → HasModel models target
 relation-there models t cell info registry field target leads =
     let m = model-of models cell.model cell.field info field in
     let law = its_law models t cell m.0 info m.1 (registry.each cell.model m.0 m.1) field in
@@ -312,7 +316,8 @@ slice_front (f ∷ fields) hidden zero field h = h
 slice_front (f ∷ fields) hidden (suc k) field h = slice_front fields hidden k field h
 
 -- the named field at a place of a model
-pub field-at-place : (models : List ModelInfo) (model : ModelNo) (m : ModelInfo) (k : ℕ) (field : FieldInfo) → model_at models model ≡ Some m → slice_get m.fields k ≡ Some field → field_at models model (record { 0 = suc k }) ≡ Some field
+pub field-at-place : (models : List ModelInfo) (model : ModelNo) (m : ModelInfo) (k : ℕ) (field : FieldInfo) → model_at models model ≡ Some m → slice_get m.fields k ≡ Some field
+    → field_at models model (record { 0 = suc k }) ≡ Some field
 field-at-place models model m k field at is = ap (option_and_then (λ i. numbered (fields_of i) (suc k))) at ∙ slice_front m.fields m.hidden k field is
 
 front_or : (fields hidden : List FieldInfo) (k : ℕ) (field : FieldInfo) → All IsCondition hidden → (IsCondition field → ⊥) → slice_get (fields ++ hidden) k ≡ Some field → slice_get fields k ≡ Some field

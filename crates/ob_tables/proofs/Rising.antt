@@ -86,7 +86,8 @@ module _ (model : ModelNo) where
   all_above k [] is h = tt
   all_above k (e ∷ es) is h = by_case (of_model e) refl (all_above k es is (second (is_lt (row_key_cmp k e.0)) (below_all row_key_cmp k es) h))
     where
-      by_case : (b : Bool) → of_model e ≡ b → AllByRecursion (λ id. id_cmp k.id id ≡ Less) (ids_of (filter of_model es)) → AllByRecursion (λ id. id_cmp k.id id ≡ Less) (ids_of (cond b (e ∷ filter of_model es) (filter of_model es)))
+      by_case : (b : Bool) → of_model e ≡ b → AllByRecursion (λ id. id_cmp k.id id ≡ Less) (ids_of (filter of_model es))
+          → AllByRecursion (λ id. id_cmp k.id id ≡ Less) (ids_of (cond b (e ∷ filter of_model es) (filter of_model es)))
       by_case true of rest = (same_model k e.0 (is ∙ sym (eqb-true e.0.model.0 model.0 of)) (less (row_key_cmp k e.0) (first (is_lt (row_key_cmp k e.0)) (below_all row_key_cmp k es) h)), rest)
       by_case false of rest = rest
 
@@ -125,3 +126,21 @@ module _ (p : RecId × PlainRow → Bool) where
 
   pub chosen-passed : (from es : List (RowKey × BTreeMap ℕ Value)) (e : RowKey × BTreeMap ℕ Value) → from ≡ e ∷ es → p (shown_entry e) ≡ false → chosen_ids from ≡ chosen_ids es
   chosen-passed from es e is fails = ap chosen_ids is ∙ ap (λ b. map (λ entry. entry.0) (cond b (shown_entry e ∷ filter p (map shown_entry es)) (filter p (map shown_entry es)))) fails
+
+  all_chosen : (P : RecId → Type 0) (rows : List (RecId × PlainRow)) → AllByRecursion P (map (λ entry. entry.0) rows) → AllByRecursion P (map (λ entry. entry.0) (filter p rows))
+  all_chosen P [] h = tt
+  all_chosen P (e ∷ rows) h = by_case (p e) (all_chosen P rows h.1)
+    where
+      by_case : (b : Bool) → AllByRecursion P (map (λ entry. entry.0) (filter p rows)) → AllByRecursion P (map (λ entry. entry.0) (cond b (e ∷ filter p rows) (filter p rows)))
+      by_case true rest = (h.0, rest)
+      by_case false rest = rest
+
+  -- the ids of rows that pass rise where those of all do
+  pub chosen-rise : (rows : List (RecId × PlainRow)) → IsStrictlySortedBy id_cmp (map (λ entry. entry.0) rows) → IsStrictlySortedBy id_cmp (map (λ entry. entry.0) (filter p rows))
+  unfolding IsStrictlySortedBy
+  chosen-rise [] h = tt
+  chosen-rise (e ∷ rows) h = by_case (p e) (chosen-rise rows h.1)
+    where
+      by_case : (b : Bool) → IsStrictlySortedBy id_cmp (map (λ entry. entry.0) (filter p rows)) → IsStrictlySortedBy id_cmp (map (λ entry. entry.0) (cond b (e ∷ filter p rows) (filter p rows)))
+      by_case true rest = (all_chosen (λ other. id_cmp e.0 other ≡ Less) rows h.0, rest)
+      by_case false rest = rest

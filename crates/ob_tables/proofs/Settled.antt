@@ -37,7 +37,8 @@ pub record Behind (models : List ModelInfo) (model : ModelNo) (at : Delegation) 
   pub own : is_delegated_from target.origin ≡ false
 
 -- a delegated field of a registry has these
-pub Behind-at : (models : List ModelInfo) (model : ModelNo) (number : FieldNo) (f : FieldInfo) (at : Delegation) → IsRegistry models → field_at models model number ≡ Some f → f.origin ≡ origin.Delegated at → Behind models model at
+pub Behind-at : (models : List ModelInfo) (model : ModelNo) (number : FieldNo) (f : FieldInfo) (at : Delegation) → IsRegistry models → field_at models model number ≡ Some f → f.origin ≡ origin.Delegated at
+    → Behind models model at
 Behind-at models model number f at registry found is =
     let field = Field-at models model number f registry found in
     let right : IsDelegatedIn models field.info f at = subst (λ (o : Origin). IsOriginIn models model field.info f o) is field.right.origin in

@@ -103,7 +103,8 @@ module _ (models : List ModelInfo) (t : Tables) (model : ModelNo) (registry : Is
       (to-alike set id other a.1 (All-tail IsKept field set kept) one two a.3 (b.3 ∙ ap Some (sym (same_rest a.0 b.0 a.1 b.1 all))))
 
   -- and rows that are alike in each have the same values
-  from-alike : (set : List FieldNo) (id other : RecId) → All IsKept set → IsThere id → IsThere other → All (Alike id other) set → (vs : List Value) × (set_values t model id set ≡ Some vs) × (set_values t model other set ≡ Some vs)
+  from-alike : (set : List FieldNo) (id other : RecId) → All IsKept set → IsThere id → IsThere other → All (Alike id other) set
+      → (vs : List Value) × (set_values t model id set ≡ Some vs) × (set_values t model other set ≡ Some vs)
   from-alike [] id other kept one two alike = ([], refl, refl)
   from-alike (field ∷ set) id other kept one two alike =
       let is = All-head IsKept field set kept in

@@ -23,7 +23,7 @@ use Rattle.ob_schema.specs.Plain.{naming, naming_back, plain_at, plain_by, plain
 use Rattle.ob_schema.specs.Tables.{Fits, IsRowOf, PlainRow, Tables, kept_at, row_at}
 use Rattle.ob_tables.proofs.Columns.{keeps, row-has}
 use Rattle.ob_tables.proofs.FitTables.{known_at}
-use Rattle.ob_tables.proofs.Values.{keeps-fields}
+use Rattle.ob_tables.proofs.GivenValues.{keeps-fields}
 
 one2many-relation : (t : FieldType) → is_one2many t ≡ true → is_relation t ≡ true
 one2many-relation type.Boolean h = cc

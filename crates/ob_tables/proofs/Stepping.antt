@@ -59,7 +59,8 @@ pub steps-doubled : (one many double : List (Option ℕ)) (n : ℕ) → AreSteps
 steps-doubled one many double n a b = record {
   long = b.long ∙ a.long;
   inside = b.inside;
-  steps = λ p. b.steps p ∙ steps-two (step_of many) p ∙ and_then_same (step_of many) (steps_in (step_of one) n) a.steps (step_of many p) ∙ ap (option_and_then (steps_in (step_of one) n)) (a.steps p) ∙ sym (steps-add (step_of one) n n p);
+  steps = λ p. b.steps p ∙ steps-two (step_of many) p ∙ and_then_same (step_of many) (steps_in (step_of one) n) a.steps (step_of many p) ∙ ap (option_and_then (steps_in (step_of one) n)) (a.steps p)
+      ∙ sym (steps-add (step_of one) n n p);
 }
 
 pub steps-once : (one : List (Option ℕ)) → LeadsInside one → AreSteps one 1 one
@@ -154,11 +155,13 @@ least-more steps i step old new is before both = by new both
     last : (n : ℕ) → n < i + 1 → (n < i) ⊎ (n ≡ i)
     last n low = ⊎_elim (λ less. inl less) (λ above. inr (omega arith)) (cases_lt n i)
 
-    to : (o : Option ℕ) → IsLeastPlace (λ place. (from : ℕ) × (from < i) × (step_of steps from ≡ Some place)) o → (place : ℕ) → (o ≡ Some place) ⊎ (step ≡ Some place) → (from : ℕ) × (from < i + 1) × (step_of steps from ≡ Some place)
+    to : (o : Option ℕ) → IsLeastPlace (λ place. (from : ℕ) × (from < i) × (step_of steps from ≡ Some place)) o → (place : ℕ) → (o ≡ Some place) ⊎ (step ≡ Some place)
+        → (from : ℕ) × (from < i + 1) × (step_of steps from ≡ Some place)
     to None h place which = ⊎_elim (λ e. absurd (none-some place e)) (λ e. (i, omega arith, step-at steps i step is ∙ e)) which
     to (Some p) h place which = ⊎_elim (λ e. let at = h.0 in let low = at.1 in (at.0, omega arith, at.2 ∙ e)) (λ e. (i, omega arith, step-at steps i step is ∙ e)) which
 
-    reach : (o : Option ℕ) → IsLeastPlace (λ place. (from : ℕ) × (from < i) × (step_of steps from ≡ Some place)) o → (place from : ℕ) → from < i → step_of steps from ≡ Some place → (p : ℕ) × (o ≡ Some p) × (p ≤ place)
+    reach : (o : Option ℕ) → IsLeastPlace (λ place. (from : ℕ) × (from < i) × (step_of steps from ≡ Some place)) o → (place from : ℕ) → from < i → step_of steps from ≡ Some place
+        → (p : ℕ) × (o ≡ Some p) × (p ≤ place)
     reach None h place from low e = absurd (h place (from, low, e))
     reach (Some p) h place from low e = (p, refl, h.1 place (from, low, e))
 

@@ -37,7 +37,8 @@ module _ (models : List ModelInfo) (t : Tables) (model : ModelNo) (parent : Fiel
   kept_of : (id other : RecId) → Up id other → (kept_at t (record { model = model; id = id; field = parent }) ≡ Some (value.Ref other)) × IsSome (row_at t model other)
   kept_of id other up = by (row_at t model id) up
     where
-      by : (o : Option PlainRow) → IsSomeAnd o (λ row. (kept_in row parent ≡ value.Ref other) × IsSome (row_at t model other)) → (option_and_then (λ row. finite.get row parent.0) o ≡ Some (value.Ref other)) × IsSome (row_at t model other)
+      by : (o : Option PlainRow) → IsSomeAnd o (λ row. (kept_in row parent ≡ value.Ref other) × IsSome (row_at t model other))
+          → (option_and_then (λ row. finite.get row parent.0) o ≡ Some (value.Ref other)) × IsSome (row_at t model other)
       by None up = absurd up
       by (Some row) up = (is_ref (finite.get row parent.0) other up.0, up.1)
 

@@ -89,7 +89,8 @@ module _ (laws : AreLaws) (models : List ModelInfo) (tables : Tables) (registry 
   behind_has n c to known row there target initial (value.Refs ids) holds = refl
 
   -- a delegated one
-  delegated_has : (n : ℕ) (c : Cell) (info : FieldInfo) (to : Delegation) → field_at models c.model c.field ≡ Some info → info.origin ≡ origin.Delegated to → ((id : RecId) → HasValue n (behind models tables to id)) → HasValue (suc n) c
+  delegated_has : (n : ℕ) (c : Cell) (info : FieldInfo) (to : Delegation) → field_at models c.model c.field ≡ Some info → info.origin ≡ origin.Delegated to
+      → ((id : RecId) → HasValue n (behind models tables to id)) → HasValue (suc n) c
   delegated_has n c info to found from target = λ there.
       let row = is_there (row_at tables c.model c.id) there.0 in
       let known = Behind-at models c.model c.field info to registry found from in

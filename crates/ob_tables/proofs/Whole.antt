@@ -73,7 +73,8 @@ module _ (laws : AreLaws) (models : List ModelInfo) (tables : Tables) (registry 
       let both : Ok has.0 ≡ Err (unread other) = sym has.1 ∙ is in cc
 
   -- a delegated cell
-  reads_delegated : (n : ℕ) (c : Cell) (info : FieldInfo) (at : Delegation) → 1 ≤ n → field_at models c.model c.field ≡ Some info → info.origin ≡ origin.Delegated at → ((id : RecId) → Reads n (behind models tables at id)) → Reads (suc n) c
+  reads_delegated : (n : ℕ) (c : Cell) (info : FieldInfo) (at : Delegation) → 1 ≤ n → field_at models c.model c.field ≡ Some info → info.origin ≡ origin.Delegated at
+      → ((id : RecId) → Reads n (behind models tables at id)) → Reads (suc n) c
   reads_delegated n c info at some found from target = λ there f deep other is.
       let row = is_there (row_at tables c.model c.id) there.0 in
       let known = Behind-at models c.model c.field info at registry found from in

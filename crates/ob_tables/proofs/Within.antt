@@ -63,7 +63,8 @@ module _ (models : List ModelInfo) (tables : Tables) where
 
   -- of a cell that no formula computes
   within-others : (n : ℕ) (cell : Cell)
-      → (IsSome (row_at tables cell.model cell.id) → (info : FieldInfo) (formula : Formula) → field_at models cell.model cell.field ≡ Some info → info.origin ≡ origin.Computed formula → ⊥) → IsWithin models tables (suc n) cell
+      → (IsSome (row_at tables cell.model cell.id) → (info : FieldInfo) (formula : Formula) → field_at models cell.model cell.field ≡ Some info → info.origin ≡ origin.Computed formula → ⊥)
+      → IsWithin models tables (suc n) cell
   unfolding IsWithin
   within-others n cell not = λ row info formula at from other along. absurd (not row info formula at from)
 

@@ -1,7 +1,8 @@
 -- What one edit changes of rows and of the lists that they make: its own row alone.
-use Rattle.std.specs.Prelude.{◌++◌, Bool, false, List, [], ◌∷◌, cond, filter, is_some, nat_lt}
+use Rattle.std.specs.Prelude.{◌≡◌, ◌<◌, ◌++◌, ℕ, ⊤, Bool, false, List, [], ◌∷◌, cond, filter, is_some, nat_lt}
 use Rattle.std.specs.Option.{option_map_or}
 use Rattle.ob_base.specs.declared.id.FieldNo.{FieldNo}
+use Rattle.ob_base.specs.declared.id.ModelNo.{ModelNo}
 use Rattle.ob_base.specs.declared.id.RecId.{RecId}
 use Rattle.ob_base.specs.declared.id.RowKey.{RowKey}
 use Rattle.ob_schema.specs.Plain.{names}
@@ -26,3 +27,8 @@ has_row tables key = is_some (row_at tables key.model key.id)
 -- whether a row is there whose field names another
 abbrev pub row_names : Tables → RowKey → FieldNo → RecId → Bool
 row_names tables key field id = option_map_or (λ row. names id (kept_in row field)) (row_at tables key.model key.id) false
+
+-- a row of the model that an edit makes has an id below a bound
+abbrev pub MakesBelow : ModelNo → ℕ → Edit → Type 0
+MakesBelow model bound (edit.Make other id values) = other ≡ model → id.0 < bound
+MakesBelow model bound _ = ⊤

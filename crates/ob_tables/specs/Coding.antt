@@ -13,7 +13,7 @@ abbrev coded_key : Coded RowKey
 coded_key = code_by (ℕ × ℕ) (coded× coded_ℕ coded_ℕ) (λ k. (k.model.0, k.id.0)) (λ p. record { model = record { 0 = p.0 }; id = record { 0 = p.1 } }) (λ _. refl)
 
 -- tables are stored as their two maps
-abbrev coded_tables : Coded Value → Coded Tables
+abbrev pub coded_tables : Coded Value → Coded Tables
 coded_tables values =
     code_by (finite.FinMap row_key_cmp PlainRow × finite.FinMap nat_cmp ℕ) (coded× (finite.code coded_key (finite.code coded_ℕ values)) (finite.code coded_ℕ coded_ℕ)) (λ t. (t.rows, t.next_ids))
     (λ p. record { rows = p.0; next_ids = p.1 }) (λ _. refl)

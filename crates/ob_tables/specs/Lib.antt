@@ -5,6 +5,7 @@ pub mod Changes
 pub mod Faults
 pub mod Applying
 pub mod Agreeing
+pub mod Paging
 -- How tables are stored.
 pub mod Coding
 -- Private: the words by which the rooms of the crate are joined.

@@ -2,7 +2,7 @@
 
 ghost use Rattle.std.specs.Prelude.{◌≡◌, All, IfErr, IfOk};
 ghost use Rattle.ob_tables.specs.After.{after};
-ghost use Rattle.ob_tables.specs.Applying.{FirstBroken};
+ghost use Rattle.ob_tables.specs.Applying.{FirstBroken, IsFirstOrSound};
 ghost use Rattle.ob_schema.specs.Broken.{Sound};
 ghost use Rattle.ob_tables.specs.Fitting.{IsFitEdit};
 
@@ -43,9 +43,16 @@ impl<'a> Tables<'a> {
         ensures broken { IfErr result (FirstBroken self.now.models (after self.now.models self.now.tables edits.now)) }
     {
         let tables = self.after(edits)?;
-        match first_broken(&tables)? {
+        match tables.broken()? {
             None => Ok(tables),
             Some(broken) => Err(ApplyFault::Broken(broken)),
         }
+    }
+
+    /// The first that is broken in these tables, by cell, then kind; none where they are sound.
+    pub fn broken(&self) -> Result<Option<Broken>, NoMemory>
+        ensures { IfOk result (IsFirstOrSound self.now.models self.now.tables) }
+    {
+        first_broken(self)
     }
 }

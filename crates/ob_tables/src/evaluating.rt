@@ -27,31 +27,38 @@ use ob_base::limits::{MAX_CHAR_BYTES, MAX_STRATUM, MAX_TEXT_BYTES, MAX_TREE_DEPT
 use ob_base::{Cell, FieldNo, ModelNo, NoMemory, RecId, Silent, Steps, Value, cell_cmp};
 use ob_expr::{EvalFault, eval, reads_along_paths};
 use ob_schema::{Delegation, FieldInfo, FieldType, Formula, Origin};
-use std::collections::BTreeMap;
 
 /// How many formulas are read in turn at most: down the strata, and in each along a tree.
 const MAX_CHAIN: usize = MAX_TREE_DEPTH * (MAX_STRATUM as usize + 1) + 2;
 
 impl Given<'_, '_> {
-    /// The value of a cell of a row that is there.
-    pub(crate) fn value_of(&self, cell: Cell) -> Result<Value, ScratchFault>
+    /// The value of a cell of a row that is there. What was evaluated before isn't evaluated
+    /// again; after a fault the outcomes are of no use.
+    pub(crate) fn value_of(
+        &self,
+        outcomes: &mut Outcomes,
+        cell: Cell,
+    ) -> Result<Value, ScratchFault>
         requires field { IsSome (field_at self.now.tables.now.models cell.model cell.field) }
         requires row { IsSome (row_at self.now.tables.now.tables cell.model cell.id) }
         requires tied { IsTied self.now.tables.now.models self.now.tables.now.tables }
+        requires right { AreOutcomes self.now.tables.now.models self.now.tables.now.tables outcomes.old }
+        ensures right { IfOk result (λ _. AreOutcomes self.now.tables.now.models self.now.tables.now.tables outcomes.new) }
         ensures value { IfOk result (λ value. values_of self.now.tables.now.models self.now.tables.now.tables cell ≡ Ok value) }
         ensures fault { IfErr result (Lacks (values_of self.now.tables.now.models self.now.tables.now.tables cell)) }
     {
         let tables = self.tables;
         let info = tables.schema.info(cell.model, cell.field);
         match &info.origin {
-            Origin::Delegated(at) => self.value_behind(cell, *at, info),
-            _ => self.own_value(cell),
+            Origin::Delegated(at) => self.value_behind(outcomes, cell, *at, info),
+            _ => self.own_value(outcomes, cell),
         }
     }
 
     /// The value that a row has from the one behind a link; unset where the link is.
     fn value_behind(
         &self,
+        outcomes: &mut Outcomes,
         cell: Cell,
         at: Delegation,
         info: &FieldInfo,
@@ -60,6 +67,8 @@ impl Given<'_, '_> {
         requires delegated { info.now.origin ≡ origin.Delegated at }
         requires row { IsSome (row_at self.now.tables.now.tables cell.model cell.id) }
         requires tied { IsTied self.now.tables.now.models self.now.tables.now.tables }
+        requires right { AreOutcomes self.now.tables.now.models self.now.tables.now.tables outcomes.old }
+        ensures right { IfOk result (λ _. AreOutcomes self.now.tables.now.models self.now.tables.now.tables outcomes.new) }
         ensures value { IfOk result (λ value. values_of self.now.tables.now.models self.now.tables.now.tables cell ≡ Ok value) }
         ensures fault { IfErr result (Lacks (values_of self.now.tables.now.models self.now.tables.now.tables cell)) }
     {
@@ -72,26 +81,30 @@ impl Given<'_, '_> {
             unreachable!()
         };
         match row_named(&value) {
-            Some(id) => self.own_value(Cell {
-                model: at.model,
-                id,
-                field: at.field,
-            }),
+            Some(id) => {
+                let behind = Cell {
+                    model: at.model,
+                    id,
+                    field: at.field,
+                };
+                self.own_value(outcomes, behind)
+            }
             None => Ok(initial_value(self.alloc(), info.field_type)),
         }
     }
 
     /// The value of a cell that isn't delegated.
-    fn own_value(&self, cell: Cell) -> Result<Value, ScratchFault>
+    fn own_value(&self, outcomes: &mut Outcomes, cell: Cell) -> Result<Value, ScratchFault>
         requires field { IsSomeAnd (field_at self.now.tables.now.models cell.model cell.field) (λ info. is_delegated_from info.origin ≡ false) }
         requires row { IsSome (row_at self.now.tables.now.tables cell.model cell.id) }
         requires tied { IsTied self.now.tables.now.models self.now.tables.now.tables }
+        requires right { AreOutcomes self.now.tables.now.models self.now.tables.now.tables outcomes.old }
+        ensures right { IfOk result (λ _. AreOutcomes self.now.tables.now.models self.now.tables.now.tables outcomes.new) }
         ensures value { IfOk result (λ value. values_of self.now.tables.now.models self.now.tables.now.tables cell ≡ Ok value) }
         ensures fault { IfErr result (Lacks (values_of self.now.tables.now.models self.now.tables.now.tables cell)) }
     {
         self.laws();
-        let mut outcomes = BTreeMap::new(self.alloc());
-        self.settle(&mut outcomes, cell)?;
+        self.settle(outcomes, cell)?;
         match outcomes.get(&cell) {
             Some(Outcome::Value(value)) => Ok(value.try_clone(self.alloc())?),
             Some(Outcome::Own(reason)) => Err(fault_for(*reason)),

@@ -1,7 +1,8 @@
 //! Laws of the definitions, as clauses of functions that do nothing.
 
 ghost use Rattle.std.specs.FinMap as finite;
-ghost use Rattle.std.specs.Prelude.{◌≡◌, ◌≢◌, ◌++◌, IsOk, IsSome, List, None, Ok, Result, Some, option_map, true};
+ghost use Rattle.std.specs.Prelude.{◌≡◌, ◌≢◌, ◌≤◌, ◌++◌, ℕ, All, IsOk, IsSome, List, None, Ok, Result, Some, option_map, slice_get, true};
+ghost use Rattle.ob_base.specs.Rising.{IsRising};
 ghost use Rattle.ob_base.specs.declared.id.Cell.{Cell};
 ghost use Rattle.ob_base.specs.declared.id.FieldNo.{FieldNo};
 ghost use Rattle.ob_base.specs.declared.id.ModelNo.{ModelNo};
@@ -17,9 +18,9 @@ ghost use Rattle.ob_schema.specs.declared.info.Formula.{Formula};
 ghost use Rattle.ob_schema.specs.declared.info.ModelInfo.{ModelInfo};
 ghost use Rattle.ob_schema.specs.Plain.{naming};
 ghost use Rattle.ob_tables.specs.After.{after, edited, row_of};
-ghost use Rattle.ob_tables.specs.Changes.{edited_row, has_row, row_names, with_id_if};
+ghost use Rattle.ob_tables.specs.Changes.{MakesBelow, edited_row, has_row, row_names, with_id_if};
 ghost use Rattle.ob_schema.specs.Tied.{IsTied};
-ghost use Rattle.ob_schema.specs.Tables.{Fits, Tables, ids_in, key_of, row_at, rows_in};
+ghost use Rattle.ob_schema.specs.Tables.{Fits, Tables, ids_in, key_of, next_of, row_at, rows_in};
 ghost use Rattle.ob_schema.specs.Val.{AgreesOnRows, IsVal, ReadsNoneInVain, formula_value, or_inherited, val};
 ghost use Rattle.ob_tables.specs.Agreeing.{AgreeAlong};
 ghost use Rattle.ob_tables.specs.declared.edit.Edit.{Edit};
@@ -97,3 +98,20 @@ pub fn reads_alone()
 {
     reads_along_paths();
 }
+
+/// The ids of a model are those of its rows, and rise; so do those of the rows that name one.
+pub fn ids_are_of_rows()
+    ensures there { (tables : Tables) (model : ModelNo) (place : ℕ) (id : RecId) → slice_get (ids_in tables model) place ≡ Some id → IsSome (row_at tables model id) }
+    ensures listed { (tables : Tables) (model : ModelNo) (id : RecId) → IsSome (row_at tables model id) → (place : ℕ) × (slice_get (ids_in tables model) place ≡ Some id) }
+    ensures rising { (tables : Tables) (model : ModelNo) → IsRising (ids_in tables model) }
+    ensures naming { (tables : Tables) (model : ModelNo) (field : FieldNo) (id : RecId) → IsRising (naming tables model field id) }
+{}
+
+/// Edits never lower a next id, and raise it no further than above the ids of the rows that
+/// they make.
+pub fn next_ids_after()
+    ensures rises { (models : List ModelInfo) (tables : Tables) (edits : List Edit) (model : ModelNo)
+        → next_of tables model ≤ next_of (after models tables edits) model }
+    ensures bound { (models : List ModelInfo) (tables : Tables) (edits : List Edit) (model : ModelNo) (bound : ℕ)
+        → All (MakesBelow model bound) edits → next_of tables model ≤ bound → next_of (after models tables edits) model ≤ bound }
+{}

@@ -28,6 +28,7 @@ mod formulas;
 mod index;
 mod laws;
 mod outcome;
+mod paging;
 mod reading;
 mod row;
 #[cfg(test)]
@@ -37,10 +38,15 @@ mod tables;
 #[cfg(test)]
 mod tests;
 mod unique;
+mod values;
 
 pub use applying::ApplyFault;
 pub use edit::Edit;
 pub use fault::ScratchFault;
 pub use fitting::fits;
-pub use laws::{after_in_turn, one_row_changes, reads_alone, sound_values, values_from_scratch};
+pub use laws::{
+    after_in_turn, ids_are_of_rows, next_ids_after, one_row_changes, reads_alone, sound_values,
+    values_from_scratch,
+};
 pub use tables::Tables;
+pub use values::Values;

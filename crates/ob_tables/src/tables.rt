@@ -3,7 +3,7 @@
 //! `specs/Tables`; the maps here may change at will. A next id that was never raised isn't
 //! kept, so that empty tables take no memory.
 
-ghost use Rattle.std.specs.Prelude.{◌≡◌, ◌≤◌, ◌<◌, ◌+◌, ◌^◌, ◌-◌, All, IfErr, IfOk, IsSome, Ok, IsSomeAnd, Some, is_some, true, map, option_and_then, option_map};
+ghost use Rattle.std.specs.Prelude.{◌≡◌, ◌≤◌, ◌<◌, ◌+◌, ◌^◌, ◌-◌, All, IfErr, IfOk, IsSome, Ok, IsSomeAnd, Some, is_some, true, filter, map, nat_lt, option_and_then, option_map};
 ghost use Rattle.std.specs.FinMap as finite;
 ghost use Rattle.ob_base.specs.declared.id.RecId.{RecId};
 ghost use Rattle.ob_schema.specs.Models.{HasModel, IsRegistry, field_at, is_given_from};
@@ -88,7 +88,7 @@ impl<'a> Tables<'a> {
         requires { All (IsFitEdit self.now.models) edits.now }
         ensures { IfOk result (λ tables. tables ≡ record { models = self.now.models; tables = after self.now.models self.now.tables edits.now }) }
     {
-        let mut tables = self.copy()?;
+        let mut tables = self.try_clone()?;
         for edit in edits {
             tables.carry_out(edit)?;
         }
@@ -142,7 +142,7 @@ impl<'a> Tables<'a> {
         requires above { (id : RecId) → IsSome (row_at self.now.tables model id) → id.0 < next }
         ensures { IfOk result (λ tables. tables ≡ record { models = self.now.models; tables = with_next_id model next self.now.tables }) }
     {
-        let mut tables = self.copy()?;
+        let mut tables = self.try_clone()?;
         tables.next_ids.insert(model.0, next)?;
         Ok(tables)
     }
@@ -158,7 +158,8 @@ impl<'a> Tables<'a> {
         if !self.has_row(cell.model, cell.id) {
             return Err(ScratchFault::Missing);
         }
-        Given::of(self)?.value_of(cell)
+        let mut outcomes = BTreeMap::new(self.alloc);
+        Given::of(self)?.value_of(&mut outcomes, cell)
     }
 
     /// The law of all tables: they fit their registry, whose parts fit together.
@@ -170,7 +171,7 @@ impl<'a> Tables<'a> {
     }
 
     /// Whether a row is there.
-    pub(crate) fn has_row(&self, model: ModelNo, id: RecId) -> bool
+    pub fn has_row(&self, model: ModelNo, id: RecId) -> bool
         ensures { result ≡ is_some (row_at self.now.tables model id) }
     {
         self.rows.contains_key(&RowKey { model, id })
@@ -184,6 +185,19 @@ impl<'a> Tables<'a> {
         self.rows.range((
             Bound::Included(row_key(model, 0)),
             Bound::Excluded(row_key(model, self.next(model))),
+        ))
+    }
+
+    /// The rows of a model with ids above one, rising.
+    pub(crate) fn rows_above(&self, model: ModelNo, after: RecId) -> Range<'_, RowKey, PlainRow>
+        requires { HasModel self.now.models model }
+        ensures { map (λ entry. (entry.0.id, shown_row entry.1)) result ≡ filter (λ entry. nat_lt after.0 entry.0.0) (rows_in self.now.tables model) }
+    {
+        let next = self.next(model);
+        let first = after.0.min(next - 1) + 1;
+        self.rows.range((
+            Bound::Included(row_key(model, first)),
+            Bound::Excluded(row_key(model, next)),
         ))
     }
 
@@ -234,12 +248,7 @@ impl<'a> Tables<'a> {
     }
 
     /// The rows of a model that name a row by a field.
-    pub(crate) fn naming(
-        &self,
-        model: ModelNo,
-        field: FieldNo,
-        id: RecId,
-    ) -> Result<RefList, NoMemory>
+    pub fn naming(&self, model: ModelNo, field: FieldNo, id: RecId) -> Result<RefList, NoMemory>
         requires { HasModel self.now.models model }
         ensures { IfOk result (λ ids. ids ≡ naming self.now.tables model field id) }
     {
@@ -309,7 +318,7 @@ impl<'a> Tables<'a> {
     }
 
     /// The same tables again.
-    fn copy(&self) -> Result<Tables<'a>, NoMemory>
+    pub fn try_clone(&self) -> Result<Tables<'a>, NoMemory>
         ensures { IfOk result (λ tables. tables ≡ self.now) }
     {
         Ok(Tables {

@@ -1,4 +1,4 @@
-use Rattle.std.proofs.Common.{◌≡◌, ◌∙◌, Some, ap, sym, subst, get_or, IsSome}
+use Rattle.std.proofs.Common.{◌∙◌, ap, sym, subst, get_or, IsSome}
 use Rattle.std.specs.Prelude.{slice_get}
 use Rattle.std.proofs.lemmas.Option.{slice_get-get_or}
 use Rattle.ob_base.specs.declared.id.RecId.{RecId}

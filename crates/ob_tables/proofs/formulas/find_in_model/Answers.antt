@@ -1,4 +1,4 @@
-use Rattle.std.proofs.Common.{◌≡◌, ◌∙◌, ◌<◌, ◌+◌, ℕ, suc, Some, None, ap, sym, subst, add-one, arith, length, option_map}
+use Rattle.std.proofs.Common.{◌≡◌, ◌∙◌, suc, Some, None, ap, sym, subst, add-one, arith, option_map}
 use Rattle.ob_schema.specs.Models.{model_at}
 use Rattle.ob_schema.specs.Tables.{Standing}
 use Rattle.ob_tables.specs.Finding.{BreaksIn, Finds, IsIn, IsOf, is_of_formulas}

@@ -8,7 +8,7 @@ use Rattle.std.proofs.lemmas.Map.Lookups.{exact_unsigned}
 use Rattle.ob_tables.specs.After.{row_of}
 use Rattle.ob_tables.specs.Rooms.{shown_row}
 use Rattle.ob_tables.proofs.Shown.{get-shown_row}
-use Rattle.ob_tables.proofs.Values.{by_number, given-all}
+use Rattle.ob_tables.proofs.GivenValues.{by_number, given-all}
 use Rattle.ob_tables.proofs.row.new_row.Goals as goal
 
 pub loop-field-init : goal.loop-field-init

@@ -58,8 +58,13 @@ returns c =
       h.model_is,
       subst (λ k. BreaksAs models t k b.cell) (sym h.kind_is) (
         subst (λ i. IsSome (row_at t i b.cell.id)) (sym h.model_is) h.there,
-        known_by (model_at models b.cell.model) (λ info. Any (IsSharedSet models t b.cell) info.unique) m (ap (model_at models) h.model_is ∙ at)
-            (k, set, slice_get_within m.unique k set (ap (λ l. slice_get l k) (sym c.as_slice-set-items.ensures) ∙ is), get_or_from_slice_get m.unique k set set (ap (λ l. slice_get l k) (sym c.as_slice-set-items.ensures) ∙ is), h.shared),
+        known_by (model_at models b.cell.model) (λ info. Any (IsSharedSet models t b.cell) info.unique) m (ap (model_at models) h.model_is ∙ at) (
+          k,
+          set,
+          slice_get_within m.unique k set (ap (λ l. slice_get l k) (sym c.as_slice-set-items.ensures) ∙ is),
+          get_or_from_slice_get m.unique k set set (ap (λ l. slice_get l k) (sym c.as_slice-set-items.ensures) ∙ is),
+          h.shared,
+        ),
       ),
     ))
     (λ b h.

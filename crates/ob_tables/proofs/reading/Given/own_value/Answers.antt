@@ -9,8 +9,8 @@ use Rattle.ob_tables.proofs.Settling.{given-there, given-value, got-value, none-
 use Rattle.ob_tables.proofs.Within.{AreSound}
 use Rattle.ob_tables.proofs.reading.Given.own_value.Goals as goal
 
-pub returns-in-Some-Value-clause-value : goal.returns-in-Some-Value-clause-value
-returns-in-Some-Value-clause-value c =
+pub returns-in_ok-try_clone-in-Some-Value-clause-value : goal.returns-in_ok-try_clone-in-Some-Value-clause-value
+returns-in_ok-try_clone-in-Some-Value-clause-value c =
     let models = c.args.self.now.tables.now.models in
     let tables = c.args.self.now.tables.now.tables in
     let known : AreSound models tables =

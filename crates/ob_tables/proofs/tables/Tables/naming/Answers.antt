@@ -39,6 +39,7 @@ loop-key-preserved c =
     let ids = c.loop-key.ids in
     let left = c.next.new.self in
     record {
-      all = sym (ap (λ (l : List RecId). ids ++ l) (chosen-passed p c.loop-key.key-iterator left (c.in-Some.key.now, c.in-Some.row.now) c.in-Some.ensures.steps (sym c.names_by.ensures ∙ c.if-names_by.false))) ∙ c.loop-key.invariant.all;
+      all = sym (ap (λ (l : List RecId). ids ++ l) (chosen-passed p c.loop-key.key-iterator left (c.in-Some.key.now, c.in-Some.row.now) c.in-Some.ensures.steps (sym c.names_by.ensures ∙ c.if-names_by.false)))
+          ∙ c.loop-key.invariant.all;
       rising = sorted-without id_cmp ids c.in-Some.key.now.id (map entry_id left) (subst (λ es. IsStrictlySortedBy id_cmp (ids ++ map entry_id es)) c.in-Some.ensures.steps c.loop-key.invariant.rising);
     }

@@ -74,7 +74,8 @@ unfolding IsDistinct
 distinct [] h = tt
 distinct (x ∷ xs) h = (apart_first x xs (λ k d lt. h 0 (suc k) d (omega arith) (omega arith)), distinct xs (λ i j d lt within. h (suc i) (suc j) d (omega arith) (omega arith)))
 
-same_test : (q n : ℕ) → eq_by_cmp nat_cmp q n ≡ (n == q)
+-- numbers are tested alike by their order
+pub same_test : (q n : ℕ) → eq_by_cmp nat_cmp q n ≡ (n == q)
 same_test q n = by_case (n == q) refl
   where
     by_case : (t : Bool) → (n == q) ≡ t → eq_by_cmp nat_cmp q n ≡ t
