@@ -22,6 +22,15 @@ TEXTS = ("", "bolt", "a b", "é", "\u0000", '"', "\\", "\n", "\U0001f529", "draf
          "2023-02-29", "0001-01-01", "9999-12-31", "10000-01-01", "2023-11-14 22:13:20", "2023-11-14 22:13:60")
 # The words whose lines stand in a file of that name, with answers that were worked out by hand.
 CASES = ("expression_cases", "schema_cases")
+# The files that make lines of further words, where the machine has their functions.
+PARTS = (("probe_expr", "expression, kinds and evaluate"),
+         ("probe_schema", "schema"),
+         ("probe_load", "load"),
+         ("probe_domain", "domain"),
+         ("probe_access", "access"),
+         ("probe_tables", "tables and tables_deep"),
+         ("probe_stock", "takes, lines, state, split, chain and push"),
+         ("probe_http", "http and http_cuts"))
 # The bytes that are asked for at once.
 OUTPUT_MAX = 1000000
 NUMBERS = (0, 1, -1, 7, 75, ID_MAX, ID_MAX + 1, I64_MAX, I64_MAX + 1, I64_MIN, I64_MIN - 1, 2 ** 64 - 1, 2 ** 64)
@@ -176,7 +185,7 @@ def moment(rng, _model):
 def makers():
     """What makes lines of each word, and all lines of some: of expressions, definitions, modules, stock and connections only where the machine has their functions."""
     runs, found = {}, {"row": row, "value": value, "order": order, "day": day, "moment": moment}
-    for part, words in (("probe_expr", "expression, kinds and evaluate"), ("probe_schema", "schema"), ("probe_load", "load"), ("probe_domain", "domain"), ("probe_stock", "takes, lines, state, split, chain and push"), ("probe_http", "http and http_cuts")):
+    for part, words in PARTS:
         try:
             module = importlib.import_module(part)
             found.update(module.MAKERS)

@@ -13,6 +13,8 @@
 //! | `schema DEFINITIONS` | the registry that they make, or their first fault, with its entry and its field |
 //! | `load MODULES FILES` | the registry that they mean, or what stands against them first |
 //! | `domain CASE` | the ids of the rows that meet the domain, or the fault with its place |
+//! | `access CASE` | an answer to each question of the case, in JSON |
+//! | `tables EDITS` | of each case the first that its edits break, or that they are sound, and what is asked of the tables after them; or the edits that don't fit |
 //! | `takes ORDER WANT STOCK ..` | `quant:amount` of each take |
 //! | `lines NOW NEXT QUANT .. \| LINE ..` | the quants after the lines, or `short at` a line's number |
 //! | `state RESERVED DEMAND WAITS` | the state of such a move |
@@ -38,7 +40,11 @@
 //! `definitions` says which keys there are, `told_schema` how a registry is told.
 //!
 //! A CASE is `{"model":MODEL,"user":ID,"rows":[ROW, ..],"domain":DOMAIN}`, where MODEL is
-//! `probe.row` or `probe.place`; `row_facts` says what a row is.
+//! `probe.row` or `probe.place`; `row_facts` says what a row is. `accesses` says what the CASE
+//! of `access` is.
+//!
+//! EDITS is `{"definitions":DEFINITIONS,"cases":[{"before":[EDIT, ..],"edits":[EDIT, ..],"ask":[QUESTION, ..]}, ..]}`;
+//! `edits` says what an edit is, `questions` a question, `told_tables` an answer.
 //!
 //! A connection in memory sends the bytes HEX, at most CUT in a read (`whole`: all). Of the
 //! door's calls the one of number FAILS fails (0: none; 1 lets the connection come). An item
@@ -46,9 +52,10 @@
 //! each message is answered by `{}`.
 //!
 //! `times N` before `row`, `body`, `value`, `expression`, `kinds`, `evaluate`, `schema`, `domain`,
-//! `takes`, `lines`, `chain` or `http` makes that call N times and tells the last answer; `evaluate`
+//! `access`, `tables`, `takes`, `lines`, `chain` or `http` makes that call N times and tells the last answer; `evaluate`
 //! then reads and checks its text once, and `schema` reads its definitions once.
 
+use crate::accesses::access;
 use crate::connections::connection;
 use crate::domains::domain;
 use crate::expressions::{evaluated, expression, kinds};
@@ -58,6 +65,7 @@ use crate::quants::after_lines;
 use crate::removals::taken;
 use crate::routes::{chain, push};
 use crate::rows::{body_again, row_values};
+use crate::tables::tables;
 use crate::texts::{day, moment};
 use crate::told_schema::built;
 use crate::values::{order, value};
@@ -88,6 +96,8 @@ pub(crate) fn answer(alloc: Global, schema: &Schema, line: &str) -> Result<Strin
         "schema" => built(alloc, times, rest),
         "load" => loaded(alloc, times, rest),
         "domain" => domain(alloc, schema, times, rest),
+        "access" => access(alloc, times, rest),
+        "tables" => tables(alloc, times, rest),
         "http" => connection(alloc, times, rest),
         _ => stock_answer(alloc, times, word, rest),
     }

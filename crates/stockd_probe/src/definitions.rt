@@ -9,13 +9,15 @@
 use crate::cells::unescaped;
 use crate::items::{flag_of, number_of};
 use ob_base::{NoMemory, Sequence, Value, Word};
-use ob_schema::{Check, Choice, FieldDef, FieldType, Inherits, ModelDef, OnDelete};
-use std::alloc::Global;
+use ob_schema::{
+    Check, Choice, FieldDef, FieldType, Inherits, ModelDef, OnDelete, Schema, SchemaFault,
+};
+use std::alloc::{AllocError, Global};
 
-/// Why a line gives no definitions.
+/// Why a text or JSON gives no definitions, no registry, and nothing else that is read by parts.
 #[derive(Debug, Drop)]
 pub(crate) enum Undefined {
-    /// A word of it is of another form.
+    /// A part of it is of another form.
     Form,
     NoMemory,
 }
@@ -26,11 +28,27 @@ impl From<NoMemory> for Undefined {
     }
 }
 
+impl From<AllocError> for Undefined {
+    fn from(_error: AllocError) -> Undefined {
+        Undefined::NoMemory
+    }
+}
+
 /// A key with the parts of its value.
 #[derive(Drop)]
 struct Key<'a> {
     name: &'a str,
     parts: Vec<&'a str>,
+}
+
+/// The registry that the definitions of a text make.
+pub(crate) fn schema_of(alloc: Global, text: &str) -> Result<Schema, Undefined> {
+    let definitions = definitions(alloc, text)?;
+    match Schema::build(alloc, definitions.as_slice()) {
+        Ok(schema) => Ok(schema),
+        Err(SchemaFault::NoMemory) => Err(Undefined::NoMemory),
+        Err(_) => Err(Undefined::Form),
+    }
 }
 
 /// The definitions of a line.

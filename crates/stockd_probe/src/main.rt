@@ -7,32 +7,42 @@
 //! word from another, `rows` and `values` ask ob_codec, `texts` asks ob_dates, `expressions`
 //! asks ob_syntax and ob_expr, over the models of `fields` and the cells of `cells`,
 //! `told_schema` asks ob_schema what the definitions that `definitions` reads make,
-//! `domains` asks ob_domain, over the rows of `row_facts`, `removals` and `quants` ask wh_quant, `moves` asks wh_move, `routes` asks wh_route,
+//! `domains` asks ob_domain, over the rows of `row_facts`, `accesses` asks ob_access, over the
+//! policy of `policies`, `tables` asks ob_tables what the edits that `edits` reads make, and
+//! tells by `told_tables` what `questions` asks, `removals` and `quants` ask wh_quant, `moves`
+//! asks wh_move, `routes` asks wh_route,
 //! `connections` asks ob_http. `told` writes values and commands, `items` reads words of
-//! several parts, `askable` says what `move_lines` may be asked. A further library gets its
+//! several parts and `parts` those of JSON, `askable` says what `move_lines` may be asked. A further library gets its
 //! word in `answer`, and a line in tools/probe.py.
 #![tactic(auto)]
 
+mod accesses;
 mod answer;
 mod askable;
 mod cells;
 mod connections;
 mod definitions;
 mod domains;
+mod edits;
 mod expressions;
 mod fields;
 mod items;
 mod modules;
 mod moves;
+mod parts;
+mod policies;
 mod quants;
+mod questions;
 mod registry;
 mod removals;
 mod routes;
 mod row_facts;
 mod rows;
+mod tables;
 mod texts;
 mod told;
 mod told_schema;
+mod told_tables;
 mod values;
 
 use crate::answer::answer;

@@ -61,6 +61,12 @@ fn put_id(text: &mut String, word: &str, id: RecId) -> Result<(), NoMemory> {
     Ok(write!(text, "{word}{number}")?)
 }
 
+/// Adds a list of ids, as JSON has it.
+pub(crate) fn put_list(text: &mut String, ids: &[RecId]) -> Result<(), NoMemory> {
+    put_ids(text, "[", ids)?;
+    Ok(text.push_str("]")?)
+}
+
 /// Adds ids after their word.
 fn put_ids(text: &mut String, word: &str, ids: &[RecId]) -> Result<(), NoMemory> {
     text.push_str(word)?;
