@@ -1,0 +1,44 @@
+-- Tables at three moments.
+pub mod Standings
+-- Pages of ids.
+pub mod Pages
+-- What is read of the stages.
+pub mod Seen
+-- Facts and links.
+pub mod Telling
+pub mod Rises
+pub mod Leading
+-- Values of cells.
+pub mod PlainValues
+pub mod BrokenFields
+pub mod Inserting
+pub mod Filling
+pub mod NativeMeaning
+pub mod NativeValues
+pub mod TypedCells
+pub mod BehindLinks
+-- Rows and their kept forms.
+pub mod KeptForms
+pub mod SoundForms
+pub mod OrderedLinks
+pub mod IdFields
+-- Rows that are read.
+pub mod KeptLoops
+pub mod RowReads
+pub mod OneRead
+pub mod ReadPages
+pub mod ReadModels
+-- What is read of a store.
+pub mod MadeTables
+pub mod SameTables
+pub mod OpenedTables
+pub mod Inconsistent
+pub mod PagedRows
+pub mod Opened
+pub mod Begun
+-- Changes of a store.
+pub mod Changing
+pub mod Gathering
+pub mod KeptValues
+pub mod PutForms
+pub mod KeptAfter

@@ -1,0 +1,13 @@
+-- What contracts of public functions cite.
+pub mod Kept
+pub mod Opening
+pub mod Stages
+pub mod Standing
+pub mod Telling
+-- How stages are stored.
+pub mod Coding
+-- Private: the words by which the rooms of the crate are joined.
+pub mod Native
+pub mod Rooms
+pub mod Changing
+pub mod Reading
