@@ -123,7 +123,8 @@ module _ (models : List ModelInfo) (registry : IsRegistry models) where
       by (origin.Delegated to) is leads = absurd (no-is-not-yes leads)
       by (origin.Computed formula) is leads = absurd (no-is-not-yes leads)
 
-  back-keeps : (model : ModelNo) (f : FieldInfo) (test : FieldType → Bool) → ((t : FieldType) → test t ≡ true → is_one2many t ≡ false) → (target : ModelNo) → f.relation ≡ Some target → (back : FieldNo) → LeadsBack models model f test back
+  back-keeps : (model : ModelNo) (f : FieldInfo) (test : FieldType → Bool) → ((t : FieldType) → test t ≡ true → is_one2many t ≡ false) → (target : ModelNo)
+      → f.relation ≡ Some target → (back : FieldNo) → LeadsBack models model f test back
       → (other : FieldInfo) × KeepsLinks models target back other × Leads other
   back-keeps model f test lists_none target to back leads =
       let there = told_and f.relation (λ t. FieldHas models (λ other. IsPlainTo model other × (test other.field_type ≡ true) × (other.mirror ≡ None)) t back) leads in
@@ -143,7 +144,8 @@ module _ (models : List ModelInfo) (registry : IsRegistry models) where
       (other, keeps, leads_on)
 
   -- the field back keeps what it leads to
-  pub field-back : (model : ModelNo) (number : FieldNo) (f : FieldInfo) → field_at models model number ≡ Some f → f.origin ≡ origin.Plain → (target : ModelNo) → f.relation ≡ Some target → (back : FieldNo) → option_or f.inverse f.mirror ≡ Some back
+  pub field-back : (model : ModelNo) (number : FieldNo) (f : FieldInfo) → field_at models model number ≡ Some f → f.origin ≡ origin.Plain → (target : ModelNo) → f.relation ≡ Some target
+      → (back : FieldNo) → option_or f.inverse f.mirror ≡ Some back
       → (other : FieldInfo) × KeepsLinks models target back other × Leads other
   field-back model number f at plain target to back is = by f.inverse f.mirror refl refl is
     where
@@ -177,7 +179,8 @@ module _ (models : List ModelInfo) (t : Tables) (c : Cell) (f : FieldInfo) (at :
   led-plain : f.origin ≡ origin.Plain → (row : Option PlainRow) → row_at t c.model c.id ≡ row → led_to models t c ≡ option_map_or targets_of (option_and_then (plain_from t origin.Plain f c.field c.id) row) []
   led-plain plain row there =
       led-is ∙ ap (λ (o : Origin). led_from models t o c) plain
-      ∙ ap (λ (v : Option Value). option_map_or targets_of v []) (plain-is ∙ ap (λ (o : Origin). option_and_then (plain_from t o f c.field c.id) (row_at t c.model c.id)) plain ∙ ap (option_and_then (plain_from t origin.Plain f c.field c.id)) there)
+      ∙ ap (λ (v : Option Value). option_map_or targets_of v [])
+      (plain-is ∙ ap (λ (o : Origin). option_and_then (plain_from t o f c.field c.id) (row_at t c.model c.id)) plain ∙ ap (option_and_then (plain_from t origin.Plain f c.field c.id)) there)
 
   pub led-none : f.origin ≡ origin.Plain → row_at t c.model c.id ≡ None → led_to models t c ≡ []
   led-none plain none = led-plain plain None none
@@ -294,13 +297,19 @@ module _ (models : List ModelInfo) (t : Tables) (registry : IsRegistry models) (
       to : (z : RecId) → HasAt ids z → IsSome (row_at t model z) × (leads-it z ≡ true)
       to z among =
           let known = lone (is_some (row_at t model target)) target z (subst (λ (l : List RecId). HasAt l z) is among) in
-          let there : IsSome (row_at t model z) = subst (λ (x : RecId). IsSome (row_at t model x)) known.1 known.0 in
-          (there, at-any target (led_to models t (cell_of z)) (subst (λ (l : List RecId). HasAt l target) (sym (led-own models t (cell_of z) f at id)) (subst (λ (x : RecId). HasAt (cond (is_some (row_at t model z)) (z ∷ []) []) x) (sym known.1) (alone (is_some (row_at t model z)) z there))))
+          let there : IsSome (row_at t model z) = subst (λ (x : RecId). IsSome (row_at t model x)) known.1 known.0 in (
+            there,
+            at-any target (led_to models t (cell_of z))
+                (subst (λ (l : List RecId). HasAt l target) (sym (led-own models t (cell_of z) f at id))
+                (subst (λ (x : RecId). HasAt (cond (is_some (row_at t model z)) (z ∷ []) []) x) (sym known.1) (alone (is_some (row_at t model z)) z there))),
+          )
 
       from : (z : RecId) → IsSome (row_at t model z) → leads-it z ≡ true → HasAt ids z
       from z there leads =
           let known = lone (is_some (row_at t model z)) z target (subst (λ (l : List RecId). HasAt l target) (led-own models t (cell_of z) f at id) (any-at target (led_to models t (cell_of z)) leads)) in
-          subst (λ (l : List RecId). HasAt l z) (sym is) (subst (λ (x : RecId). HasAt (cond (is_some (row_at t model target)) (target ∷ []) []) x) (sym known.1) (alone (is_some (row_at t model target)) target (subst (λ (x : RecId). IsSome (row_at t model x)) known.1 there)))
+          subst (λ (l : List RecId). HasAt l z) (sym is)
+          (subst (λ (x : RecId). HasAt (cond (is_some (row_at t model target)) (target ∷ []) []) x) (sym known.1)
+          (alone (is_some (row_at t model target)) target (subst (λ (x : RecId). IsSome (row_at t model x)) known.1 there)))
 
   -- by a field that keeps what it leads to: those that name the row
   pub leading-kept : KeepsLinks models model number f → naming t model number target ≡ leading_to models t model number target

@@ -45,7 +45,8 @@ abbrev pub AllReadable : List ModelInfo → Type 0
 AllReadable models = (tables : Tables) → AreSound models tables → AreReadable models tables
 
 pub all-readable : (models : List ModelInfo) → IsRegistry models → IsNativeRegistry models
-    → ((models : List ModelInfo) (tables : Tables) → IsRegistry models → AreSound models tables → (cell : Cell) → IsSome (row_at tables cell.model cell.id) → IsSome (field_at models cell.model cell.field) → IsOk (val models tables cell))
+    → ((models : List ModelInfo) (tables : Tables) → IsRegistry models → AreSound models tables → (cell : Cell) → IsSome (row_at tables cell.model cell.id)
+    → IsSome (field_at models cell.model cell.field) → IsOk (val models tables cell))
     → ((models : List ModelInfo) (tables : Tables) → IsRegistry models → AreSound models tables → (cell : Cell) (info : FieldInfo) → field_at models cell.model cell.field ≡ Some info → is_computed_from info.origin ≡ true
     → (v : Value) → val models tables cell ≡ Ok v → IsNative v → Holds info v)
     → AllReadable models
@@ -75,7 +76,8 @@ tests-there models next r read =
     (columns-there models r.model r.info read.info_is r.row.id g (kept_columns r.info) (columns-at is_kept r.info))
 
 -- reading stops where no sound tables have the rows
-pub reading-stops : (models : List ModelInfo) → IsRegistry models → AllReadable models → HaveOneBody → (kept : Option Store) (rose : Type 0) (fault : OpenFault) → StopsReading models kept rose fault → StopsOpening models kept rose fault
+pub reading-stops : (models : List ModelInfo) → IsRegistry models → AllReadable models → HaveOneBody → (kept : Option Store) (rose : Type 0) (fault : OpenFault)
+    → StopsReading models kept rose fault → StopsOpening models kept rose fault
 reading-stops models registry readable one kept rose open_fault.Keeper stops = stops
 reading-stops models registry readable one kept rose open_fault.NoMemory stops = tt
 reading-stops models registry readable one None rose (open_fault.Inconsistent cell) stops = tt
@@ -108,7 +110,8 @@ module _ (models : List ModelInfo) (kept : Option Store) (before : Tables) (none
   abbrev pub opened : Tables
   opened = after models before (map edit_of read.reads)
 
-  pub opened-standing : (over : List ModelInfo) (edits : List Edit) (s : Standing) → over ≡ models → edits ≡ rows.edits → s ≡ record { models = over; tables = after over before edits } → s ≡ record { models = models; tables = opened }
+  pub opened-standing : (over : List ModelInfo) (edits : List Edit) (s : Standing) → over ≡ models → edits ≡ rows.edits
+      → s ≡ record { models = over; tables = after over before edits } → s ≡ record { models = models; tables = opened }
   opened-standing over edits s over_is edits_is is = is ∙ (λ i. record { models = over_is i; tables = after (over_is i) before ((edits_is ∙ edits-are) i) })
 
   -- a keeper can keep their next ids
