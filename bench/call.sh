@@ -1,11 +1,13 @@
 #!/usr/bin/env bash
-# How the time of `call` grows with the rows that are kept: 100,000 and then 200,000
-# creates, with one read after each hundred. Prints both times, the requests per second
-# and the ratio of the two times, which stays under 2.4 where the cost of a request
-# doesn't grow with the rows before it. By the proved program, which tools/build.sh builds.
-# Figures, no test.
+# How the time of `call` grows with the rows that are kept: bench/call.sh [CREATES]. So many
+# creates, by default 500, and then twice as many, with one read after each hundred. Prints
+# both times, the requests per second and the ratio of the two times: about 2 where the cost of
+# a request doesn't grow with the rows before it, about 4 where it grows as they do, as it does
+# with an engine that goes over all rows at each create. By the proved program, which
+# tools/build.sh builds. Figures, no test.
 set -euo pipefail
 top=$(cd "$(dirname "$0")/.." && pwd)
+creates=${1:-500}
 program=$("$top/tools/proved.sh" stockd)
 work=$(mktemp -d)
 trap 'rm -rf "$work"' EXIT
@@ -26,17 +28,23 @@ PY
 seconds() {
     local from to
     from=$(date +%s.%N)
-    "$program" call <"$1" >"$work/replies"
+    "$program" call --modules "$top/modules" --load demo <"$1" >"$work/replies"
     to=$(date +%s.%N)
     echo "$to $from" | awk '{print $1 - $2}'
 }
 
-requests 100000 >"$work/small"
-requests 200000 >"$work/large"
+# How long so many creates take with their reads.
+tell() {
+    awk -v n="$1" -v t="$2" 'BEGIN {
+        reads = int(n / 100)
+        printf "%d creates and %d reads: %.2f s, %.0f requests a second\n", n, reads, t, (n + reads) / t
+    }'
+}
+
+requests "$creates" >"$work/small"
+requests $((2 * creates)) >"$work/large"
 small=$(seconds "$work/small")
 large=$(seconds "$work/large")
-awk -v a="$small" -v b="$large" 'BEGIN {
-    printf "100,000 creates and 1,000 reads: %.2f s, %.0f requests a second\n", a, 101000 / a
-    printf "200,000 creates and 2,000 reads: %.2f s, %.0f requests a second\n", b, 202000 / b
-    printf "ratio: %.2f\n", b / a
-}'
+tell "$creates" "$small"
+tell $((2 * creates)) "$large"
+awk -v a="$small" -v b="$large" 'BEGIN { printf "ratio: %.2f\n", b / a }'

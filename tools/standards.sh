@@ -1,11 +1,12 @@
 #!/usr/bin/env bash
 # What the process of the proved program ends with: tools/standards.sh. `main` has no clause,
-# and what a shut standard does is the host's: so the statuses of docs/CALL.md that come
-# without a whole request are looked at here, on the program itself. Ends with 1 where one
-# differs, and tells it. The gate runs it.
+# and what a shut standard, a file or a folder does is the host's: so the statuses of
+# docs/CALL.md that come without a whole request are looked at here, on the program itself.
+# Ends with 1 where one differs, and tells it. The gate runs it.
 set -u
 top=$(cd "$(dirname "$0")/.." && pwd)
 program=$("$top/tools/proved.sh" stockd) || exit 1
+demo=(call --modules "$top/modules" --load demo)
 usage='usage: stockd call|serve|audit|gen [options]'
 failed=0
 
@@ -17,9 +18,21 @@ case_is() {
     fi
 }
 
+# The stored run of the program has a copy of the module.
+if ! cmp -s "$top/modules/demo.toml" "$top/crates/stockd/data/modules/demo.toml"; then
+    echo 'modules/demo.toml and its copy in crates/stockd/data differ' >&2
+    failed=1
+fi
 case_is 'an empty input' "$("$program" call </dev/null; echo "$?")" 0
+case_is 'an empty input, with a module' "$("$program" "${demo[@]}" </dev/null; echo "$?")" 0
 case_is 'other words' "$("$program" later </dev/null; echo "$?")" "$usage"$'\n2'
 case_is 'words that are no text' "$("$program" call $'\xff' </dev/null; echo "$?")" "$usage"$'\n2'
-case_is 'a shut input' "$("$program" call <&-; echo "$?")" $'read fault\n4'
-case_is 'a shut output' "$("$program" call <"$top/examples/first.jsonl" 2>&1 >&-; echo "$?")" 5
+case_is 'an option without its value' "$("$program" call --load </dev/null; echo "$?")" "$usage"$'\n2'
+case_is 'a module of another form' "$("$program" call --load=Demo </dev/null; echo "$?")" "$usage"$'\n2'
+case_is 'two folders' "$("$program" "${demo[@]}" --modules "$top/modules" </dev/null; echo "$?")" "$usage"$'\n2'
+case_is 'a module that is not there' "$("$program" "${demo[@]}" --load none </dev/null; echo "$?")" $'module none: Absent text\n3'
+case_is 'a folder that is not there' "$("$program" call --modules "$top/none" --load demo </dev/null; echo "$?")" $'module demo: Absent text\n3'
+case_is 'a file in place of the folder' "$("$program" call --modules "$top/README.md" --load demo </dev/null; echo "$?")" $'read fault\n4'
+case_is 'a shut input' "$("$program" "${demo[@]}" <&-; echo "$?")" $'read fault\n4'
+case_is 'a shut output' "$("$program" "${demo[@]}" <"$top/examples/first.jsonl" 2>&1 >&-; echo "$?")" 5
 exit "$failed"

@@ -1,9 +1,10 @@
 #!/bin/sh
-# Refuses memory to a run of four requests: the first allocation that the run asks for,
-# then in a further run the second, and so on, until a run asks for fewer. Each run must
-# answer as it does with ample memory, but for one reply that says `no memory` and what
-# follows from a request that wasn't carried out; or end with `no memory` as its last line.
-# Outside the gate; takes a few minutes. Prints a line for each kind of answer, and the
+# Refuses memory to a run of a module of one model and four requests on it: the first
+# allocation that the run asks for, then in a further run the second, and so on, until a run
+# asks for fewer. Each run must answer as it does with ample memory, but for one reply that
+# says `no memory` and what follows from a request that wasn't carried out; or end with
+# `no memory` as its last line.
+# Outside the gate; takes some ten minutes. Prints a line for each kind of answer, and the
 # last line `starve equal` with status 0, or what differed with status 1.
 set -eu
 cd "$(dirname "$0")/.."
@@ -11,7 +12,7 @@ place=$(mktemp -d)
 trap 'rm -rf "$place"' EXIT INT TERM
 # More allocations than the run asks for. Each case makes some of them beforehand, so that
 # one build tries every number: the Nth of all fails, and the run comes to it sooner or later.
-most=400
+most=640
 
 tar -cf - --exclude=out crates crates.txt HANDLES | (cd "$place" && tar -xf -)
 mkdir "$place/cases"
@@ -41,7 +42,7 @@ calls = [
 ]
 lines = "".join(request % (call, n + 1) for n, call in enumerate(calls)).replace('"', '\\"')
 body = """
-use ob_base::NoMemory;
+use ob_base::{NoMemory, Word};
 use ob_io::{MemClock, Source, StdSource, SureDoor, SureFiles, SureKeeper, SureSink, SureSource};
 pub use run::run;
 use std::alloc::Global;
@@ -51,6 +52,8 @@ use std::rt::{Clock, Env};
 use std::str;
 
 const LINES: &str = "@LINES@";
+
+const MODULE: &str = "name = 'demo'\\n[[model]]\\nname = 'demo.line'\\n[model.field]\\nname = { type = 'char' }\\nqty = { type = 'integer' }\\nprice = { type = 'integer' }\\nsubtotal = { type = 'integer', store = true, compute = 'qty * price', depends = ['qty', 'price'] }\\n";
 
 fn main(rt: HostRuntime) -> ExitCode {
     match starved(&rt) {
@@ -71,12 +74,16 @@ fn starved<R: Alloc<A = Global> + Env + Input + Print + Clock>(rt: &R) -> Result
         Vec::from_array(alloc, [0u8; 16])?;
     }
     let mut words = Vec::new(alloc);
-    words.push(String::from_str(alloc, "call")?)?;
-    let mut files = SureFiles::new(alloc)?;
+    for word in ["call", "--load", "demo"] {
+        words.push(String::from_str(alloc, word)?)?;
+    }
+    let mut texts = Vec::new(alloc);
+    texts.push((Word::from_text(alloc, "modules/demo.toml")?, MODULE.as_bytes().to_vec(alloc)?))?;
+    let mut files = SureFiles::new(alloc, texts)?;
     let mut keeper = SureKeeper::new(alloc, Vec::new(alloc), Vec::new(alloc))?;
     let mut input = SureSource::new(LINES.as_bytes().to_vec(alloc)?, 64)?;
     let mut output = SureSink::new(alloc, 4096)?;
-    let mut door = SureDoor::new(alloc)?;
+    let mut door = SureDoor::new(alloc, Vec::new(alloc), 1, 0)?;
     let mut clock = MemClock::new(1700000000, 0)?;
     let status = run(
         alloc, &words, &mut files, &mut keeper, &mut input, &mut output, &mut door, &mut clock,

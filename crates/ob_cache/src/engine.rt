@@ -45,8 +45,8 @@ pub struct Unopened<'k, K: Keeper> {
 
 impl<'k, K: Keeper> Engine<'k, K> {
     /// Opens a keeper's rows, all of which are tested: where it tells them, it is opened exactly
-    /// where they are those of sound tables of the registry. `capacity` is how many rows may be held in memory
-    /// beside those that are staged; it is unread so far.
+    /// where they are those of sound tables of the registry. `capacity` is how many rows may be
+    /// held in memory beside those that are staged; it is unread so far.
     pub fn begin(
         alloc: Global,
         keeper: &'k mut K,
@@ -147,7 +147,8 @@ impl<'k, K: Keeper> Engine<'k, K> {
         Ok(self.held.holders(model, field, target, after, most)?)
     }
 
-    /// Stages edits, behind those that are staged already. After a fault only `forget` may be called.
+    /// Stages edits, behind those that are staged already. After a fault only `forget` and `close`
+    /// may be called.
     pub fn stage(&mut self, edits: &[Edit]) -> Result<(), KeepFault>
         requires usable { IsUsable self.old.held.phase }
         requires fit { All (IsFitEdit self.old.held.models) edits.now }
@@ -176,8 +177,8 @@ impl<'k, K: Keeper> Engine<'k, K> {
     }
 
     /// Evaluates the tables with the edits, and tests them: where they are told, they are settled
-    /// exactly where they are sound. Of several things that are broken any may be named. After a fault only
-    /// `forget` may be called.
+    /// exactly where they are sound. Of several things that are broken any may be named. After a
+    /// fault only `forget` and `close` may be called.
     pub fn settle<L: Ledger>(&mut self, steps: &mut Steps<L>) -> Result<(), SettleFault>
         requires usable { IsUsable self.old.held.phase }
         ensures settled { OnOk result (OfStages (K.kept self.old.keeper.now) self.old.held (λ at. Stands (K.kept self.new.keeper.now) self.new.held (settled_of at))) }
@@ -198,7 +199,7 @@ impl<'k, K: Keeper> Engine<'k, K> {
     }
 
     /// Keeps what was settled last, all or nothing. After a fault nothing of it is kept, and
-    /// only `forget` may be called.
+    /// only `forget` and `close` may be called.
     pub fn flush(&mut self) -> Result<(), KeepFault>
         requires settled { self.old.held.phase ≡ phase.Settled }
         requires next_ids { NextIdsUpTo max_next_id self.old.held }
@@ -226,6 +227,14 @@ impl<'k, K: Keeper> Engine<'k, K> {
         self.held.forget();
         // The law of what is held.
         self.held.laws();
+    }
+
+    /// Gives the keeper back, also after a fault. What wasn't kept is lost.
+    pub fn close(self) -> &'k mut K
+        ensures lender { result.ghost_name ≡ self.entry.keeper.ghost_name }
+        ensures same { result.now ≡ self.entry.keeper.now }
+    {
+        self.keeper
     }
 
     /// What it holds.

@@ -7,6 +7,8 @@ use Rattle.serde_json.specs.Find.{as_object}
 use Rattle.serde_json.specs.View.{view}
 use Rattle.ob_base.specs.declared.place.PathStep.{PathStep}
 use Rattle.ob_base.specs.declared.refusal.Refusal.{Refusal}
+use Rattle.ob_base.specs.declared.id.FieldNo.{FieldNo}
+use Rattle.ob_base.specs.declared.value.Value.{Value}
 use Rattle.ob_schema.specs.Fields.{plain_columns}
 use Rattle.ob_schema.specs.declared.info.FieldInfo.{FieldInfo}
 use Rattle.ob_schema.specs.declared.info.ModelInfo.{ModelInfo}
@@ -17,7 +19,6 @@ use Rattle.ob_call.specs.ArgumentsSteps.{all_given_of, given_of}
 use Rattle.ob_call.specs.Places.{spot_place}
 use Rattle.ob_call.specs.Results.{IsResultOf}
 use Rattle.ob_call.specs.declared.arguments.Given.{Given}
-use Rattle.ob_orm.specs.Tables.{Row}
 use Rattle.ob_orm.proofs.Expected.{create_given}
 
 -- they are this one, an object
@@ -75,9 +76,9 @@ row_of_one info now gs given ms one same =
     ∙ ap (λ (m : Members). new_row now (spot_place given.spot) m (plain_columns info)) (sym same)
 
 pub row_given : {Of : Type 0} (o : Option ModelInfo) (passed now : ℤ) → passed ≡ now
-    → (gs : List (Option Given)) (given : Given) (ms : Members) (of : ModelInfo → Of → Row) (r : Result Of Refusal) (one : IsOne gs given) → ms ≡ one.held
+    → (gs : List (Option Given)) (given : Given) (ms : Members) (of : ModelInfo → Of → List (FieldNo × Value)) (r : Result Of Refusal) (one : IsOne gs given) → ms ≡ one.held
     → IfSome o (λ info. IsResultOf (of info) r (new_row passed (spot_place given.spot) ms (plain_columns info))) → IfSome o (λ info. IsResultOf (of info) r (row_from info now (map (option_map given_of) gs)))
 row_given None passed now is gs given ms of r one same h = tt
 row_given (Some info) passed now is gs given ms of r one same h =
-    subst (λ (m : Result Row (List PathStep)). IsResultOf (of info) r m)
+    subst (λ (m : Result (List (FieldNo × Value)) (List PathStep)). IsResultOf (of info) r m)
     (ap (λ (n : ℤ). new_row n (spot_place given.spot) ms (plain_columns info)) is ∙ sym (row_of_one info now gs given ms one same)) h

@@ -1,46 +1,58 @@
--- The plain values of a new row, field by field.
-use Rattle.std.proofs.Common.{◌≡◌, ℕ, ℤ, zero, suc, ◌+◌, ◌-◌, ◌<◌, ◌||◌, Bool, true, false, cond, List, [], ◌∷◌, ◌++◌, length, get_or, map, filter, codes, Option, Some, None, Result, Ok, Err}
-use Rattle.std.proofs.Common.{option_map, refl, sym, ap, subst, ◌∙◌, arith, inl, inr}
-use Rattle.std.specs.Prelude.{Any, Contains, IfSome, slice_get}
+-- The values of a new row, field by field.
+use Rattle.std.proofs.Common.{◌≡◌, ◌≢◌, ℕ, ℤ, suc, ◌+◌, ◌<◌, ◌≤◌, ◌||◌, Bool, true, false, cond, List, [], ◌∷◌, ◌++◌, length, get_or, map, filter, drop, codes, Option, Some, Result, Ok, Err}
+use Rattle.std.proofs.Common.{IsSomeAnd, append_assoc, append-nil, refl, sym, ap, subst, ◌∙◌, arith, inl, inr}
+use Rattle.std.specs.Prelude.{All, Any, Contains, IfSome, slice_get}
 use Rattle.std.specs.Cmp.Lexicographic.{slice_cmp}
-use Rattle.std.specs.List.{enumerate_from}
+use Rattle.std.specs.List.{AllPairs, enumerate_from}
 use Rattle.std.specs.Ordering.{nat_cmp}
 use Rattle.std.specs.Str.{bytes_eq}
 use Rattle.std.specs.declared.cmp.Ordering.TheVariants.{Less, Equal}
-use Rattle.std.proofs.lemmas.Bool.{cases_lt}
+use Rattle.std.proofs.lemmas.Bool.{cases_lt, false≢true}
 use Rattle.std.proofs.lemmas.Cmp.{nat_list_cmp_total, tied_itself}
-use Rattle.std.proofs.lemmas.List.{get_or_append_left, get_or_push, get_or-map, length-map}
+use Rattle.std.proofs.lemmas.List.{drop_all, drop_more, get_or-map, length-map}
+use Rattle.std.proofs.lemmas.List.Elements.{All-nil, All-push}
+use Rattle.std.proofs.lemmas.List.Quantifiers.{all_pairs_push}
 use Rattle.std.proofs.lemmas.Option.{get_or_from_slice_get, slice_get_within}
 use Rattle.std.proofs.lemmas.Slice.Eq.{bytes_eq-Decides}
 use Rattle.serde_json.specs.Data.{Members}
+use Rattle.ob_base.specs.Chain.{◌>>=◌}
 use Rattle.ob_base.specs.declared.id.FieldNo.{FieldNo}
 use Rattle.ob_base.specs.declared.id.ModelNo.{ModelNo}
 use Rattle.ob_base.specs.declared.place.PathStep.{PathStep}
 use Rattle.ob_base.specs.declared.refusal.Refusal.{Refusal}
 use Rattle.ob_base.specs.declared.refusal.Refusal.TheVariants as refusal
 use Rattle.ob_base.specs.declared.value.Value.{Value}
-use Rattle.ob_base.specs.declared.value.Value.TheVariants as value
+use Rattle.ob_call.specs.Results.{IsResultOf}
+use Rattle.ob_codec.proofs.HeldLaws.{HasType-from_IsValueOf}
 use Rattle.ob_definition.specs.Members.{moment_def}
+use Rattle.ob_definition.specs.Types.{is_list, is_relation}
 use Rattle.ob_definition.specs.declared.definition.FieldDef.{FieldDef}
-use Rattle.ob_schema.specs.Fields.{Column, Holds, is_plain_kept, plain_columns}
-use Rattle.ob_schema.specs.Models.{IsField, IsModel, field_at, model_at}
-use Rattle.ob_definition.specs.Types.{is_relation}
+use Rattle.ob_definition.specs.declared.field_type.FieldType.{FieldType}
 use Rattle.ob_definition.specs.declared.field_type.FieldType.TheVariants as type
+use Rattle.ob_schema.specs.Built.{numbered}
+use Rattle.ob_schema.specs.Fields.{Column, Holds, is_plain_kept, plain_columns}
+use Rattle.ob_schema.specs.Models.{IsField, IsModel, field_at, fields_of, model_at}
 use Rattle.ob_schema.specs.declared.info.FieldInfo.{FieldInfo}
 use Rattle.ob_schema.specs.declared.info.ModelInfo.{ModelInfo}
-use Rattle.ob_base.specs.Chain.{◌>>=◌}
+use Rattle.ob_tables.specs.Fitting.{AreFitIn, IsFitIn}
 use Rattle.ob_orm.specs.Create.{is_stamp, new_row, new_value}
-use Rattle.ob_orm.specs.CreateSteps.{ArePlain, IsGivable, TakesValue, gathered, held_at}
-use Rattle.ob_call.specs.Results.{IsResultOf}
+use Rattle.ob_orm.specs.CreateSteps.{IsGivable}
 use Rattle.ob_orm.specs.Served.{IsServed}
-use Rattle.ob_orm.specs.Sound.{HasForms}
-use Rattle.ob_orm.specs.Tables.{Row}
+use Rattle.ob_orm.proofs.CreateFields.{All-at, step_in, tell, told}
 use Rattle.ob_orm.proofs.OwnFields.{fields_valid}
-use Rattle.ob_orm.proofs.CreateFormulas.{no_list_from}
-use Rattle.ob_orm.proofs.CreateColumns.{taken}
-use Rattle.ob_orm.proofs.CreateColumns.{All-at}
-use Rattle.ob_orm.proofs.CreateFields.{tell, told}
-use Rattle.ob_orm.proofs.CreateKept.{StepIn, step_in}
+
+-- what is no relation is no list
+no_list_from : (t : FieldType) → is_relation t ≡ false → is_list t ≡ false
+no_list_from type.Boolean e = refl
+no_list_from type.Integer e = refl
+no_list_from type.Char e = refl
+no_list_from type.Text e = refl
+no_list_from type.Date e = refl
+no_list_from type.Datetime e = refl
+no_list_from type.Selection e = refl
+no_list_from type.Many2one e = refl
+no_list_from type.One2many e = absurd (false≢true (sym e))
+no_list_from type.Many2many e = absurd (false≢true (sym e))
 
 -- ---- fields to which a create gives values
 
@@ -93,162 +105,162 @@ IsGivable-at models model info i f valid served at = record {
   default = (All-at (IsField models model info) info.fields i f at (fields_valid models model info valid served)).default;
 }
 
+-- a create may give a value to each field of a served model
+pub givable_at : (models : List ModelInfo) (model : ModelNo) (info : ModelInfo) (i : ℕ) → model_at models model ≡ Some info → i < length info.fields → IsModel models model info
+    → IfSome (model_at models model) IsServed → IfSome (field_at models model (record { 0 = i + 1 })) IsGivable
+givable_at models model info i is lt valid served =
+    let there = step_in models model info i is lt in
+    tell (field_at models model (record { 0 = i + 1 })) there.f IsGivable there.at (IsGivable-at models model info i there.f valid (told (model_at models model) info IsServed is served) there.field_is)
+
 -- ---- rows of given values
 
--- the plain ones of fields from a number on
-abbrev pub plain_from : ℕ → List FieldInfo → List Column
-plain_from n fields = filter (λ column. is_plain_kept column.1) (enumerate_from n fields)
+-- values by the numbers of their fields
+abbrev pub Values : Type 0
+Values = List (FieldNo × Value)
 
--- each plain field has what it takes
-abbrev pub AllTaken : ℤ → List PathStep → Members → ℕ → List FieldInfo → List Value → Type 0
-AllTaken now place ms n fields values = (k : ℕ) (f : FieldInfo) → slice_get fields k ≡ Some f → is_plain_kept f ≡ true → (new_value now place ms f ≡ Ok (held_at values (n + k))) × Holds f (held_at values (n + k))
+-- the plain fields from a place on
+abbrev pub left : ModelInfo → ℕ → List Column
+left info i = filter (λ column. is_plain_kept column.1) (enumerate_from (suc i) (drop i info.fields))
 
--- so has each after the first
-rest_taken : (now : ℤ) (place : List PathStep) (ms : Members) (n : ℕ) (f : FieldInfo) (fields : List FieldInfo) (values : List Value) → AllTaken now place ms n (f ∷ fields) values → AllTaken now place ms (n + 1) fields values
-rest_taken now place ms n f fields values taken' k g at is =
-    subst (λ (m : ℕ). (new_value now place ms g ≡ Ok (held_at values m)) × Holds g (held_at values m)) (let e : n + suc k ≡ n + 1 + k = omega arith in e) (taken' (suc k) g at is)
+-- with the field there
+left_more : (info : ModelInfo) (i : ℕ) (f : FieldInfo) → slice_get info.fields i ≡ Some f → left info i ≡ cond (is_plain_kept f) ((suc i, f) ∷ left info (i + 1)) (left info (i + 1))
+left_more info i f at =
+    ap (λ (fs : List FieldInfo). filter (λ column. is_plain_kept column.1) (enumerate_from (suc i) fs))
+    (drop_more info.fields i f (slice_get_within info.fields i f at) ∙ ap (λ (g : FieldInfo). g ∷ drop (i + 1) info.fields) (get_or_from_slice_get info.fields i f f at))
+    ∙ ap (λ (n : ℕ). cond (is_plain_kept f) ((suc i, f) ∷ filter (λ column. is_plain_kept column.1) (enumerate_from n (drop (i + 1) info.fields)))
+    (filter (λ column. is_plain_kept column.1) (enumerate_from n (drop (i + 1) info.fields)))) (let e : suc i + 1 ≡ suc (i + 1) = omega arith in e)
 
--- the row of them is the one that is meant
-pub row_taken : (now : ℤ) (place : List PathStep) (ms : Members) (n : ℕ) (fields : List FieldInfo) (values : List Value) → AllTaken now place ms n fields values
-    → (new_row now place ms (plain_from n fields) ≡ Ok (taken (plain_from n fields) values)) × HasForms (plain_from n fields) (taken (plain_from n fields) values)
-row_taken now place ms n [] values all = (refl, tt)
-row_taken now place ms n (f ∷ fields) values all = by (is_plain_kept f) refl (row_taken now place ms (n + 1) fields values (rest_taken now place ms n f fields values all)) where
-  by : (b : Bool) → is_plain_kept f ≡ b → (new_row now place ms (plain_from (n + 1) fields) ≡ Ok (taken (plain_from (n + 1) fields) values)) × HasForms (plain_from (n + 1) fields) (taken (plain_from (n + 1) fields) values)
-      → (new_row now place ms (cond b ((n, f) ∷ plain_from (n + 1) fields) (plain_from (n + 1) fields)) ≡ Ok (taken (cond b ((n, f) ∷ plain_from (n + 1) fields) (plain_from
-      (n + 1) fields)) values)) × HasForms (cond b ((n, f) ∷ plain_from (n + 1) fields) (plain_from (n + 1) fields)) (taken (cond b ((n, f) ∷ plain_from (n + 1) fields) (plain_from
-      (n + 1) fields)) values)
-  by false is more = more
-  by true is more =
-      let own : (new_value now place ms f ≡ Ok (held_at values n)) × Holds f (held_at values n) = subst (λ (m : ℕ). (new_value now place ms f ≡ Ok (held_at values m)) × Holds f (held_at values m))
-      (let e : n + 0 ≡ n = omega arith in e) (all 0 f refl is) in (
-        ap (λ (r : Result Value (List PathStep)). r >>= λ v. new_row now place ms (plain_from (n + 1) fields) >>= λ row. Ok ((n, v) ∷ row)) own.0
-            ∙ ap (λ (r : Result Row (List PathStep)). r >>= λ row. Ok ((n, held_at values n) ∷ row)) more.0,
-        (refl, own.1, more.1),
-      )
+left_plain : (info : ModelInfo) (i : ℕ) (f : FieldInfo) → slice_get info.fields i ≡ Some f → is_plain_kept f ≡ true → left info i ≡ (suc i, f) ∷ left info (i + 1)
+left_plain info i f at plain = left_more info i f at ∙ ap (λ (b : Bool). cond b ((suc i, f) ∷ left info (i + 1)) (left info (i + 1))) plain
 
--- each plain field before a place takes something
-abbrev pub TakenBefore : ℤ → List PathStep → Members → ℕ → List FieldInfo → Type 0
-TakenBefore now place ms i fields = (k : ℕ) (f : FieldInfo) → k < i → slice_get fields k ≡ Some f → is_plain_kept f ≡ true → (v : Value) × (new_value now place ms f ≡ Ok v)
+left_other : (info : ModelInfo) (i : ℕ) (f : FieldInfo) → slice_get info.fields i ≡ Some f → is_plain_kept f ≡ false → left info i ≡ left info (i + 1)
+left_other info i f at plain = left_more info i f at ∙ ap (λ (b : Bool). cond b ((suc i, f) ∷ left info (i + 1)) (left info (i + 1))) plain
 
--- the first that is wrong is told
-pub row_refused : (now : ℤ) (place : List PathStep) (ms : Members) (n i : ℕ) (fields : List FieldInfo) (f : FieldInfo) (e : List PathStep) → TakenBefore now place ms i fields
-    → slice_get fields i ≡ Some f → is_plain_kept f ≡ true → new_value now place ms f ≡ Err e
-    → new_row now place ms (plain_from n fields) ≡ Err e
-row_refused now place ms n i [] f e before at is wrong = absurd cc
-row_refused now place ms n zero (g ∷ fields) f e before at is wrong =
-    let same : g ≡ f = cc in
-    ap (λ (b : Bool). new_row now place ms (cond b ((n, g) ∷ plain_from (n + 1) fields) (plain_from (n + 1) fields))) (ap is_plain_kept same ∙ is)
-    ∙ ap (λ (r : Result Value (List PathStep)). r >>= λ v. new_row now place ms (plain_from (n + 1) fields) >>= λ row. Ok ((n, v) ∷ row)) (ap (new_value now place ms) same ∙ wrong)
-row_refused now place ms n (suc i) (g ∷ fields) f e before at is wrong =
-    by (is_plain_kept g) refl (row_refused now place ms (n + 1) i fields f e (λ k h lt at' is'. before (suc k) h (omega arith) at' is') at is wrong) where
-      by : (b : Bool) → is_plain_kept g ≡ b → new_row now place ms (plain_from (n + 1) fields) ≡ Err e → new_row now place ms (cond b ((n, g) ∷ plain_from (n + 1) fields) (plain_from (n + 1) fields)) ≡ Err e
-      by false plain more = more
-      by true plain more =
-          let own = before 0 g (omega arith) refl plain in
-          ap (λ (r : Result Value (List PathStep)). r >>= λ v. new_row now place ms (plain_from (n + 1) fields) >>= λ row. Ok ((n, v) ∷ row)) own.1
-          ∙ ap (λ (r : Result Row (List PathStep)). r >>= λ row. Ok ((n, own.0) ∷ row)) more
+-- what comes behind values
+abbrev behind : Values → Result Values (List PathStep) → Result Values (List PathStep)
+behind values r = r >>= λ rest. Ok (values ++ rest)
+
+behind_none : (r : Result Values (List PathStep)) → r ≡ behind [] r
+behind_none (Ok rest) = refl
+behind_none (Err why) = refl
+
+behind_more : (values : Values) (x : FieldNo × Value) (r : Result Values (List PathStep)) → behind values (r >>= λ rest. Ok (x ∷ rest)) ≡ behind (values ++ x ∷ []) r
+behind_more values x (Ok rest) = ap Ok (sym (append_assoc values (x ∷ []) rest))
+behind_more values x (Err why) = refl
+
+-- a value that the row of a plain field keeps
+abbrev FitsIn : ModelInfo → FieldNo × Value → Type 0
+FitsIn info given = IsSomeAnd (numbered (fields_of info) given.0.0) (λ field. IsFitIn field given.1)
+
+-- with what is left to give the values are those of the row
+pub record RowSoFar (now : ℤ) (place : List PathStep) (ms : Members) (info : ModelInfo) (i : ℕ) (values : Values) : Type 0 where
+  pub same : new_row now place ms (plain_columns info) ≡ behind values (new_row now place ms (left info i))
+  pub fit : All (FitsIn info) values
+  pub apart : AllPairs (λ a b. a.0 ≢ b.0) values
+  pub low : All (λ given. given.0.0 ≤ i) values
+
+module _ (now : ℤ) (place : List PathStep) (ms : Members) (info : ModelInfo) where
+  -- at first there are none
+  pub row_none : RowSoFar now place ms info 0 []
+  row_none = record {
+    same = behind_none (new_row now place ms (plain_columns info));
+    fit = All-nil (FitsIn info);
+    apart = λ j k d lt below. absurd (omega arith);
+    low = All-nil (λ (given : FieldNo × Value). given.0.0 ≤ 0);
+  }
+
+  -- all stay low
+  low_more : (i : ℕ) (values : Values) → All (λ given. given.0.0 ≤ i) values → All (λ given. given.0.0 ≤ i + 1) values
+  low_more i values low = λ k d lt. let own = low k d lt in omega arith
+
+  -- a field that calls give nothing
+  pub row_passed : (i : ℕ) (f : FieldInfo) (values : Values) → slice_get info.fields i ≡ Some f → is_plain_kept f ≡ false → RowSoFar now place ms info i values → RowSoFar now place ms info (i + 1) values
+  row_passed i f values at plain far = record {
+    same = far.same ∙ ap (λ (cs : List Column). behind values (new_row now place ms cs)) (left_other info i f at plain);
+    fit = far.fit;
+    apart = far.apart;
+    low = low_more i values far.low;
+  }
+
+  -- one more value
+  pub row_more : (i : ℕ) (f : FieldInfo) (values : Values) (v : Value) → slice_get info.fields i ≡ Some f → numbered (fields_of info) (i + 1) ≡ Some f → is_plain_kept f ≡ true → new_value now place ms f ≡ Ok v → Holds f v
+      → RowSoFar now place ms info i values → RowSoFar now place ms info (i + 1) (values ++ (record { 0 = i + 1 }, v) ∷ [])
+  row_more i f values v at own plain is holds far =
+      let number : FieldNo = record { 0 = i + 1 } in
+      let rest = new_row now place ms (left info (i + 1)) in
+      let number_is : suc i ≡ i + 1 = omega arith in
+      let step : new_row now place ms ((suc i, f) ∷ left info (i + 1)) ≡ (rest >>= λ row. Ok ((number, v) ∷ row)) =
+      ap (λ (r : Result Value (List PathStep)). r >>= λ own. rest >>= λ row. Ok ((record { 0 = suc i }, own) ∷ row)) is
+      ∙ ap (λ (n : ℕ). rest >>= λ row. Ok ((record { 0 = n }, v) ∷ row)) number_is in
+      record {
+        same = far.same ∙ ap (λ (cs : List Column). behind values (new_row now place ms cs)) (left_plain info i f at plain) ∙ ap (behind values) step ∙ behind_more values (number, v) rest;
+        fit = All-push (FitsIn info) values (number, v) far.fit (subst (λ (o : Option FieldInfo). IsSomeAnd o (λ field. IsFitIn field v)) (sym own) (plain, HasType-from_IsValueOf f.field_type f.selection v holds));
+        apart = all_pairs_push (λ (a b : FieldNo × Value). a.0 ≢ b.0) values (number, v) far.apart (λ k d lt same. let below = far.low k d lt in let e = ap (λ (n : FieldNo). n.0) same in omega arith);
+        low = All-push (λ (given : FieldNo × Value). given.0.0 ≤ i + 1) values (number, v) (low_more i values far.low) (omega arith);
+      }
+
+  -- a value that is wrong refuses the row
+  pub row_refused : (i : ℕ) (f : FieldInfo) (values : Values) (why : Refusal) → slice_get info.fields i ≡ Some f → is_plain_kept f ≡ true → IsResultOf (λ (v : Value). v) (Err why) (new_value now place ms f)
+      → RowSoFar now place ms info i values → {Of : Type 0} (of : Of → Values) → IsResultOf of (Err why) (new_row now place ms (plain_columns info))
+  row_refused i f values (refusal.Request e) at plain wrong far of =
+      far.same ∙ ap (λ (cs : List Column). behind values (new_row now place ms cs)) (left_plain info i f at plain)
+      ∙ ap (λ (r : Result Value (List PathStep)). behind values (r >>= λ own. new_row now place ms (left info (i + 1)) >>= λ row. Ok ((record { 0 = suc i }, own) ∷ row))) wrong
+  row_refused i f values (refusal.Right m op) at plain wrong far of = wrong
+  row_refused i f values (refusal.FieldRight m field) at plain wrong far of = wrong
+  row_refused i f values (refusal.Missing m id) at plain wrong far of = wrong
+  row_refused i f values (refusal.Rule m op id name) at plain wrong far of = wrong
+  row_refused i f values (refusal.Constraint b) at plain wrong far of = wrong
+  row_refused i f values refusal.Keeper at plain wrong far of = wrong
+  row_refused i f values refusal.NoMemory at plain wrong far of = tt
+
+  -- at last it is the row
+  pub row_all : (i : ℕ) (values : Values) → length info.fields ≤ i → RowSoFar now place ms info i values → new_row now place ms (plain_columns info) ≡ Ok values
+  row_all i values past far =
+      let none : left info i ≡ [] = ap (λ (fs : List FieldInfo). filter (λ column. is_plain_kept column.1) (enumerate_from (suc i) fs)) (drop_all i info.fields past) in
+      far.same ∙ ap (λ (cs : List Column). behind values (new_row now place ms cs)) none ∙ ap Ok (append-nil values)
+
+  -- whose values fit
+  pub row_fits : (models : List ModelInfo) (model : ModelNo) (i : ℕ) (values : Values) → model_at models model ≡ Some info → RowSoFar now place ms info i values → AreFitIn models model values
+  row_fits models model i values is far =
+      subst (λ (o : Option ModelInfo). IsSomeAnd o (λ own. All (FitsIn own) values × AllPairs (λ a b. a.0 ≢ b.0) values)) (sym is) (far.fit, far.apart)
 
 -- ---- as the steps say it
 
--- each plain field before a place has what it takes
-abbrev pub TakenSoFar : ℤ → List PathStep → Members → ModelInfo → ℕ → List Value → Type 0
-TakenSoFar now place ms info i values = (k : ℕ) (f : FieldInfo) → k < i → slice_get info.fields k ≡ Some f → is_plain_kept f ≡ true
-    → (new_value now place ms f ≡ Ok (get_or values k value.Nil)) × Holds f (get_or values k value.Nil)
+module _ (models : List ModelInfo) (model : ModelNo) (info : ModelInfo) (i : ℕ) (now : ℤ) (place : List PathStep) (ms : Members) (f : FieldInfo) where
+  -- the field of a step is the one at its place
+  field_here : model_at models model ≡ Some info → i < length info.fields → field_at models model (record { 0 = i + 1 }) ≡ Some f → (slice_get info.fields i ≡ Some f) × (numbered (fields_of info) (i + 1) ≡ Some f)
+  field_here is lt at =
+      let there = step_in models model info i is lt in
+      let same : Some there.f ≡ Some f = sym there.at ∙ at in
+      (there.field_is ∙ same, there.own ∙ same)
 
--- what a step gave
-abbrev pub TakesAt : List ModelInfo → ModelNo → ℕ → ℤ → List PathStep → Members → Result Value Refusal → Type 0
-TakesAt models model i now place ms r = IfSome (field_at models model (record { 0 = i + 1 })) (λ field. TakesValue field (new_value now place ms field) r)
+  -- so far
+  abbrev pub SoFar : ℕ → Values → Type 0
+  SoFar n values = IfSome (model_at models model) (λ own. RowSoFar now place ms own n values)
 
--- one more
-pub taken_more : (models : List ModelInfo) (model : ModelNo) (fields : List FieldInfo) (i : ℕ) (now : ℤ) (place : List PathStep) (ms : Members) (values more : List Value) (v : Value)
-    → option_map (λ info. info.fields) (model_at models model) ≡ Some fields → i < length fields
-    → length values ≡ i → more ≡ values ++ v ∷ [] → TakesAt models model i now place ms (Ok v) → IfSome (model_at models model) (λ info. TakenSoFar now place ms info i values)
-    → IfSome (model_at models model) (λ info. TakenSoFar now place ms info (i + 1) more)
-taken_more models model fields i now place ms values more v same lt count pushed takes far =
-    let there = step_in models model fields i same lt in
-    let o = model_at models model in
-    let number : FieldNo = record { 0 = i + 1 } in
-    let own = told (field_at models model number) there.f (λ field. TakesValue field (new_value now place ms field) (Ok v)) there.at takes in
-    let before = told o there.info (λ info. TakenSoFar now place ms info i values) there.model_is far in
-    tell o there.info (λ info. TakenSoFar now place ms info (i + 1) more) there.model_is
-    (λ k f below at is.
-    let P : Value → Type 0 = λ w. (new_value now place ms f ≡ Ok w) × Holds f w in
-    elim (cases_lt k i) [
-      | inl old ↦ subst P (sym (ap (λ (vs : List Value). get_or vs k value.Nil) pushed ∙ get_or_append_left values (v ∷ []) value.Nil k (omega arith))) (before k f old at is)
-      | inr here ↦ (let k_is : k ≡ i = omega arith in
-          let f_is : there.f ≡ f = (let a = there.field_is in let b : slice_get there.info.fields i ≡ Some f = ap (slice_get there.info.fields) (sym k_is) ∙ at in cc) in
-          let taken' : (new_value now place ms f ≡ Ok v) × Holds f v = (subst (λ (g : FieldInfo). is_plain_kept g ≡ true → (new_value now place ms g ≡ Ok v) × Holds g v) f_is own) is in
-          subst P (sym (ap (λ (vs : List Value). get_or vs k value.Nil) pushed ∙ get_or_push values v value.Nil k (count ∙ sym k_is))) taken')
-    ])
+  -- a field that calls give nothing
+  pub passed_at : (values : Values) → model_at models model ≡ Some info → i < length info.fields → field_at models model (record { 0 = i + 1 }) ≡ Some f → is_plain_kept f ≡ false → SoFar i values → SoFar (i + 1) values
+  passed_at values is lt at plain far =
+      tell (model_at models model) info (λ own. RowSoFar now place ms own (i + 1) values) is
+      (row_passed now place ms info i f values (field_here is lt at).0 plain (told (model_at models model) info (λ own. RowSoFar now place ms own i values) is far))
 
--- none at first
-pub taken_none : (models : List ModelInfo) (model : ModelNo) (now : ℤ) (place : List PathStep) (ms : Members) (values : List Value) → IfSome (model_at models model) (λ info. TakenSoFar now place ms info 0 values)
-taken_none models model now place ms values = by (model_at models model) where
-  by : (o : Option ModelInfo) → IfSome o (λ info. TakenSoFar now place ms info 0 values)
-  by None = tt
-  by (Some info) = λ k f below at is. absurd (omega arith)
+  -- one more value
+  pub taken_at : (values more : Values) (v : Value) → model_at models model ≡ Some info → i < length info.fields → field_at models model (record { 0 = i + 1 }) ≡ Some f → is_plain_kept f ≡ true
+      → IfSome (field_at models model (record { 0 = i + 1 })) (λ field. new_value now place ms field ≡ Ok v) → IfSome (field_at models model (record { 0 = i + 1 })) (λ field. Holds field v)
+      → more ≡ values ++ (record { 0 = i + 1 }, v) ∷ [] → SoFar i values → SoFar (i + 1) more
+  taken_at values more v is lt at plain given holds pushed far =
+      let o = field_at models model (record { 0 = i + 1 }) in
+      let here = field_here is lt at in
+      tell (model_at models model) info (λ own. RowSoFar now place ms own (i + 1) more) is
+      (subst (RowSoFar now place ms info (i + 1)) (sym pushed) (row_more now place ms info i f values v here.0 here.1 plain (told o f (λ field. new_value now place ms field ≡ Ok v) at given) (told o f (λ field. Holds field v) at holds)
+      (told (model_at models model) info (λ own. RowSoFar now place ms own i values) is far)))
 
--- all at last
-all_from : (now : ℤ) (place : List PathStep) (ms : Members) (info : ModelInfo) (values : List Value) → TakenSoFar now place ms info (length info.fields) values → AllTaken now place ms 1 info.fields values
-all_from now place ms info values far k f at is =
-    subst (λ (w : Value). (new_value now place ms f ≡ Ok w) × Holds f w) (ap (λ (n : ℕ). get_or values n value.Nil) (let e : k ≡ 1 + k - 1 = omega arith in e))
-    (far k f (slice_get_within info.fields k f at) at is)
-
--- the row of all values
-pub taken_all : (models : List ModelInfo) (model : ModelNo) (fields : List FieldInfo) (i : ℕ) (now : ℤ) (place : List PathStep) (ms : Members) (values : List Value)
-    → option_map (λ info. info.fields) (model_at models model) ≡ Some fields → length fields ≡ i
-    → length values ≡ i → IfSome (model_at models model) (λ info. TakenSoFar now place ms info i values)
-    → IfSome (model_at models model) (λ info. (new_row now place ms (plain_columns info) ≡ Ok (gathered info values)) × ArePlain info values)
-taken_all models model fields i now place ms values same end count far = by (model_at models model) same far where
-  by : (o : Option ModelInfo) → option_map (λ info. info.fields) o ≡ Some fields → IfSome o (λ info. TakenSoFar now place ms info i values)
-      → IfSome o (λ info. (new_row now place ms (plain_columns info) ≡ Ok (gathered info values)) × ArePlain info values)
-  by None same far = tt
-  by (Some info) same far =
-      let own : length info.fields ≡ i = (let e : info.fields ≡ fields = cc in ap length e ∙ end) in
-      let row = row_taken now place ms 1 info.fields values (all_from now place ms info values (subst (λ (n : ℕ). TakenSoFar now place ms info n values) (sym own) far)) in
-      (row.0, record { forms = row.1; count = count ∙ sym own })
-
--- one of two facts
-pub if_left : (o : Option ModelInfo) (P Q : ModelInfo → Type 0) → IfSome o (λ info. P info × Q info) → IfSome o P
-if_left None P Q h = tt
-if_left (Some info) P Q h = h.0
-
--- and the other
-pub if_right : (o : Option ModelInfo) (P Q : ModelInfo → Type 0) → IfSome o (λ info. P info × Q info) → IfSome o Q
-if_right None P Q h = tt
-if_right (Some info) P Q h = h.1
-
--- a value that is wrong refuses the row
-pub taken_refused : (models : List ModelInfo) (model : ModelNo) (fields : List FieldInfo) (i : ℕ) (now : ℤ) (place : List PathStep) (ms : Members) (values : List Value) (why : Refusal)
-    → option_map (λ info. info.fields) (model_at models model) ≡ Some fields → i < length fields
-    → TakesAt models model i now place ms (Err why) → IfSome (model_at models model) (λ info. TakenSoFar now place ms info i values)
-    → (Of : Type 0) (of : ModelInfo → Of → Row) → IfSome (model_at models model) (λ info. IsResultOf (of info) (Err why) (new_row now place ms (plain_columns info)))
-taken_refused models model fields i now place ms values why same lt takes far Of of =
-    let there = step_in models model fields i same lt in
-    let o = model_at models model in
-    let number : FieldNo = record { 0 = i + 1 } in
-    let own = told (field_at models model number) there.f (λ field. TakesValue field (new_value now place ms field) (Err why)) there.at takes in
-    let before = told o there.info (λ info. TakenSoFar now place ms info i values) there.model_is far in
-    tell o there.info (λ info. IsResultOf (of info) (Err why) (new_row now place ms (plain_columns info))) there.model_is
-    (by there why own (λ k f below at is. (get_or values k value.Nil, (before k f below at is).0))) where
-      by : (there : StepIn models model fields i) (why : Refusal) → (is_plain_kept there.f ≡ true) × IsResultOf (λ (v : Value). v) (Err why) (new_value now place ms there.f)
-          → TakenBefore now place ms i there.info.fields → IsResultOf (of there.info) (Err why) (new_row now place ms (plain_columns there.info))
-      by there (refusal.Request e) (plain, wrong) before = row_refused now place ms 1 i there.info.fields there.f e before there.field_is plain wrong
-      by there (refusal.Right m op) (plain, wrong) before = wrong
-      by there (refusal.FieldRight m field) (plain, wrong) before = wrong
-      by there (refusal.Missing m id) (plain, wrong) before = wrong
-      by there (refusal.Rule m op id name) (plain, wrong) before = wrong
-      by there (refusal.Constraint b) (plain, wrong) before = wrong
-      by there refusal.Keeper (plain, wrong) before = wrong
-      by there refusal.NoMemory (plain, wrong) before = tt
-
--- a create may give a value to each field of a served model
-pub givable_at : (models : List ModelInfo) (model : ModelNo) (fields : List FieldInfo) (i : ℕ) → option_map (λ info. info.fields) (model_at models model) ≡ Some fields → i < length fields
-    → IfSome (model_at models model) (IsModel models model) → IfSome (model_at models model) IsServed
-    → IfSome (field_at models model (record { 0 = i + 1 })) IsGivable
-givable_at models model fields i same lt valid served =
-    let there = step_in models model fields i same lt in
-    let o = model_at models model in
-    let number : FieldNo = record { 0 = i + 1 } in
-    tell (field_at models model number) there.f IsGivable there.at
-    (IsGivable-at models model there.info i there.f (told o there.info (IsModel models model) there.model_is valid) (told o there.info IsServed there.model_is served) there.field_is)
+  -- a value that is wrong
+  pub refused_at : (values : Values) (why : Refusal) → model_at models model ≡ Some info → i < length info.fields → field_at models model (record { 0 = i + 1 }) ≡ Some f → is_plain_kept f ≡ true
+      → IfSome (field_at models model (record { 0 = i + 1 })) (λ field. IsResultOf (λ (v : Value). v) (Err why) (new_value now place ms field)) → SoFar i values
+      → {Of : Type 0} (of : Of → Values) → IfSome (model_at models model) (λ own. IsResultOf of (Err why) (new_row now place ms (plain_columns own)))
+  refused_at values why is lt at plain given far of =
+      tell (model_at models model) info (λ own. IsResultOf of (Err why) (new_row now place ms (plain_columns own))) is
+      (row_refused now place ms info i f values why (field_here is lt at).0 plain
+      (told (field_at models model (record { 0 = i + 1 })) f (λ field. IsResultOf (λ (v : Value). v) (Err why) (new_value now place ms field)) at given)
+      (told (model_at models model) info (λ own. RowSoFar now place ms own i values) is far) of)

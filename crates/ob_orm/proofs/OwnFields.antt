@@ -1,6 +1,6 @@
 -- The fields of a model that serves calls: those that have a name, since it has no conditions.
-use Rattle.std.proofs.Common.{◌≡◌, ℕ, zero, suc, ◌<◌, ◌≤◌, ◌-◌, Bool, true, false, List, [], ◌∷◌, ◌++◌, get_or, length, length-append, Option, Some, None, refl, sym, ap, subst, ◌∙◌, arith, append-nil}
-use Rattle.std.specs.Prelude.{All, IfSome, IsSomeAnd, option_and_then, option_map, position, slice_get}
+use Rattle.std.proofs.Common.{◌≡◌, ℕ, zero, suc, ◌<◌, ◌≤◌, ◌-◌, Bool, false, List, [], ◌∷◌, ◌++◌, get_or, length, length-append, Option, Some, None, refl, sym, ap, subst, ◌∙◌, arith, append-nil}
+use Rattle.std.specs.Prelude.{All, IfSome, option_and_then, option_map, position, slice_get}
 use Rattle.std.specs.Option.{option_map_or}
 use Rattle.std.specs.Str.{bytes_eq}
 use Rattle.std.proofs.lemmas.List.Quantifiers.{position-Some}
@@ -8,17 +8,12 @@ use Rattle.std.proofs.lemmas.List.{get_or_append_left}
 use Rattle.std.proofs.lemmas.Option.{get_or_from_slice_get, same_Some, slice_get-get_or, slice_get_within}
 use Rattle.ob_base.specs.declared.id.FieldNo.{FieldNo}
 use Rattle.ob_base.specs.declared.id.ModelNo.{ModelNo}
-use Rattle.ob_expr.specs.Route.{Route}
-use Rattle.ob_expr.specs.TypedTree.{paths_of, typed_tree_of}
-use Rattle.ob_expr.specs.declared.typed.Link.{Link}
 use Rattle.ob_schema.specs.Built.{numbered}
-use Rattle.ob_schema.specs.Fields.{is_plain_from}
-use Rattle.ob_schema.specs.Models.{IsField, IsFormulaIn, IsModel, IsRouted, field_at, field_named, fields_of, kind_of_info, model_at}
+use Rattle.ob_schema.specs.Models.{IsField, IsModel, field_at, field_named, fields_of, model_at}
 use Rattle.ob_schema.specs.declared.info.FieldInfo.{FieldInfo}
-use Rattle.ob_schema.specs.declared.info.Formula.{Formula}
 use Rattle.ob_schema.specs.declared.info.ModelInfo.{ModelInfo}
 use Rattle.ob_call.specs.Forms.{fields_at}
-use Rattle.ob_orm.specs.Served.{IsOwnPath, IsServed}
+use Rattle.ob_orm.specs.Served.{IsServed}
 use Rattle.ob_orm.specs.Values.{is_free, is_given}
 
 -- what stands at a place stands there with more behind
@@ -69,32 +64,6 @@ module _ (models : List ModelInfo) (model : ModelNo) (number : FieldNo) (served 
 -- each of them is right among all
 pub fields_valid : (models : List ModelInfo) (model : ModelNo) (info : ModelInfo) → IsModel models model info → IsServed info → All (IsField models model info) info.fields
 fields_valid models model info valid served = subst (All (IsField models model info)) (fields_alone info served) valid.fields
-
--- a plain field of the row itself, whose values are of the path's kind
-abbrev pub IsOperand : List FieldInfo → Route → Type 0
-IsOperand fields route = (route.links ≡ []) × IsSomeAnd (numbered fields route.field.0) (λ field. (is_plain_from field.origin ≡ true) × (kind_of_info field ≡ Some route.kind))
-
--- a path of its own row that is typed in the registry
-operand : (models : List ModelInfo) (model : ModelNo) (info : ModelInfo) (route : Route) → model_at models model ≡ Some info → IsServed info → IsOwnPath info.fields route
-    → IsRouted models model route.links route.field route.kind → IsOperand info.fields route
-operand models model info route at served own routed = (own.0, both (numbered info.fields route.field.0) own.1 here)
-  where
-    Typed : FieldInfo → Type 0
-    Typed field = (kind_of_info field ≡ Some route.kind) × (field.store ≡ true)
-
-    here : IsSomeAnd (numbered info.fields route.field.0) Typed
-    here =
-        let direct : IsRouted models model [] route.field route.kind = subst (λ (links : List Link). IsRouted models model links route.field route.kind) own.0 routed in
-        subst (λ (o : Option FieldInfo). IsSomeAnd o Typed) (field_at-own models model route.field info at served) direct
-
-    both : (o : Option FieldInfo) → IsSomeAnd o (λ field. is_plain_from field.origin ≡ true) → IsSomeAnd o Typed → IsSomeAnd o (λ field. (is_plain_from field.origin ≡ true) × (kind_of_info field ≡ Some route.kind))
-    both None plain typed = absurd plain
-    both (Some field) plain typed = (plain, typed.0)
-
--- so is each path of a formula
-pub operands : (models : List ModelInfo) (model : ModelNo) (info : ModelInfo) (f : FieldInfo) (formula : Formula) → model_at models model ≡ Some info → IsServed info → IsFormulaIn models model f formula
-    → All (IsOwnPath info.fields) (paths_of (typed_tree_of formula.typed)) → All (IsOperand info.fields) (paths_of (typed_tree_of formula.typed))
-operands models model info f formula at served is own = λ i route lt. operand models model info (get_or (paths_of (typed_tree_of formula.typed)) i route) at served (own i route lt) (is.routed i route lt)
 
 -- ---- fields by their names
 

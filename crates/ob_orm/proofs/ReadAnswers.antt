@@ -1,12 +1,9 @@
 -- The answer of a read, by its arguments and the rows that were fetched.
-use Rattle.std.proofs.Common.{◌≡◌, ℕ, suc, ◌+◌, ◌<◌, ◌≤◌, ◌&&◌, Bool, true, false, cond, List, [], ◌∷◌, map, length, get_or, nat_le, Option, Some, None, option_map, option_and_then, Result, Ok, Err, refl, sym, ap, subst, ◌∙◌, arith}
+use Rattle.std.proofs.Common.{◌≡◌, ℕ, suc, ◌+◌, ◌<◌, List, [], ◌∷◌, map, length, get_or, Option, Some, None, option_map, option_and_then, Result, Ok, Err, refl, sym, ap, subst, ◌∙◌, arith}
 use Rattle.std.specs.Prelude.{All, Contains, IsSome, IfErr, IfSome}
-use Rattle.std.specs.List.{filter_map, cons_option}
-use Rattle.std.proofs.lemmas.Bool.Decides.{nat_tests}
 use Rattle.std.proofs.lemmas.List.Elements.{All-cons, All-nil, All-head, All-tail, All-filter}
 use Rattle.std.proofs.lemmas.List.FromFn.{get_or-enumerate_from, length-enumerate_from}
 use Rattle.std.proofs.lemmas.Option.{slice_get-get_or}
-use Rattle.ob_base.specs.Limits.{max_id}
 use Rattle.ob_base.specs.declared.id.FieldNo.{FieldNo}
 use Rattle.ob_base.specs.declared.place.PathStep.{PathStep}
 use Rattle.ob_base.specs.declared.refusal.Refusal.{Refusal}
@@ -14,67 +11,30 @@ use Rattle.ob_base.specs.declared.refusal.Refusal.TheVariants as refusal
 use Rattle.ob_io.specs.Store.{Store}
 use Rattle.ob_schema.specs.Fields.{Column, columns}
 use Rattle.ob_schema.specs.Built.{numbered}
+use Rattle.ob_cache.specs.Standing.{Holding, RestsAt}
 use Rattle.ob_schema.specs.Models.{fields_of, model_at}
+use Rattle.ob_schema.specs.Tables.{Tables}
 use Rattle.ob_schema.specs.declared.info.FieldInfo.{FieldInfo}
 use Rattle.ob_schema.specs.declared.info.ModelInfo.{ModelInfo}
 use Rattle.serde_json.specs.Data.{Data, null, boolean, number, string, array, object}
-use Rattle.serde_json.specs.Find.{as_number, as_u64}
 use Rattle.serde_json.specs.View.{view}
 use Rattle.ob_orm.specs.Answer.{Called, ReadAnswers, ReadCause, Refuses, called_by}
 use Rattle.ob_call.specs.Arguments as arguments
 use Rattle.ob_base.specs.Chain.{◌>>=◌}
 use Rattle.ob_call.specs.Arguments.{AreFit, arguments_of}
-use Rattle.ob_call.specs.Forms.{fields_at, id_from}
+use Rattle.ob_call.specs.Forms.{fields_at}
 use Rattle.ob_codec.specs.Commands.{listed}
 use Rattle.ob_call.specs.ArgumentsSteps.{all_given_of, given_of}
 use Rattle.ob_call.specs.Results.{IsResultOf}
 use Rattle.ob_orm.specs.Read.{Asked, IsLeastMissing, ReadRefuses, TellsRows, asked_by, asked_columns, asked_of, columns_in, columns_named, ids_in, once, read_expects}
 use Rattle.ob_orm.specs.ReadParts.{columns_at}
 use Rattle.ob_orm.specs.ReadRows.{AnswersRows, IsMissingAmong, MissesLeast}
-use Rattle.ob_orm.specs.Tables.{Tables}
 use Rattle.ob_call.specs.declared.arguments.Given.{Given}
 use Rattle.ob_call.specs.declared.call.Call.{Call}
 use Rattle.ob_orm.proofs.Expected.{ReadGiven, at_info, read_given}
 use Rattle.ob_orm.proofs.OwnFields.{numbered-before}
-use Rattle.ob_orm.proofs.ReadFetched.{Told}
 use Rattle.ob_orm.proofs.ReadNumbers.{numbers_in}
-use Rattle.ob_orm.proofs.ReadOnce.{All-once}
-use Rattle.ob_orm.proofs.ReadSteps.{Refuses-weaker, known_map, told_map}
-
--- ---- the ids that are asked for
-
--- a number that passes the test is within the limit
-id_fits : (n : ℕ) (b : Bool) (o : Option ℕ) → b ≡ (nat_le 1 n && nat_le n 4294967295) → cond b (Some n) None ≡ o → IfSome o (λ id. id ≤ max_id)
-id_fits n b None test e = tt
-id_fits n true (Some id) test e = let same : n ≡ id = cc in let low : n ≤ max_id = grind (arith, nat_tests) in subst (λ (m : ℕ). m ≤ max_id) same low
-id_fits n false (Some id) test e = absurd cc
-
--- a number that is an id is within the limit
-bounded : (o : Option ℕ) → IfSome (option_and_then (λ n. cond (nat_le 1 n && nat_le n 4294967295) (Some n) None) o) (λ id. id ≤ max_id)
-bounded None = tt
-bounded (Some n) = id_fits n (nat_le 1 n && nat_le n 4294967295) (cond (nat_le 1 n && nat_le n 4294967295) (Some n) None) refl refl
-
--- the ids of a list are within the limit
-ids_fit : (ds : List Data) → All (λ id. id ≤ max_id) (filter_map id_from ds)
-ids_fit [] = All-nil (λ (id : ℕ). id ≤ max_id)
-ids_fit (d ∷ ds) = one (id_from d) (bounded (option_and_then as_u64 (as_number d))) (ids_fit ds)
-  where
-    one : (o : Option ℕ) → IfSome o (λ id. id ≤ max_id) → All (λ id. id ≤ max_id) (filter_map id_from ds) → All (λ id. id ≤ max_id) (cons_option o (filter_map id_from ds))
-    one None here more = more
-    one (Some id) here more = All-cons (λ (id : ℕ). id ≤ max_id) id (filter_map id_from ds) here more
-
--- the ids of an argument are within the limit
-all_fit : (d : Data) → All (λ id. id ≤ max_id) (ids_in d)
-all_fit null = All-nil (λ (id : ℕ). id ≤ max_id)
-all_fit (boolean b) = All-nil (λ (id : ℕ). id ≤ max_id)
-all_fit (number n) = ids_fit (number n ∷ [])
-all_fit (string text) = All-nil (λ (id : ℕ). id ≤ max_id)
-all_fit (array items) = ids_fit (listed items)
-all_fit (object _) = All-nil (λ (id : ℕ). id ≤ max_id)
-
--- the ids that are asked for are within the limit
-pub asked_fit : (d : Data) (ids : List ℕ) → ids ≡ once (ids_in d) → All (λ id. id ≤ max_id) ids
-asked_fit d ids e = subst (All (λ id. id ≤ max_id)) (sym e) (All-once (λ id. id ≤ max_id) (ids_in d) (all_fit d))
+use Rattle.ob_orm.proofs.ReadSteps.{Refuses-weaker, known_map}
 
 -- ---- the fields that are asked for
 
@@ -118,7 +78,7 @@ same_columns info (n ∷ numbers) (c ∷ cs) e own =
     let first : n.0 ≡ c.0 = cc in
     let rest : numbers_in numbers ≡ map (λ (x : Column). x.0) cs = cc in
     let here : numbered info.fields n.0 ≡ Some c.1 = ap (numbered info.fields) first ∙ All-head (IsOwn info) c cs own in
-    rw here (ap (λ (m : ℕ). (m, c.1) ∷ columns_at info numbers) first ∙ ap (λ (xs : List Column). c ∷ xs) (same_columns info numbers cs rest (All-tail (IsOwn info) c cs own)))
+    rw (numbered-before info.fields info.hidden n.0 c.1 here) (ap (λ (m : ℕ). (m, c.1) ∷ columns_at info numbers) first ∙ ap (λ (xs : List Column). c ∷ xs) (same_columns info numbers cs rest (All-tail (IsOwn info) c cs own)))
 
 -- a field of this number is there
 abbrev IsThere : Option ModelInfo → FieldNo → Type 0
@@ -210,16 +170,16 @@ misses c tables ids numbers a refusal.Keeper h = absurd h
 misses c tables ids numbers a refusal.NoMemory h = absurd h
 
 -- the rows' answer is the read's
-answered : (c : Called) (tables : Tables) (rose : Type 0) (ids : List ℕ) (numbers : List FieldNo) (r : Result Data Refusal) → Asks c.info c.args c.kw ids numbers
-    → AnswersRows c.model tables (columns_at c.info numbers) ids rose r → ReadAnswers tables c rose r
-answered c tables rose ids numbers (Ok json) a h = (
+answered : (models : List ModelInfo) (c : Called) (tables : Tables) (rose : Type 0) (ids : List ℕ) (numbers : List FieldNo) (r : Result Data Refusal) → Asks c.info c.args c.kw ids numbers
+    → AnswersRows models tables c.model (columns_at c.info numbers) ids rose r → ReadAnswers models tables c rose r
+answered models c tables rose ids numbers (Ok json) a h = (
   a.asked,
   h.0,
   a.is,
-  subst (λ (cs : List Column). TellsRows c.model tables cs a.asked.ids h.0) (sym a.fields_are) (subst (λ (xs : List ℕ). TellsRows c.model tables (columns_at c.info numbers) xs h.0) (sym a.ids_are) h.1),
+  subst (λ (cs : List Column). TellsRows models tables c.model cs a.asked.ids h.0) (sym a.fields_are) (subst (λ (xs : List ℕ). TellsRows models tables c.model (columns_at c.info numbers) xs h.0) (sym a.ids_are) h.1),
   h.2,
 )
-answered c tables rose ids numbers (Err why) a h =
+answered models c tables rose ids numbers (Err why) a h =
     Refuses-weaker rose rose (MissesLeast c.model tables ids) (λ cause. ReadRefuses c.model c.info tables c.args c.kw cause) why (λ r. r) (misses c tables ids numbers a) h
 
 -- an id that is missing was asked for
@@ -238,19 +198,16 @@ abbrev pub AsksIn : Option ModelInfo → Call → List ℕ → List FieldNo → 
 AsksIn found call ids numbers = IfSome found (λ info. Asks info (view call.args.now) (view call.kw.now) ids numbers)
 
 -- the same, of a model that may be there
-answered_in : (found : Option ModelInfo) (call : Call) (rose : Type 0) (ids : List ℕ) (numbers : List FieldNo) (r : Result Data Refusal) (tables : Tables) → AsksIn found call ids numbers
-    → IfSome found (λ info. AnswersRows call.model tables (columns_at info numbers) ids rose r) → IfSome found (λ info. ReadAnswers tables (called_by call info) rose r)
-answered_in None call rose ids numbers r tables a h = tt
-answered_in (Some info) call rose ids numbers r tables a h = answered (called_by call info) tables rose ids numbers r a h
+answered_in : (models : List ModelInfo) (found : Option ModelInfo) (call : Call) (rose : Type 0) (ids : List ℕ) (numbers : List FieldNo) (r : Result Data Refusal) (tables : Tables) → AsksIn found call ids numbers
+    → IfSome found (λ info. AnswersRows models tables call.model (columns_at info numbers) ids rose r) → IfSome found (λ info. ReadAnswers models tables (called_by call info) rose r)
+answered_in models None call rose ids numbers r tables a h = tt
+answered_in models (Some info) call rose ids numbers r tables a h = answered models (called_by call info) tables rose ids numbers r a h
 
--- over a keeper that tells its rows it is the machine's answer
-pub told_answer : (models : List ModelInfo) (kept : Option Store) (call : Call) (rose : Type 0) (ids : List ℕ) (numbers : List FieldNo) (r : Result Data Refusal) → AsksIn (model_at models call.model) call ids numbers
-    → Told models kept (λ tables. IfSome (model_at models call.model) (λ info. AnswersRows call.model tables (columns_at info numbers) ids rose r))
-    → Told models kept (λ tables. IfSome (model_at models call.model) (λ info. ReadAnswers tables (called_by call info) rose r))
-told_answer models kept call rose ids numbers r a told =
-    told_map models kept (λ tables. IfSome (model_at models call.model) (λ info. AnswersRows call.model tables (columns_at info numbers) ids rose r))
-    (λ tables. IfSome (model_at models call.model) (λ info. ReadAnswers tables (called_by call info) rose r))
-    (λ tables. answered_in (model_at models call.model) call rose ids numbers r tables a) told
+-- by the tables at which the engine rests it is the machine's answer
+pub told_answer : (kept : Option Store) (held : Holding) (call : Call) (rose : Type 0) (ids : List ℕ) (numbers : List FieldNo) (r : Result Data Refusal) → AsksIn (model_at held.models call.model) call ids numbers
+    → ((tables : Tables) → RestsAt kept held tables → IfSome (model_at held.models call.model) (λ info. AnswersRows held.models tables call.model (columns_at info numbers) ids rose r))
+    → (tables : Tables) → RestsAt kept held tables → IfSome (model_at held.models call.model) (λ info. ReadAnswers held.models tables (called_by call info) rose r)
+told_answer kept held call rose ids numbers r a told tables rests = answered_in held.models (model_at held.models call.model) call rose ids numbers r tables a (told tables rests)
 
 -- over any keeper a refusal has its cause
 pub told_causes : {T : Type 0} (found : Option ModelInfo) (call : Call) (rose : Type 0) (ids : List ℕ) (numbers : List FieldNo) (r : Result T Refusal) → AsksIn found call ids numbers
@@ -284,16 +241,15 @@ denied_cause of models call rose _ e = absurd e
 -- and the machine's answer
 denied_over : {A : Type 0} (of : A → List (Option arguments.Given)) (models : List ModelInfo) (call : Call) (rose : Type 0) (why : Refusal) (tables : Tables)
     → IsResultOf of (Err why) (arguments_of (read_expects (fields_at models call.model)) (view call.args.now) (view call.kw.now))
-    → IfSome (model_at models call.model) (λ info. ReadAnswers tables (called_by call info) rose (Err why))
+    → IfSome (model_at models call.model) (λ info. ReadAnswers models tables (called_by call info) rose (Err why))
 denied_over of models call rose (refusal.Request place) tables e = wrong_at models call place e
-denied_over of models call rose refusal.NoMemory tables e = everywhere (model_at models call.model) (λ info. ReadAnswers tables (called_by call info) rose (Err refusal.NoMemory)) (λ info. tt) where
+denied_over of models call rose refusal.NoMemory tables e = everywhere (model_at models call.model) (λ info. ReadAnswers models tables (called_by call info) rose (Err refusal.NoMemory)) (λ info. tt) where
   everywhere : (o : Option ModelInfo) (P : ModelInfo → Type 0) → ((info : ModelInfo) → P info) → IfSome o P
   everywhere None P each = tt
   everywhere (Some info) P each = each info
 denied_over of models call rose _ tables e = absurd e
 
-pub denied_answer : {A : Type 0} (of : A → List (Option arguments.Given)) (models : List ModelInfo) (kept : Option Store) (call : Call) (rose : Type 0) (why : Refusal)
-    → IsResultOf of (Err why) (arguments_of (read_expects (fields_at models call.model)) (view call.args.now) (view call.kw.now))
-    → Told models kept (λ tables. IfSome (model_at models call.model) (λ info. ReadAnswers tables (called_by call info) rose (Err why)))
-denied_answer of models None call rose why e = tt
-denied_answer of models (Some store) call rose why e = λ tables stands sound. denied_over of models call rose why tables e
+pub denied_answer : {A : Type 0} (of : A → List (Option arguments.Given)) (kept : Option Store) (held : Holding) (call : Call) (rose : Type 0) (why : Refusal)
+    → IsResultOf of (Err why) (arguments_of (read_expects (fields_at held.models call.model)) (view call.args.now) (view call.kw.now))
+    → (tables : Tables) → RestsAt kept held tables → IfSome (model_at held.models call.model) (λ info. ReadAnswers held.models tables (called_by call info) rose (Err why))
+denied_answer of kept held call rose why e tables rests = denied_over of held.models call rose why tables e

@@ -1,38 +1,38 @@
 -- The object that tells of a row, one field after another.
-use Rattle.std.proofs.Common.{◌≡◌, ℕ, zero, suc, ◌+◌, ◌-◌, ◌<◌, ◌≤◌, ◌||◌, Bool, true, false, cond, List, [], ◌∷◌, map, length, get_or, drop, Option, Some, None, Ordering, Less, Equal, Greater, String}
-use Rattle.std.proofs.Common.{Global, string_cmp, string_bytes, refl, sym, ap, subst, ◌∙◌, arith, add-zero}
-use Rattle.std.specs.Prelude.{IfSome, pos, negsuc, slice_get}
-use Rattle.std.specs.List.{enumerate_from}
-use Rattle.std.specs.BTreeMap.{insert_entry}
+use Rattle.std.proofs.Common.{◌≡◌, ℕ, ◌+◌, ◌<◌, ◌≤◌, ◌||◌, Bool, true, false, cond, List, [], ◌∷◌, map, length, get_or, drop, Option, Some, None, Result, Ok, Err, Ordering, Less, Equal, Greater, refl, sym, ap, subst, ◌∙◌}
+use Rattle.std.specs.Prelude.{IfOk, IfSome, IsSome, pos, negsuc, option_and_then, option_map}
 use Rattle.std.specs.Cmp.Lexicographic.{slice_cmp}
 use Rattle.std.specs.Ordering.{nat_cmp, match_ordering}
-use Rattle.std.specs.Result.{result_unwrap_or}
 use Rattle.std.proofs.lemmas.List.{drop_more, drop_all}
 use Rattle.std.proofs.lemmas.Option.{same_Some}
 use Rattle.serde_json.specs.Data.{Data, object, Members, no_members, member, put}
-use Rattle.serde_json.specs.View.{items_of, view, members_view}
+use Rattle.serde_json.specs.View.{items_of, view}
 use Rattle.serde_json.specs.Written.{has_float, items_have_float, members_have_float}
 use Rattle.serde_json.specs.declared.value.Value.{Value as Json}
-use Rattle.serde_json.proofs.Views.{Entry, members_view-insert_entry}
+use Rattle.ob_base.specs.declared.id.Cell.{Cell}
 use Rattle.ob_base.specs.declared.id.FieldNo.{FieldNo}
 use Rattle.ob_base.specs.declared.id.ModelNo.{ModelNo}
 use Rattle.ob_base.specs.declared.id.RecId.{RecId}
+use Rattle.ob_base.specs.declared.refusal.Refusal.{Refusal}
 use Rattle.ob_base.specs.declared.value.Value.{Value}
 use Rattle.ob_base.specs.declared.value.Value.TheVariants as value
+use Rattle.ob_cache.specs.Stages.{IsShown, resting, seen, seen_in}
+use Rattle.ob_cache.specs.Standing.{Holding, OfStages, RestsAt, Stands, Stays}
+use Rattle.ob_cache.specs.declared.fault.ReadFault.{ReadFault}
+use Rattle.ob_cache.specs.declared.fault.ReadFault.TheVariants as read_fault
+use Rattle.ob_cache.specs.declared.stages.Phase.TheVariants as phase
 use Rattle.ob_codec.specs.CommandForms.{id_json}
 use Rattle.ob_codec.specs.JsonForm.{IsJsonOf}
-use Rattle.ob_schema.specs.Fields.{Column, columns}
+use Rattle.ob_io.specs.Store.{Store}
 use Rattle.ob_schema.specs.Built.{numbered}
+use Rattle.ob_schema.specs.Fields.{Column}
+use Rattle.ob_schema.specs.Models.{field_at, fields_of, is_computed_from, model_at}
+use Rattle.ob_schema.specs.Tables.{Tables, row_at}
+use Rattle.ob_schema.specs.Val.{val}
 use Rattle.ob_schema.specs.declared.info.FieldInfo.{FieldInfo}
 use Rattle.ob_schema.specs.declared.info.ModelInfo.{ModelInfo}
-use Rattle.ob_schema.specs.declared.info.Origin.{Origin}
-use Rattle.ob_schema.specs.declared.info.Origin.TheVariants as origin
 use Rattle.ob_orm.specs.Read.{TellsFields, TellsRow}
-use Rattle.ob_orm.specs.ReadParts.{columns_at, value_told}
-use Rattle.ob_orm.specs.Scratch.{val_from, val_or_unset}
-use Rattle.ob_orm.specs.Served.{is_id}
-use Rattle.ob_orm.specs.Tables.{Row}
-use Rattle.ob_orm.proofs.ReadValues.{field_in}
+use Rattle.ob_orm.specs.ReadParts.{IsToldOrMissing, TellsCell, TellsOrMisses, columns_at}
 
 -- ---- no float is told
 
@@ -71,7 +71,7 @@ ids_plain [] = refl
 ids_plain (id ∷ ids) = ids_plain ids
 
 -- the JSON of a value has no float
-value_plain : (v : Value) (d : Data) → IsJsonOf v d → has_float d ≡ false
+pub value_plain : (v : Value) (d : Data) → IsJsonOf v d → has_float d ≡ false
 value_plain value.Nil d told = ap has_float told
 value_plain (value.Bool b) d told = ap has_float told
 value_plain (value.Int (pos n)) d told = ap has_float told
@@ -82,83 +82,115 @@ value_plain (value.Moment n) d told = ap has_float told.1
 value_plain (value.Ref id) d told = ap has_float told
 value_plain (value.Refs ids) d told = ap has_float told ∙ ids_plain ids
 
--- ---- a value that is told is the row's
+-- ---- what stays while an engine is asked
 
--- what is made of the field at a place
-at_place : (f : Column → Value) (fields : List FieldInfo) (n k : ℕ) (field : FieldInfo) (d : Value) → slice_get fields k ≡ Some field → get_or (map f (enumerate_from n fields)) k d ≡ f (n + k, field)
-at_place f [] n k field d there = absurd cc
-at_place f (x ∷ fields) n zero field d there = ap (λ (y : FieldInfo). f (n, y)) (same_Some x field there) ∙ ap (λ (m : ℕ). f (m, field)) (sym (add-zero n))
-at_place f (x ∷ fields) n (suc k) field d there = at_place f fields (n + 1) k field d there ∙ ap (λ (m : ℕ). f (m, field)) (let e : n + 1 + k ≡ n + suc k = omega arith in e)
+-- one question behind others
+pub stays-then : (a b c : Option Store) (old mid new : Holding) → Stays a old b mid → Stays b mid c new → Stays a old c new
+stays-then a b c old mid new first then = record {
+  kept = then.kept ∙ first.kept;
+  models = then.models ∙ first.models;
+  phase_is = then.phase_is ∙ first.phase_is;
+  next_ids = λ bound least upto. then.next_ids bound least (first.next_ids bound least upto);
+  stands = λ stages stands. then.stands stages (first.stands stages stands);
+  only = λ stages stands. first.only stages (then.only stages stands);
+}
 
--- what is made of the field of a number
-at_number : (f : Column → Value) (fields : List FieldInfo) (n : ℕ) (field : FieldInfo) (d : Value) → numbered fields n ≡ Some field → get_or (map f (enumerate_from 1 fields)) (n - 1) d ≡ f (n, field)
-at_number f fields zero field d there = absurd cc
-at_number f fields (suc k) field d there =
-    let e : suc k - 1 ≡ k = omega arith in
-    ap (λ (j : ℕ). get_or (map f (enumerate_from 1 fields)) j d) e ∙ at_place f fields 1 k field d there ∙ ap (λ (m : ℕ). f (m, field)) (let s : 1 + k ≡ suc k = omega arith in s)
+-- an engine that rested at tables rests at them
+pub stays-rests : (a b : Option Store) (old new : Holding) → Stays a old b new → (tables : Tables) → RestsAt a old tables → RestsAt b new tables
+stays-rests a b old new stays tables rests = subst (λ (models : List ModelInfo). Stands b new (resting models tables)) (sym stays.models) (stays.stands (resting old.models tables) rests)
 
--- the values of a row's fields
-abbrev pub values_of : ModelNo → ModelInfo → ℕ → Row → List Value
-values_of model info id row = map (λ column. val_or_unset model column id row) (columns info)
+-- ---- a cell that was read
 
--- the id's field has the id, and any other what stands at its number
-by_origin : (o : Origin) (model : ModelNo) (field : FieldInfo) (number : FieldNo) (id : ℕ) (row : Row) (at : Value) → at ≡ result_unwrap_or (val_from o model (number.0, field) id row) value.Nil
-    → cond (is_id o) (value.Int (pos id)) at ≡ result_unwrap_or (val_from o model (number.0, field) id row) value.Nil
-by_origin origin.Id model field number id row at e = refl
-by_origin origin.Plain model field number id row at e = e
-by_origin (origin.Computed formula) model field number id row at e = e
-by_origin (origin.Delegated delegation) model field number id row at e = e
+-- a value that was told was read
+pub told-some : (r : Result Value ReadFault) (t : Result (Option Value) Refusal) (v : Value) → IsToldOrMissing r t → t ≡ Ok (Some v) → r ≡ Ok v
+told-some (Ok w) t v is e = ap Ok (let both = sym is ∙ e in cc)
+told-some (Err read_fault.Missing) t v is e = absurd (let both = sym is ∙ e in cc)
+told-some (Err read_fault.Keeper) t v is e = absurd (let both = sym is ∙ e in cc)
+told-some (Err read_fault.NoMemory) t v is e = absurd (let both = sym is ∙ e in cc)
 
--- the value that is told of a field is its value from scratch
-same_value : (model : ModelNo) (info : ModelInfo) (number : FieldNo) (field : FieldInfo) (id : ℕ) (row : Row) (values : List Value) → numbered info.fields number.0 ≡ Some field → values ≡ values_of model info id row
-    → value_told field number id values ≡ val_or_unset model (number.0, field) id row
-same_value model info number field id row values there e =
-    by_origin field.origin model field number id row (get_or values (number.0 - 1) value.Nil)
-    (ap (λ (vs : List Value). get_or vs (number.0 - 1) value.Nil) e ∙ at_number (λ column. val_or_unset model column id row) info.fields number.0 field value.Nil there)
+module _ (models : List ModelInfo) (tables : Tables) (cell : Cell) (v : Value) where
+  -- at rest a cell has its value by the tables, computed or not
+  seen-in : (b : Bool) → val models (cond b tables tables) cell ≡ Ok v → val models tables cell ≡ Ok v
+  seen-in true e = e
+  seen-in false e = e
+
+  seen-at : (o : Option FieldInfo) → option_map (λ info. val models (seen_in (resting models tables) info) cell) o ≡ Some (Ok v) → val models tables cell ≡ Ok v
+  seen-at None e = absurd cc
+  seen-at (Some info) e = seen-in (is_computed_from info.origin) (same_Some (val models (seen_in (resting models tables) info) cell) (Ok v) e)
+
+  pub seen-rests : seen (resting models tables) cell ≡ Some (Ok v) → val models tables cell ≡ Ok v
+  seen-rests e = seen-at (field_at models cell.model cell.field) e
+
+settled-not-staged : phase.Settled ≡ phase.Staged → ⊥
+settled-not-staged e = cc
+
+-- what a read tells of a cell
+abbrev pub ReadsCell : Option Store → Holding → Cell → Value → Type 0
+ReadsCell kept held cell value = OfStages kept held (λ at. IsShown at cell → seen at cell ≡ Some (Ok value))
+
+-- the JSON of a value that was read is the cell's
+pub cell-told : (kept : Option Store) (held : Holding) (model : ModelNo) (field : FieldNo) (id : RecId) (r : Result Value ReadFault) (v : Value) (json : Json) → r ≡ Ok v
+    → IfOk r (ReadsCell kept held (record { model = model; id = id; field = field }))
+    → IsJsonOf v (view json) → (tables : Tables) → RestsAt kept held tables → TellsCell held.models tables model field id (Some json)
+cell-told kept held model field id r v json is read told tables rests =
+    let cell : Cell = record { model = model; id = id; field = field } in
+    let value : ReadsCell kept held cell v = subst (λ (q : Result Value ReadFault). IfOk q (ReadsCell kept held cell)) is read in
+    (v, seen-rests held.models tables cell v (value (resting held.models tables) rests (λ staged. absurd (settled-not-staged staged))), told)
 
 -- ---- the object so far
 
--- what tells of the fields that are left makes the object of the row
-pub record IsToldTo (model : ModelNo) (found : Option ModelInfo) (numbers : List FieldNo) (id : ℕ) (values : List Value) (i : ℕ) (members : Members) : Type 0 where
-  pub told : IfSome found (λ info. (row : Row) → values ≡ values_of model info id row → (d : Data) → TellsFields model id row (columns_at info (drop i numbers)) members d → TellsRow model (columns_at info numbers) id row d)
+-- what tells of the fields that are left makes the object of the row, by these tables
+abbrev pub ToldTo : List ModelInfo → Tables → Option ModelInfo → ModelNo → List FieldNo → RecId → ℕ → Members → Type 0
+ToldTo models tables found model numbers id i members =
+    IfSome found (λ info. (d : Data) → TellsFields models tables model id (columns_at info (drop i numbers)) members d → TellsRow models tables model (columns_at info numbers) id d)
+
+-- the engine is as it was; and the row is there, and is told so far, by the tables at which it rests
+pub record IsToldTo (kept : Option Store) (held : Holding) (now : Option Store) (new : Holding) (model : ModelNo) (numbers : List FieldNo) (id : RecId) (i : ℕ) (members : Members) : Type 0 where
+  pub told : (tables : Tables) → RestsAt kept held tables → ToldTo held.models tables (model_at held.models model) model numbers id i members
+  pub there : (tables : Tables) → RestsAt kept held tables → IsSome (row_at tables model id)
   pub plain : members_have_float members ≡ false
+  pub same : Stays kept held now new
 
 -- the field of the next number
-next_number : (info : ModelInfo) (numbers : List FieldNo) (i : ℕ) (number : FieldNo) (field : FieldInfo) → i < length numbers → number ≡ get_or numbers i number → numbered info.fields number.0 ≡ Some field
+next_number : (info : ModelInfo) (numbers : List FieldNo) (i : ℕ) (number : FieldNo) (field : FieldInfo) → i < length numbers → number ≡ get_or numbers i number → numbered (fields_of info) number.0 ≡ Some field
     → columns_at info (drop i numbers) ≡ (number.0, field) ∷ columns_at info (drop (i + 1) numbers)
 next_number info numbers i number field lt is there =
     ap (columns_at info) (drop_more numbers i number lt ∙ ap (λ (n : FieldNo). n ∷ drop (i + 1) numbers) (sym is))
     ∙ rw there refl
 
 -- one field more is told
-one_told : (model : ModelNo) (found : Option ModelInfo) (numbers : List FieldNo) (id : ℕ) (values : List Value) (i : ℕ) (old : Members) (own : Data) (number : FieldNo) (field : FieldInfo)
-    → i < length numbers → number ≡ get_or numbers i number → field_in found number ≡ Some field → IsJsonOf (value_told field number id values) own
-    → IfSome found (λ info. (row : Row) → values ≡ values_of model info id row → (d : Data) → TellsFields model id row (columns_at info (drop i numbers)) old d → TellsRow model (columns_at info numbers) id row d)
-    → IfSome found (λ info. (row : Row) → values ≡ values_of model info id row → (d : Data) → TellsFields model id row (columns_at info (drop (i + 1) numbers)) (put field.name own old) d → TellsRow model
-    (columns_at info numbers) id row d)
-one_told model None numbers id values i old own number field lt is there told so_far = absurd cc
-one_told model (Some info) numbers id values i old own number field lt is there told so_far = λ row e d more.
-    so_far row e d (subst (λ (cs : List Column). TellsFields model id row cs old d) (sym (next_number info numbers i number field lt is there))
-    (own, subst (λ (v : Value). IsJsonOf v own) (same_value model info number field id row values there e) told, more))
+one_told : (models : List ModelInfo) (tables : Tables) (found : Option ModelInfo) (model : ModelNo) (numbers : List FieldNo) (id : RecId) (i : ℕ) (old : Members) (json : Json) (number : FieldNo) (field : FieldInfo)
+    → i < length numbers → number ≡ get_or numbers i number → option_and_then (λ info. numbered (fields_of info) number.0) found ≡ Some field → TellsCell models tables model number id (Some json)
+    → ToldTo models tables found model numbers id i old → ToldTo models tables found model numbers id (i + 1) (put field.name (view json) old)
+one_told models tables None model numbers id i old json number field lt is there cell so_far = tt
+one_told models tables (Some info) model numbers id i old json number field lt is there cell so_far = λ d more.
+    so_far d (subst (λ (cs : List Column). TellsFields models tables model id cs old d) (sym (next_number info numbers i number field lt is there)) (cell.0, cell.1, view json, cell.2, more))
 
 -- one field more is put into the object
-pub IsToldTo-more : (model : ModelNo) (found : Option ModelInfo) (numbers : List FieldNo) (id : ℕ) (values : List Value) (i : ℕ) (old new : List Entry) (key : String Global) (own : Json) (number : FieldNo) (field : FieldInfo)
-    → i < length numbers → number ≡ get_or numbers i number → field_in found number ≡ Some field → new ≡ insert_entry string_cmp old key own → string_bytes key ≡ field.name
-    → IfSome (field_in found number) (λ f. IsJsonOf (value_told f number id values) (view own))
-    → IsToldTo model found numbers id values i (members_view old) → IsToldTo model found numbers id values (i + 1) (members_view new)
-IsToldTo-more model found numbers id values i old new key own number field lt is there made named given so_far =
-    let told : IsJsonOf (value_told field number id values) (view own) = rw there at given in
-    let next : members_view new ≡ put field.name (view own) (members_view old) =
-    ap members_view made ∙ members_view-insert_entry old key own ∙ ap (λ (k : List ℕ). put k (view own) (members_view old)) named in
-    rw next (record {
-      told = one_told model found numbers id values i (members_view old) (view own) number field lt is there told so_far.told;
-      plain = put_plain field.name (view own) (members_view old) (value_plain (value_told field number id values) (view own) told) so_far.plain;
+pub IsToldTo-more : (kept : Option Store) (held : Holding) (now : Option Store) (new : Holding) (after : Option Store) (next : Holding) (model : ModelNo) (numbers : List FieldNo) (id : RecId) (i : ℕ) (old members : Members)
+    (json : Json) (number : FieldNo)
+    (field : FieldInfo) → i < length numbers → number ≡ get_or numbers i number → field_at next.models model number ≡ Some field → Stays now new after next
+    → ((tables : Tables) → RestsAt now new tables → TellsCell new.models tables model number id (Some json)) → has_float (view json) ≡ false → members ≡ put field.name (view json) old
+    → IsToldTo kept held now new model numbers id i old → IsToldTo kept held after next model numbers id (i + 1) members
+IsToldTo-more kept held now new after next model numbers id i old grown json number field lt is there stays cell plain made so_far =
+    let same = stays-then kept now after held new next so_far.same stays in
+    let field_is : field_at held.models model number ≡ Some field = subst (λ (models : List ModelInfo). field_at models model number ≡ Some field) same.models there in
+    rw made (record {
+      told = λ tables rests. one_told held.models tables (model_at held.models model) model numbers id i old json number field lt is field_is
+          (subst (λ (models : List ModelInfo). TellsCell models tables model number id (Some json)) so_far.same.models (cell tables (stays-rests kept now held new so_far.same tables rests))) (so_far.told tables rests);
+      there = so_far.there;
+      plain = put_plain field.name (view json) old plain so_far.plain;
+      same = same;
     })
 
 -- all fields are told
-pub IsToldTo-all : (model : ModelNo) (found : Option ModelInfo) (numbers : List FieldNo) (id : ℕ) (values : List Value) (i : ℕ) (told : Members) (d : Data) → length numbers ≤ i → d ≡ object told
-    → IsToldTo model found numbers id values i told
-    → IfSome found (λ info. (row : Row) → values ≡ values_of model info id row → TellsRow model (columns_at info numbers) id row d)
-IsToldTo-all model None numbers id values i told d le is so_far = tt
-IsToldTo-all model (Some info) numbers id values i told d le is so_far = λ row e.
-    so_far.told row e d (subst (λ (ns : List FieldNo). TellsFields model id row (columns_at info ns) told d) (sym (drop_all i numbers le)) is)
+pub IsToldTo-all : (kept : Option Store) (held : Holding) (now : Option Store) (new : Holding) (model : ModelNo) (numbers : List FieldNo) (id : RecId) (i : ℕ) (members : Members) (json : Json) → length numbers ≤ i
+    → view json ≡ object members
+    → IsToldTo kept held now new model numbers id i members
+    → (tables : Tables) → RestsAt kept held tables → IfSome (model_at held.models model) (λ info. TellsOrMisses held.models tables model (columns_at info numbers) id (Some json))
+IsToldTo-all kept held now new model numbers id i members json le is so_far tables rests = by (model_at held.models model) (so_far.told tables rests)
+  where
+    by : (found : Option ModelInfo) → ToldTo held.models tables found model numbers id i members → IfSome found (λ info. TellsOrMisses held.models tables model (columns_at info numbers) id (Some json))
+    by None told = tt
+    by (Some info) told =
+        (so_far.there tables rests, told (view json) (subst (λ (ns : List FieldNo). TellsFields held.models tables model id (columns_at info ns) members (view json)) (sym (drop_all i numbers le)) is))

@@ -1,14 +1,10 @@
 -- The machine's `create`: one row of given values, under the model's next id.
-use Rattle.std.specs.Prelude.{◌≡◌, ℕ, ◌<◌, ℤ, List, [], ◌∷◌, ◌++◌, codes, bytes_eq, if◌then◌else◌, Bool, true, ◌||◌, Option, Some, None, Result, Ok, Err, Contains, ◌⊎◌, unwrap_or}
+use Rattle.std.specs.Prelude.{◌≡◌, ℕ, ℤ, List, [], ◌∷◌, ◌++◌, codes, bytes_eq, if◌then◌else◌, Bool, true, ◌||◌, Option, Some, None, Result, Ok, Err, unwrap_or}
 use Rattle.ob_base.specs.Chain.{◌>>=◌}
-use Rattle.ob_base.specs.Limits.{max_id}
-use Rattle.ob_base.specs.declared.id.Cell.{Cell}
+use Rattle.ob_base.specs.declared.id.FieldNo.{FieldNo}
 use Rattle.ob_base.specs.declared.id.ModelNo.{ModelNo}
 use Rattle.ob_base.specs.declared.place.PathStep.{PathStep}
 use Rattle.ob_base.specs.declared.place.PathStep.TheVariants.{Key}
-use Rattle.ob_base.specs.declared.refusal.Broken.{Broken}
-use Rattle.ob_base.specs.declared.refusal.BrokenKind.{BrokenKind}
-use Rattle.ob_base.specs.declared.refusal.BrokenKind.TheVariants as broken
 use Rattle.ob_base.specs.declared.refusal.Refusal.{Refusal}
 use Rattle.ob_base.specs.declared.refusal.Refusal.TheVariants as refusal
 use Rattle.ob_base.specs.declared.value.Value.{Value}
@@ -16,15 +12,17 @@ use Rattle.ob_base.specs.declared.value.Value.TheVariants as value
 use Rattle.ob_codec.specs.JsonForm.{value_from, empty_value}
 use Rattle.ob_codec.specs.declared.fault.CodecFault.{CodecFault}
 use Rattle.ob_codec.specs.declared.fault.CodecFault.TheVariants as codec
-use Rattle.ob_schema.specs.Fields.{Column, columns, plain_columns}
+use Rattle.ob_schema.specs.Fields.{Column, plain_columns}
+use Rattle.ob_schema.specs.Broken.{IsBroken, Sound}
+use Rattle.ob_schema.specs.Tables.{Tables, next_of}
 use Rattle.ob_schema.specs.declared.info.FieldInfo.{FieldInfo}
 use Rattle.ob_schema.specs.declared.info.ModelInfo.{ModelInfo}
+use Rattle.ob_tables.specs.After.{after}
+use Rattle.ob_tables.specs.declared.edit.Edit.TheVariants as edit
 use Rattle.serde_json.specs.Data.{unsigned, Data, number, object, Members, no_members}
 use Rattle.serde_json.specs.Find.{get_member}
 use Rattle.ob_call.specs.Arguments.{Expected, Given, arguments_of}
 use Rattle.ob_orm.specs.Values.{values_fault}
-use Rattle.ob_orm.specs.Tables.{Row, Tables, next_id, made}
-use Rattle.ob_orm.specs.Scratch.{IsBrokenAs, val}
 
 -- what a create is called with: an object of values
 abbrev pub create_expects : List FieldInfo → List Expected
@@ -56,60 +54,46 @@ abbrev pub new_value : ℤ → List PathStep → Members → FieldInfo → Resul
 new_value now place members field = if is_stamp field.name then Ok (value.Moment now) else given_value (place ++ Key field.name ∷ []) field (get_member field.name members)
 
 -- the plain values of a new row in these fields, or the first place that is wrong, in byte order of the fields' names
-abbrev pub new_row : ℤ → List PathStep → Members → List Column → Result Row (List PathStep)
+abbrev pub new_row : ℤ → List PathStep → Members → List Column → Result (List (FieldNo × Value)) (List PathStep)
 new_row now place _ [] = Ok []
-new_row now place members (column ∷ more) = new_value now place members column.1 >>= λ own. new_row now place members more >>= λ row. Ok ((column.0, own) ∷ row)
+new_row now place members (column ∷ more) =
+    new_value now place members column.1 >>= λ own. new_row now place members more >>= λ row. Ok ((record { 0 = column.0 }, own) ∷ row)
 
 -- the members of an object; nothing else has any
 abbrev pub members_of : Data → Members
 members_of (object members) = members
 members_of _ = no_members
 
--- the row of the one argument
-abbrev pub row_from : ModelInfo → ℤ → List (Option Given) → Result Row (List PathStep)
+-- the values of the one argument
+abbrev pub row_from : ModelInfo → ℤ → List (Option Given) → Result (List (FieldNo × Value)) (List PathStep)
 row_from info now (Some g ∷ gs) = new_row now g.place (members_of g.json) (plain_columns info)
 row_from info now _ = Ok []
 
--- the row that a create makes at a moment, or the first place that is wrong: of the arguments, then of the values
-abbrev pub created_row : ModelInfo → ℤ → (args kw : Data) → Result Row (List PathStep)
+-- the values of the row that a create makes at a moment, or the first place that is wrong: of the arguments, then of the values
+abbrev pub created_row : ModelInfo → ℤ → (args kw : Data) → Result (List (FieldNo × Value)) (List PathStep)
 created_row info now args kw = arguments_of (create_expects info.fields) args kw >>= row_from info now
 
--- a field of the row
-abbrev pub cell_of : ModelNo → ℕ → ℕ → Cell
-cell_of model id field = record { model = model; id = record { 0 = id }; field = record { 0 = field } }
+-- the tables with a row of these values under the model's next id, whatever they break
+abbrev pub made : List ModelInfo → ModelNo → Tables → List (FieldNo × Value) → Tables
+made models model old values = after models old (edit.Make model (record { 0 = next_of old model }) values ∷ [])
 
--- a field of the row has no value, and is broken so
-pub record HasFault (model : ModelNo) (info : ModelInfo) (id : ℕ) (row : Row) (column : Column) (kind : BrokenKind) : Type 0 where
-  pub column_of : Contains (columns info) column
-  pub faults : IsBrokenAs kind (val model column id row)
-
--- the field `id` of the model
-pub record IsIdColumn (info : ModelInfo) (column : Column) : Type 0 where
-  pub column_of : Contains (columns info) column
-  pub named : column.1.name ≡ codes "id"
-
--- What the row would break under this id: the id is past its limit, or a field has no value.
-abbrev pub Breaks : ModelNo → ModelInfo → ℕ → Row → Broken → Type 0
-Breaks model info id row b =
-    ((max_id < id) × (column : Column) × IsIdColumn info column × (b ≡ record { kind = broken.Limit; cell = cell_of model id column.0 }))
-    ⊎ ((column : Column) × HasFault model info id row column b.kind × (b.cell ≡ cell_of model id column.0))
-
--- why a create at this moment is refused where the model's next id is this
-abbrev pub CreateRefuses : ModelNo → ModelInfo → ℤ → ℕ → (args kw : Data) → Refusal → Type 0
-CreateRefuses model info now next args kw (refusal.Request place) = created_row info now args kw ≡ Err place
-CreateRefuses model info now next args kw (refusal.Constraint b) = (row : Row) × (created_row info now args kw ≡ Ok row) × Breaks model info next row b
-CreateRefuses model info now next args kw _ = ⊥
+-- why a create at this moment is refused: what is malformed, or something that the tables with its row break
+abbrev pub CreateRefuses : List ModelInfo → ModelNo → ModelInfo → ℤ → Tables → (args kw : Data) → Refusal → Type 0
+CreateRefuses models model info now old args kw (refusal.Request place) = created_row info now args kw ≡ Err place
+CreateRefuses models model info now old args kw (refusal.Constraint b) =
+    (values : List (FieldNo × Value)) × (created_row info now args kw ≡ Ok values) × IsBroken models (made models model old values) b
+CreateRefuses models model info now old args kw _ = ⊥
 
 -- a create that is carried out: nothing is broken, and the row stands under the next id, which is the answer
-pub record IsCreated (model : ModelNo) (info : ModelInfo) (now : ℤ) (old : Tables) (args kw json : Data) (new : Tables) : Type 0 where
-  pub row : Row
-  pub given : created_row info now args kw ≡ Ok row
-  pub whole : (b : Broken) → Breaks model info (next_id old model) row b → ⊥
-  pub answer : json ≡ number (unsigned (next_id old model))
-  pub tables : new ≡ made model row old
+pub record IsCreated (models : List ModelInfo) (model : ModelNo) (info : ModelInfo) (now : ℤ) (old : Tables) (args kw json : Data) (new : Tables) : Type 0 where
+  pub values : List (FieldNo × Value)
+  pub given : created_row info now args kw ≡ Ok values
+  pub tables : new ≡ made models model old values
+  pub sound : Sound models new
+  pub answer : json ≡ number (unsigned (next_of old model))
 
 -- The machine may answer a create so, and go on to these tables: with the new id where
 -- nothing is wrong, else with what is, changing nothing.
-abbrev pub Creates : ModelNo → ModelInfo → ℤ → Tables → (args kw : Data) → Result Data Refusal → Tables → Type 0
-Creates model info now old args kw (Ok json) new = IsCreated model info now old args kw json new
-Creates model info now old args kw (Err why) new = CreateRefuses model info now (next_id old model) args kw why × (new ≡ old)
+abbrev pub Creates : List ModelInfo → ModelNo → ModelInfo → ℤ → Tables → (args kw : Data) → Result Data Refusal → Tables → Type 0
+Creates models model info now old args kw (Ok json) new = IsCreated models model info now old args kw json new
+Creates models model info now old args kw (Err why) new = CreateRefuses models model info now old args kw why × (new ≡ old)

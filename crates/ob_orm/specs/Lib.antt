@@ -1,7 +1,3 @@
-pub mod Tables
-pub mod Scratch
-pub mod Sound
-pub mod Kept
 pub mod Served
 pub mod Values
 pub mod Create
@@ -9,7 +5,6 @@ pub mod Read
 pub mod RefusalText
 pub mod Answer
 pub mod Faults
-pub mod Evaluations
 pub mod ReadForm
 pub mod ReadParts
 pub mod ReadRows

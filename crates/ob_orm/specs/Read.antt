@@ -1,14 +1,18 @@
 -- The machine's `read`: the named fields of the named rows.
-use Rattle.std.specs.Prelude.{◌≡◌, ℕ, ◌≤◌, ◌==◌, List, [], ◌∷◌, filter, not, codes, Bool, true, false, Option, Some, None, Result, Ok, Err, Contains, All, ⊤}
+use Rattle.std.specs.Prelude.{◌≡◌, ℕ, ◌≤◌, ◌==◌, List, [], ◌∷◌, filter, not, codes, Bool, true, false, Option, Some, None, Result, Ok, Err, Contains, All, IsSome, ⊤}
 use Rattle.std.specs.List.{filter_map, list_any}
 use Rattle.std.specs.Option.{option_map_or}
 use Rattle.ob_base.specs.Chain.{◌>>=◌}
 use Rattle.ob_base.specs.declared.id.ModelNo.{ModelNo}
+use Rattle.ob_base.specs.declared.id.RecId.{RecId}
+use Rattle.ob_base.specs.declared.value.Value.{Value}
 use Rattle.ob_base.specs.declared.place.PathStep.{PathStep}
 use Rattle.ob_base.specs.declared.refusal.Refusal.{Refusal}
 use Rattle.ob_base.specs.declared.refusal.Refusal.TheVariants as refusal
 use Rattle.ob_codec.specs.JsonForm.{IsJsonOf}
 use Rattle.ob_schema.specs.Fields.{Column, columns}
+use Rattle.ob_schema.specs.Tables.{Tables, row_at}
+use Rattle.ob_schema.specs.Val.{val}
 use Rattle.ob_schema.specs.declared.info.FieldInfo.{FieldInfo}
 use Rattle.ob_schema.specs.declared.info.ModelInfo.{ModelInfo}
 use Rattle.serde_json.specs.Data.{unsigned, Data, number, array, object, Members, no_members, put}
@@ -16,8 +20,6 @@ use Rattle.serde_json.specs.View.{items_of}
 use Rattle.ob_call.specs.Arguments.{Expected, Given, arguments_of}
 use Rattle.ob_call.specs.Forms.{id_from, ids_fault, names_fault, number_from}
 use Rattle.ob_codec.specs.Commands.{listed}
-use Rattle.ob_orm.specs.Tables.{Row, Tables, row_of}
-use Rattle.ob_orm.specs.Scratch.{val_or_unset}
 
 -- what a read is called with: ids, fields, and a way of loading that is not read
 abbrev pub read_expects : List FieldInfo → List Expected
@@ -73,25 +75,27 @@ abbrev pub asked_of : ModelInfo → (args kw : Data) → Result Asked (List Path
 asked_of info args kw = arguments_of (read_expects info.fields) args kw >>= λ given. Ok (asked_by info given)
 
 -- the object so far has what tells of these fields of a row, and becomes this object
-abbrev pub TellsFields : ModelNo → ℕ → Row → List Column → Members → Data → Type 0
-TellsFields model id row [] members d = d ≡ object members
-TellsFields model id row (column ∷ more) members d = (own : Data) × IsJsonOf (val_or_unset model column id row) own × TellsFields model id row more (put column.1.name own members) d
+abbrev pub TellsFields : List ModelInfo → Tables → ModelNo → RecId → List Column → Members → Data → Type 0
+TellsFields models tables model id [] members d = d ≡ object members
+TellsFields models tables model id (column ∷ more) members d =
+    (v : Value) × (val models tables (record { model = model; id = id; field = record { 0 = column.0 } }) ≡ Ok v) × (own : Data) × IsJsonOf v own × TellsFields models tables model id more (put column.1.name own members) d
 
--- the object that tells of a row: its id and these fields
-abbrev pub TellsRow : ModelNo → List Column → ℕ → Row → Data → Type 0
-TellsRow model fields id row d = TellsFields model id row fields (put (codes "id") (number (unsigned id)) no_members) d
+-- the object that tells of a row: its id and these fields, each from scratch
+abbrev pub TellsRow : List ModelInfo → Tables → ModelNo → List Column → RecId → Data → Type 0
+TellsRow models tables model fields id d = TellsFields models tables model id fields (put (codes "id") (number (unsigned id.0)) no_members) d
 
 -- each id has a row, and an object that tells of it, in the order of the ids
-abbrev pub TellsRows : ModelNo → Tables → List Column → List ℕ → List Data → Type 0
-TellsRows model tables fields [] [] = ⊤
-TellsRows model tables fields (id ∷ ids) (d ∷ ds) = (row : Row) × (row_of tables model id ≡ Some row) × TellsRow model fields id row d × TellsRows model tables fields ids ds
-TellsRows model tables fields _ _ = ⊥
+abbrev pub TellsRows : List ModelInfo → Tables → ModelNo → List Column → List ℕ → List Data → Type 0
+TellsRows models tables model fields [] [] = ⊤
+TellsRows models tables model fields (id ∷ ids) (d ∷ ds) =
+    IsSome (row_at tables model (record { 0 = id })) × TellsRow models tables model fields (record { 0 = id }) d × TellsRows models tables model fields ids ds
+TellsRows models tables model fields _ _ = ⊥
 
 -- the least of the ids that no row has
 pub record IsLeastMissing (model : ModelNo) (tables : Tables) (ids : List ℕ) (id : ℕ) : Type 0 where
   pub asked : Contains ids id
-  pub missing : row_of tables model id ≡ None
-  pub least : All (λ other. row_of tables model other ≡ None → id ≤ other) ids
+  pub missing : row_at tables model (record { 0 = id }) ≡ None
+  pub least : All (λ other. row_at tables model (record { 0 = other }) ≡ None → id ≤ other) ids
 
 -- why a read is refused
 abbrev pub ReadRefuses : ModelNo → ModelInfo → Tables → (args kw : Data) → Refusal → Type 0
@@ -101,6 +105,7 @@ ReadRefuses model info tables args kw _ = ⊥
 
 -- The machine answers a read with the objects of the rows, in the order of their ids,
 -- or with why not.
-abbrev pub Reads : ModelNo → ModelInfo → Tables → (args kw : Data) → Result Data Refusal → Type 0
-Reads model info tables args kw (Ok json) = (asked : Asked) × (objects : List Data) × (asked_of info args kw ≡ Ok asked) × TellsRows model tables asked.fields asked.ids objects × (json ≡ array (items_of objects))
-Reads model info tables args kw (Err why) = ReadRefuses model info tables args kw why
+abbrev pub Reads : List ModelInfo → ModelNo → ModelInfo → Tables → (args kw : Data) → Result Data Refusal → Type 0
+Reads models model info tables args kw (Ok json) =
+    (asked : Asked) × (objects : List Data) × (asked_of info args kw ≡ Ok asked) × TellsRows models tables model asked.fields asked.ids objects × (json ≡ array (items_of objects))
+Reads models model info tables args kw (Err why) = ReadRefuses model info tables args kw why

@@ -1,14 +1,24 @@
 -- What the parts of a read give.
-use Rattle.std.specs.Prelude.{◌≡◌, ℕ, ◌+◌, ◌-◌, ◌||◌, pos, List, [], ◌∷◌, Bool, false, option_map, drop, slice_index_or, if◌then◌else◌, ⊤}
+use Rattle.std.specs.Prelude.{◌≡◌, ℕ, ◌+◌, ◌||◌, List, [], ◌∷◌, Bool, IsSome, Option, Some, None, Result, Ok, Err, option_map, if◌then◌else◌}
 use Rattle.std.specs.List.{filter_map}
 use Rattle.ob_base.specs.declared.id.FieldNo.{FieldNo}
+use Rattle.ob_base.specs.declared.id.ModelNo.{ModelNo}
+use Rattle.ob_base.specs.declared.id.RecId.{RecId}
+use Rattle.ob_base.specs.declared.refusal.Refusal.{Refusal}
+use Rattle.ob_base.specs.declared.refusal.Refusal.TheVariants as refusal
 use Rattle.ob_base.specs.declared.value.Value.{Value}
-use Rattle.ob_base.specs.declared.value.Value.TheVariants as value
-use Rattle.ob_schema.specs.Fields.{Column, Holds}
+use Rattle.ob_cache.specs.declared.fault.ReadFault.{ReadFault}
+use Rattle.ob_cache.specs.declared.fault.ReadFault.TheVariants as read_fault
+use Rattle.ob_codec.specs.JsonForm.{IsJsonOf}
+use Rattle.ob_orm.specs.Read.{TellsRow}
 use Rattle.ob_schema.specs.Built.{numbered}
-use Rattle.ob_schema.specs.declared.info.FieldInfo.{FieldInfo}
+use Rattle.ob_schema.specs.Fields.{Column}
+use Rattle.ob_schema.specs.Models.{fields_of}
+use Rattle.ob_schema.specs.Tables.{Tables, row_at}
+use Rattle.ob_schema.specs.Val.{val}
 use Rattle.ob_schema.specs.declared.info.ModelInfo.{ModelInfo}
-use Rattle.ob_orm.specs.Served.{is_id}
+use Rattle.serde_json.specs.View.{view}
+use Rattle.serde_json.specs.declared.value.Value.{Value as Json}
 
 -- the numbers of the flags that are set, or of all, the first one at this number
 abbrev pub flagged : Bool → ℕ → List Bool → List ℕ
@@ -17,19 +27,21 @@ flagged all n (flag ∷ flags) = if flag || all then n ∷ flagged all (n + 1) f
 
 -- the fields of these numbers
 abbrev pub columns_at : ModelInfo → List FieldNo → List Column
-columns_at info numbers = filter_map (λ number. option_map (λ field. (number.0, field)) (numbered info.fields number.0)) numbers
+columns_at info numbers = filter_map (λ number. option_map (λ field. (number.0, field)) (numbered (fields_of info) number.0)) numbers
 
--- the values of fields in their order: the row's id, and the kept ones
-abbrev pub spread : List FieldInfo → ℕ → List Value → List Value
-spread [] id kept = []
-spread (field ∷ fields) id kept = if is_id field.origin then value.Int (pos id) ∷ spread fields id kept else slice_index_or kept 0 value.Nil ∷ spread fields id (drop 1 kept)
+-- the JSON of a cell of a row that is there; none where it isn't
+abbrev pub TellsCell : List ModelInfo → Tables → ModelNo → FieldNo → RecId → Option Json → Type 0
+TellsCell models tables model field id (Some json) = (v : Value) × (val models tables (record { model = model; id = id; field = field }) ≡ Ok v) × IsJsonOf v (view json)
+TellsCell models tables model field id None = row_at tables model id ≡ None
 
--- one value for each field, in their order, that the field may hold; the id's stands for itself
-abbrev pub HaveAll : List FieldInfo → List Value → Type 0
-HaveAll [] [] = ⊤
-HaveAll (field ∷ fields) (v ∷ values) = (is_id field.origin ≡ false → Holds field v) × HaveAll fields values
-HaveAll _ _ = ⊥
+-- the object that tells of a row that is there; none where it isn't
+abbrev pub TellsOrMisses : List ModelInfo → Tables → ModelNo → List Column → RecId → Option Json → Type 0
+TellsOrMisses models tables model fields id (Some json) = IsSome (row_at tables model id) × TellsRow models tables model fields id (view json)
+TellsOrMisses models tables model fields id None = row_at tables model id ≡ None
 
--- the value of a field: the row's id, or what stands at the field's number
-abbrev pub value_told : FieldInfo → FieldNo → ℕ → List Value → Value
-value_told field number id values = if is_id field.origin then value.Int (pos id) else slice_index_or values (number.0 - 1) value.Nil
+-- what a read of a cell gave, told apart
+abbrev pub IsToldOrMissing : Result Value ReadFault → Result (Option Value) Refusal → Type 0
+IsToldOrMissing (Ok v) told = told ≡ Ok (Some v)
+IsToldOrMissing (Err read_fault.Missing) told = told ≡ Ok None
+IsToldOrMissing (Err read_fault.Keeper) told = told ≡ Err refusal.Keeper
+IsToldOrMissing (Err read_fault.NoMemory) told = told ≡ Err refusal.NoMemory

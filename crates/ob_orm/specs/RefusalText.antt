@@ -1,6 +1,7 @@
--- How a refusal is told: a name, and a message.
+-- How a refusal is told, by a name and a message; and how a cell is named.
 use Rattle.std.specs.Prelude.{ℕ, List, [], ◌++◌, codes, decimal, Option, Some, None}
 use Rattle.std.specs.Option.{option_map_or}
+use Rattle.ob_base.specs.declared.id.Cell.{Cell}
 use Rattle.ob_base.specs.declared.id.FieldNo.{FieldNo}
 use Rattle.ob_base.specs.declared.id.ModelNo.{ModelNo}
 use Rattle.ob_base.specs.declared.id.RecId.{RecId}
@@ -22,6 +23,10 @@ field_name models model field = option_map_or (λ info. info.name) (field_at mod
 -- a row, as messages name it
 abbrev pub row_text : List ModelInfo → ModelNo → RecId → List ℕ
 row_text models model id = model_name models model ++ codes " " ++ decimal id.0
+
+-- a cell, as it is named
+abbrev pub cell_text : List ModelInfo → Cell → List ℕ
+cell_text models cell = row_text models cell.model cell.id ++ codes " " ++ field_name models cell.model cell.field
 
 -- the name of a refusal
 abbrev pub refusal_name : Refusal → List ℕ
@@ -46,6 +51,6 @@ refusal_message models (refusal.Right m op) = codes "no right " ++ op_name op ++
 refusal_message models (refusal.FieldRight m field) = codes "no right on " ++ model_name models m ++ codes "." ++ field_name models m field
 refusal_message models (refusal.Missing m id) = row_text models m id ++ codes " does not exist"
 refusal_message models (refusal.Rule m op id name) = row_text models m id ++ codes " is not admitted" ++ denial name (op_name op)
-refusal_message models (refusal.Constraint b) = row_text models b.cell.model b.cell.id ++ codes " " ++ field_name models b.cell.model b.cell.field
+refusal_message models (refusal.Constraint b) = cell_text models b.cell
 refusal_message models refusal.Keeper = codes "keeper fault"
 refusal_message models refusal.NoMemory = codes "no memory"

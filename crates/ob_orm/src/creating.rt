@@ -1,85 +1,75 @@
 //! `create`: one row under the model's next id.
 
-ghost use Rattle.std.specs.Prelude.{◌≡◌, ◌≤◌, ℕ, false, All, IfOk, IfErr, IfSome, OnOk, Option, option_map};
+ghost use Rattle.std.specs.Prelude.{◌≡◌, ◌≤◌, ◌∷◌, [], ℕ, false, IfErr, IfOk, IfSome, IsSomeAnd, OnErr, OnOk, true};
 ghost use Rattle.serde_json.specs.View.{view};
 ghost use Rattle.serde_json.specs.Written.{has_float};
 ghost use Rattle.ob_base.specs.Limits.{max_id};
 ghost use Rattle.ob_base.specs.Tally.{ticked_times};
 ghost use Rattle.ob_base.specs.Times.{IsMoment};
+ghost use Rattle.ob_cache.specs.Stages.{resting, settled_of, with_edits};
+ghost use Rattle.ob_cache.specs.Standing.{IsAtRest, NextIdsUpTo, OfStages, RestsAt, Stands, max_next_id};
+ghost use Rattle.ob_cache.specs.declared.stages.Phase.TheVariants as phase;
 ghost use Rattle.ob_io.specs.Cause.{Rose};
-ghost use Rattle.ob_io.specs.Store.{IsChangeFit, Store, all_changed};
-ghost use Rattle.ob_codec.specs.RowForm.{HoldAll};
-ghost use Rattle.ob_schema.specs.Fields.{Column};
-ghost use Rattle.ob_schema.specs.Models.{HasModel, IsModel, kept_at, model_at};
-ghost use Rattle.ob_orm.specs.Answer.{CreateAnswers, CreateCause, Refuses, called_by};
-ghost use Rattle.ob_orm.specs.Create.{IsIdColumn, cell_of};
-ghost use Rattle.ob_orm.specs.CreateSteps.{changes_of};
-ghost use Rattle.ob_orm.specs.Evaluations.{HasTicked, computed_count};
-ghost use Rattle.ob_orm.specs.Kept.{Kept, OthersStay};
+ghost use Rattle.ob_schema.specs.Models.{HasModel, field_at, is_id_from, model_at};
+ghost use Rattle.ob_schema.specs.Tables.{Tables};
+ghost use Rattle.ob_orm.specs.Answer.{CreateAnswers, CreateCause, Refuses, called_by, result_view};
+ghost use Rattle.ob_orm.specs.CreateSteps.{BreaksField, IsBrokenBy, KeepsTables};
 ghost use Rattle.ob_orm.specs.Served.{IsServed};
-ghost use Rattle.ob_orm.specs.Sound.{IsSound};
-ghost use Rattle.ob_orm.specs.Tables.{Tables};
+ghost use Rattle.ob_tables.specs.After.{after};
+ghost use Rattle.ob_tables.specs.Fitting.{IsFitEdit};
+ghost use Rattle.ob_tables.specs.declared.edit.Edit.TheVariants as edit;
 
-use crate::evaluating::kept_values;
-use crate::fault::keeper_refusal;
+use crate::fault::{keeper_refusal, settle_refusal};
 use crate::new_row::plain_values;
 use crate::values::Values;
 use ob_base::limits::MAX_ID;
 use ob_base::{
-    Broken, BrokenKind, Cell, Ledger, ModelNo, NoMemory, RecId, Refusal, Sequence, Steps, Value,
+    Broken, BrokenKind, Cell, FieldNo, Ledger, ModelNo, RecId, Refusal, Sequence, Steps, Value,
 };
+use ob_cache::Engine;
 use ob_call::{Call, Json, Parameter, arguments_of};
-use ob_codec::row_bytes;
-use ob_io::{Change, Keeper, KeptRow};
+use ob_io::Keeper;
 use ob_schema::Schema;
+use ob_tables::Edit;
 use std::alloc::Global;
 
-/// The answer of a create, and the changes that carry it out once they are committed.
-#[derive(Drop)]
-pub struct Created {
-    pub json: Json,
-    pub changes: Sequence<Change>,
-}
-
 /// Makes one row of the values that the object gives, at the call's moment; a field that
-/// isn't given has its default, else it is unset, false or 0. Answers the row's id, and
-/// changes nothing yet: the changes are the caller's to commit. Refused are arguments of
-/// another form, at their place; an id past its limit; and values over which a computed
-/// field has none. The caller sees to it that the model serves calls, and that the moment
-/// lies within the years 0001 to 9999.
+/// isn't given has its default, else it is unset, false or 0. Answers the row's id; the
+/// engine is then settled with the row, and not flushed. Refused are arguments of another
+/// form, at their place, and what the tables with the row break: then the engine rests as it
+/// did. The caller sees to it that the model serves calls, that the engine rests, and that the
+/// moment lies within the years 0001 to 9999.
 pub fn create<K: Keeper, L: Ledger>(
     alloc: Global,
-    keeper: &mut K,
-    schema: &Schema,
+    engine: &mut Engine<'_, K>,
     call: &Call<'_>,
     steps: &mut Steps<L>,
-) -> Result<Created, Refusal>
-    requires model { HasModel schema.now call.now.model }
-    requires served { IfSome (model_at schema.now call.now.model) IsServed }
+) -> Result<Json, Refusal>
+    requires model { HasModel engine.old.held.models call.now.model }
+    requires served { IfSome (model_at engine.old.held.models call.now.model) IsServed }
     requires moment { IsMoment call.now.now }
+    requires rest { IsAtRest engine.old.held.models engine.old.held }
 
     // Over a keeper that tells its rows it is the machine's create.
-    ensures answer { IfSome (K.kept keeper.old) (λ store. (tables : Tables) → Kept schema.now store tables → IsSound schema.now tables
-        → IfSome (model_at schema.now call.entry.now.model) (λ info. CreateAnswers schema.now store tables (called_by call.entry.now info) (Rose (K.faults keeper.old) (K.faults keeper.new)) result)) }
+    ensures answer { (tables : Tables) → RestsAt (K.kept engine.old.keeper.now) engine.old.held tables
+        → IfSome (model_at engine.old.held.models call.entry.now.model) (λ info. CreateAnswers (K.kept engine.new.keeper.now) engine.new.held tables (called_by call.entry.now info)
+        (Rose (K.faults engine.old.keeper.now) (K.faults engine.new.keeper.now)) (result_view result)) }
 
-    // Over any keeper each refusal has its cause.
-    ensures causes { IfErr result (Refuses (Rose (K.faults keeper.old) (K.faults keeper.new))
-        (λ why. IfSome (model_at schema.now call.entry.now.model) (λ info. (next : ℕ) × CreateCause (called_by call.entry.now info) next why))) }
-    ensures fits { IfOk result (λ created. All IsChangeFit created.changes) }
-    ensures plain { IfOk result (λ created. has_float (view created.json) ≡ false) }
-
-    // Its changes are of the one model.
-    ensures others { IfOk result (λ created. (before : Option Store)
-        → OthersStay call.entry.now.model before (option_map (all_changed created.changes) before)) }
+    // Over any keeper each refusal has its cause, and the engine can go on.
+    ensures causes { IfErr result (Refuses (Rose (K.faults engine.old.keeper.now) (K.faults engine.new.keeper.now))
+        (λ why. IfSome (model_at engine.old.held.models call.entry.now.model) (λ info. CreateCause engine.old.held.models (called_by call.entry.now info) why))) }
+    ensures models { engine.new.held.models ≡ engine.old.held.models }
+    ensures phase { engine.new.held.phase ≡ phase.Settled }
+    ensures next_ids { NextIdsUpTo max_next_id engine.new.held }
+    ensures count { K.faults engine.old.keeper.now ≤ K.faults engine.new.keeper.now }
+    ensures ticks { (n : ℕ) × (steps.new ≡ ticked_times n L.noted steps.old) }
+    ensures plain { IfOk result (λ json. has_float (view json) ≡ false) }
 
     // It keeps nothing by itself.
-    ensures same { K.kept keeper.new ≡ K.kept keeper.old }
-    ensures count { K.faults keeper.old ≤ K.faults keeper.new }
-
-    // It evaluates each computed field at most once, each evaluation noted in the ledger; where it is carried out exactly once.
-    ensures ticks { IfSome (model_at schema.now call.entry.now.model) (λ info. HasTicked (computed_count info) L.noted steps.old steps.new) }
-    ensures evaluations { OnOk result (IfSome (model_at schema.now call.entry.now.model) (λ info. steps.new ≡ ticked_times (computed_count info) L.noted steps.old)) }
+    ensures same { K.kept engine.new.keeper.now ≡ K.kept engine.old.keeper.now }
+    ensures lender { engine.new.keeper.ghost_name ≡ engine.old.keeper.ghost_name }
 {
+    let schema = engine.schema();
     let expected = [Parameter {
         name: "vals",
         required: true,
@@ -89,29 +79,89 @@ pub fn create<K: Keeper, L: Ledger>(
         },
     }];
     let given = arguments_of(alloc, &expected, call.args, call.kw)?;
-    let plain = plain_values(alloc, schema, call.model, call.now, given.as_slice())?;
-    let id = keeper.next_id(call.model).map_err(keeper_refusal)?;
+    let values = plain_values(alloc, schema, call.model, call.now, given.as_slice())?;
+    let id = engine.next_id(call.model).map_err(keeper_refusal)?;
     if id > MAX_ID {
         return Err(past_limit(schema, call.model, id));
     }
-    let kept = kept_values(alloc, schema, call.model, id, plain.as_slice(), steps)?;
-    match row_changes(alloc, schema, call.model, id, kept.as_slice()) {
-        Ok(changes) => Ok(Created {
-            json: Json::from(id),
-            changes,
-        }),
-        Err(NoMemory) => Err(Refusal::NoMemory),
+    make_row(engine, call.model, id, values, steps)?;
+    Ok(Json::from(id))
+}
+
+/// Settles the engine with one more row; else it rests as it did.
+fn make_row<K: Keeper, L: Ledger>(
+    engine: &mut Engine<'_, K>,
+    model: ModelNo,
+    id: u64,
+    values: Sequence<(FieldNo, Value)>,
+    steps: &mut Steps<L>,
+) -> Result<(), Refusal>
+    requires id { id ≤ max_id }
+    requires fit { IsFitEdit engine.old.held.models (edit.Make model (record { 0 = id }) values) }
+    requires rest { IsAtRest engine.old.held.models engine.old.held }
+    ensures settled { OnOk result ((tables : Tables) → RestsAt (K.kept engine.old.keeper.now) engine.old.held tables
+        → Stands (K.kept engine.new.keeper.now) engine.new.held (settled_of (with_edits (resting engine.old.held.models tables) (edit.Make model (record { 0 = id }) values ∷ [])))) }
+    ensures refused { IfErr result (λ why. (tables : Tables) → RestsAt (K.kept engine.old.keeper.now) engine.old.held tables
+        → RestsAt (K.kept engine.new.keeper.now) engine.new.held tables
+        × Refuses (Rose (K.faults engine.old.keeper.now) (K.faults engine.new.keeper.now)) (IsBrokenBy engine.old.held.models (after engine.old.held.models tables (edit.Make model (record { 0 = id }) values ∷ []))) why) }
+    ensures causes { IfErr result (Refuses (Rose (K.faults engine.old.keeper.now) (K.faults engine.new.keeper.now)) (BreaksField engine.old.held.models)) }
+    ensures models { engine.new.held.models ≡ engine.old.held.models }
+    ensures phase { engine.new.held.phase ≡ phase.Settled }
+    ensures next_ids { NextIdsUpTo max_next_id engine.new.held }
+    ensures count { K.faults engine.old.keeper.now ≤ K.faults engine.new.keeper.now }
+    ensures ticks { (n : ℕ) × (steps.new ≡ ticked_times n L.noted steps.old) }
+    ensures same { K.kept engine.new.keeper.now ≡ K.kept engine.old.keeper.now }
+    ensures lender { engine.new.keeper.ghost_name ≡ engine.old.keeper.ghost_name }
+{
+    let made = stage_row(engine, model, id, values, steps);
+    if made.is_err() {
+        engine.forget();
     }
+    made
+}
+
+/// Stages a row and settles. After a refusal the engine is spoiled.
+fn stage_row<K: Keeper, L: Ledger>(
+    engine: &mut Engine<'_, K>,
+    model: ModelNo,
+    id: u64,
+    values: Sequence<(FieldNo, Value)>,
+    steps: &mut Steps<L>,
+) -> Result<(), Refusal>
+    requires id { id ≤ max_id }
+    requires fit { IsFitEdit engine.old.held.models (edit.Make model (record { 0 = id }) values) }
+    requires rest { IsAtRest engine.old.held.models engine.old.held }
+    ensures settled { OnOk result (OfStages (K.kept engine.old.keeper.now) engine.old.held
+        (λ at. Stands (K.kept engine.new.keeper.now) engine.new.held (settled_of (with_edits at (edit.Make model (record { 0 = id }) values ∷ []))))) }
+    ensures phase { OnOk result (engine.new.held.phase ≡ phase.Settled) }
+    ensures next_ids { OnOk result (NextIdsUpTo max_next_id engine.new.held) }
+    ensures refused { IfErr result (λ why. OfStages (K.kept engine.old.keeper.now) engine.old.held
+        (λ at. Refuses (Rose (K.faults engine.old.keeper.now) (K.faults engine.new.keeper.now)) (IsBrokenBy at.models (after at.models at.staged (edit.Make model (record { 0 = id }) values ∷ []))) why)) }
+    ensures spoiled { OnErr result ((tables : Tables) → RestsAt (K.kept engine.old.keeper.now) engine.old.held tables → KeepsTables (K.kept engine.new.keeper.now) engine.new.held tables) }
+    ensures causes { IfErr result (Refuses (Rose (K.faults engine.old.keeper.now) (K.faults engine.new.keeper.now)) (BreaksField engine.old.held.models)) }
+    ensures models { engine.new.held.models ≡ engine.old.held.models }
+    ensures count { K.faults engine.old.keeper.now ≤ K.faults engine.new.keeper.now }
+    ensures ticks { (n : ℕ) × (steps.new ≡ ticked_times n L.noted steps.old) }
+    ensures same { K.kept engine.new.keeper.now ≡ K.kept engine.old.keeper.now }
+    ensures lender { engine.new.keeper.ghost_name ≡ engine.old.keeper.ghost_name }
+{
+    let edits = [Edit::Make {
+        model,
+        id: RecId(id),
+        values,
+    }];
+    engine.stage(&edits).map_err(keeper_refusal)?;
+    engine.settle(steps).map_err(settle_refusal)
 }
 
 /// The refusal of an id past its limit.
 fn past_limit(schema: &Schema, model: ModelNo, id: u64) -> Refusal
     requires model { HasModel schema.now model }
-    requires valid { IfSome (model_at schema.now model) (IsModel schema.now model) }
-    ensures { IfSome (model_at schema.now model) (λ info. (column : Column)
-        × IsIdColumn info column × (result ≡ Refusal.Constraint
-        (record { kind = BrokenKind.Limit; cell = cell_of model id column.0 }))) }
+    ensures { (field : FieldNo) × IsSomeAnd (field_at schema.now model field) (λ info. is_id_from info.origin ≡ true)
+        × (result ≡ Refusal.Constraint (record { kind = BrokenKind.Limit; cell = record { model = model; id = record { 0 = id }; field = field } })) }
 {
+    // Each model has a field of this name, which is the id.
+    schema.parts_fit_together();
     let Some(field) = schema.field(model, "id") else {
         unreachable!();
     };
@@ -124,31 +174,4 @@ fn past_limit(schema: &Schema, model: ModelNo, id: u64) -> Refusal
         kind: BrokenKind::Limit,
         cell,
     })
-}
-
-/// The changes that put a row of these kept values under an id and raise the next id.
-fn row_changes(
-    alloc: Global,
-    schema: &Schema,
-    model: ModelNo,
-    id: u64,
-    kept: &[Value],
-) -> Result<Sequence<Change>, NoMemory>
-    requires model { HasModel schema.now model }
-    requires id { id ≤ max_id }
-    requires kept { HoldAll (kept_at schema.now model) kept.now }
-    ensures { IfOk result (λ changes. changes ≡ changes_of schema.now model id kept.now) }
-{
-    let row = KeptRow {
-        id: RecId(id),
-        body: row_bytes(alloc, schema, model, kept)?,
-        links: Sequence::new(alloc),
-    };
-    let mut changes = Sequence::new(alloc);
-    changes.push(Change::Put { model, row })?;
-    changes.push(Change::Next {
-        model,
-        next: id + 1,
-    })?;
-    Ok(changes)
 }

@@ -1,24 +1,25 @@
-//! The plain values of a new row: what the object gives, defaults, and the moments of its
-//! making. They stand by the numbers of the model's fields; what isn't plain is unset here.
+//! The values of a new row: what the object gives, defaults, and the moments of its making, each
+//! with the number of its field.
 
-ghost use Rattle.std.specs.Prelude.{◌≡◌, ◌∷◌, ◌++◌, [], IfOk, IfSome, OnOk, Ok, false, unwrap_or};
+ghost use Rattle.std.specs.Prelude.{◌≡◌, ◌∷◌, ◌++◌, [], IfOk, IfSome, false, unwrap_or};
 ghost use Rattle.serde_json.specs.View.{members_view, view};
 ghost use Rattle.ob_base.specs.Times.{IsMoment};
 ghost use Rattle.ob_base.specs.declared.place.PathStep.TheVariants.{Key};
 ghost use Rattle.ob_codec.specs.JsonForm.{empty_value, value_from};
 ghost use Rattle.ob_schema.specs.Fields.{Holds, plain_columns};
-ghost use Rattle.ob_schema.specs.Models.{HasField, HasModel, IsModel, field_at, model_at};
+ghost use Rattle.ob_schema.specs.Models.{HasField, HasModel, field_at, model_at};
 ghost use Rattle.ob_definition.specs.Types.{is_list};
 ghost use Rattle.ob_orm.specs.Create.{create_expects, is_stamp, new_row, new_value, placed, row_from};
-ghost use Rattle.ob_orm.specs.CreateSteps.{ArePlain, IsFaultAt, IsGivable, TakesValue, gathered};
+ghost use Rattle.ob_orm.specs.CreateSteps.{IsFaultAt, IsGivable};
 ghost use Rattle.ob_call.specs.Arguments.{AreFit};
 ghost use Rattle.ob_call.specs.ArgumentsSteps.{all_given_of};
 ghost use Rattle.ob_call.specs.Forms.{fields_at};
 ghost use Rattle.ob_call.specs.Places.{spot_place};
 ghost use Rattle.ob_call.specs.Results.{IsResultOf};
 ghost use Rattle.ob_orm.specs.Served.{IsServed};
+ghost use Rattle.ob_tables.specs.Fitting.{AreFitIn};
 
-use ob_base::{FieldNo, ModelNo, NoMemory, Refusal, Value};
+use ob_base::{FieldNo, ModelNo, NoMemory, Refusal, Sequence, Value};
 use ob_call::{Below, Given, Json, Spot, malformed_below};
 use ob_codec::{CodecFault, Input, from_json};
 use ob_schema::{FieldInfo, FieldType, Schema};
@@ -33,24 +34,21 @@ struct NewRow<'a> {
     members: &'a Map<String, Json>,
 }
 
-/// The plain values of a row that is made at a moment of the one argument.
+/// The values of a row that is made at a moment of the one argument.
 pub(crate) fn plain_values(
     alloc: Global,
     schema: &Schema,
     model: ModelNo,
     now: i64,
     given: &[Option<Given<'_>>],
-) -> Result<Vec<Value>, Refusal>
+) -> Result<Sequence<(FieldNo, Value)>, Refusal>
     requires model { HasModel schema.now model }
     requires served { IfSome (model_at schema.now model) IsServed }
     requires moment { IsMoment now }
     requires given { AreFit (create_expects (fields_at schema.now model)) (all_given_of given.now) }
     ensures value { IfSome (model_at schema.now model)
-        (λ info. IsResultOf (λ values. gathered info values.items) result
-        (row_from info now (all_given_of given.now))) }
-    ensures plain { IfOk result (λ values. IfSome (model_at schema.now model)
-        (λ info. ArePlain info values.items)) }
-    ensures valid { OnOk result (IfSome (model_at schema.now model) (IsModel schema.now model)) }
+        (λ info. IsResultOf (λ values. values) result (row_from info now (all_given_of given.now))) }
+    ensures fit { IfOk result (AreFitIn schema.now model) }
 {
     let Some(values) = &given[0] else {
         unreachable!();
@@ -66,56 +64,34 @@ pub(crate) fn plain_values(
     all_values(alloc, schema, model, &row)
 }
 
-/// A value for each field, by number.
+/// A value for each plain field that a row keeps, by number.
 fn all_values(
     alloc: Global,
     schema: &Schema,
     model: ModelNo,
     row: &NewRow<'_>,
-) -> Result<Vec<Value>, Refusal>
+) -> Result<Sequence<(FieldNo, Value)>, Refusal>
     requires model { HasModel schema.now model }
     requires served { IfSome (model_at schema.now model) IsServed }
     requires moment { IsMoment row.now.now }
     ensures value { IfSome (model_at schema.now model)
-        (λ info. IsResultOf (λ values. gathered info values.items) result
+        (λ info. IsResultOf (λ values. values) result
         (new_row row.entry.now.now (spot_place row.entry.now.spot)
         (members_view row.entry.now.members.now.entries) (plain_columns info))) }
-    ensures plain { IfOk result (λ values. IfSome (model_at schema.now model)
-        (λ info. ArePlain info values.items)) }
-    ensures valid { OnOk result (IfSome (model_at schema.now model) (IsModel schema.now model)) }
+    ensures fit { IfOk result (AreFitIn schema.now model) }
 {
-    let mut values = Vec::new(alloc);
+    let mut values = Sequence::new(alloc);
     let count = schema.model_info(model).fields.len();
     for index in 0..count {
         let number = FieldNo(index as u16 + 1);
-        let value = value_at(alloc, schema, model, number, row)?;
-        let Ok(()) = values.push(value) else {
-            return Err(Refusal::NoMemory);
-        };
+        if schema.info(model, number).is_plain_kept() {
+            let value = new_value(alloc, schema, model, number, row)?;
+            let Ok(()) = values.push((number, value)) else {
+                return Err(Refusal::NoMemory);
+            };
+        }
     }
     Ok(values)
-}
-
-/// The value of a field: unset where calls give it none.
-fn value_at(
-    alloc: Global,
-    schema: &Schema,
-    model: ModelNo,
-    number: FieldNo,
-    row: &NewRow<'_>,
-) -> Result<Value, Refusal>
-    requires field { HasField schema.now model number }
-    requires givable { IfSome (field_at schema.now model number) IsGivable }
-    requires moment { IsMoment row.now.now }
-    ensures { IfSome (field_at schema.now model number) (λ field. TakesValue field
-        (new_value row.entry.now.now (spot_place row.entry.now.spot)
-        (members_view row.entry.now.members.now.entries) field) result) }
-{
-    if schema.info(model, number).is_plain_kept() {
-        new_value(alloc, schema, model, number, row)
-    } else {
-        Ok(Value::Nil)
-    }
 }
 
 /// The value of a plain field.

@@ -1,10 +1,11 @@
-//! How refusals are told in replies: a name for programs, a message for people.
+//! How refusals are told in replies, a name for programs and a message for people; and how a
+//! cell is named.
 
 ghost use Rattle.std.specs.Prelude.{◌≡◌, ◌++◌, codes, IfOk, string_bytes};
 ghost use Rattle.ob_base.specs.Names.{op_name};
-ghost use Rattle.ob_orm.specs.RefusalText.{denial, field_name, model_name, refusal_message, refusal_name, row_text};
+ghost use Rattle.ob_orm.specs.RefusalText.{cell_text, denial, field_name, model_name, refusal_message, refusal_name, row_text};
 
-use ob_base::{Broken, FieldNo, ModelNo, NoMemory, Op, RecId, Refusal, Word};
+use ob_base::{Cell, FieldNo, ModelNo, NoMemory, Op, RecId, Refusal, Word};
 use ob_schema::Schema;
 use std::alloc::{AllocError, Global};
 
@@ -21,6 +22,14 @@ pub fn refusal_text(
     let name = Word::new(name_of(alloc, refusal)?);
     let message = Word::new(message_of(alloc, schema, refusal)?);
     Ok((name, message))
+}
+
+/// A cell as it is named: the model, the id and the field, with a blank between two. A model or a
+/// field that the registry doesn't have is told by no name.
+pub fn cell_text(alloc: Global, schema: &Schema, cell: Cell) -> Result<Word, NoMemory>
+    ensures { IfOk result (λ text. text ≡ cell_text schema.now cell) }
+{
+    Ok(Word::new(text_of_cell(alloc, schema, cell)?))
 }
 
 /// The name of a refusal.
@@ -59,7 +68,7 @@ fn message_of(alloc: Global, schema: &Schema, refusal: &Refusal) -> Result<Strin
             format!(in alloc; "{model} {number} does not exist")
         }
         Refusal::Rule(model, op, id, rule) => denial(alloc, schema, *model, *op, *id, rule),
-        Refusal::Constraint(broken) => broken_cell(alloc, schema, broken),
+        Refusal::Constraint(broken) => text_of_cell(alloc, schema, broken.cell),
         Refusal::Keeper => String::from_str(alloc, "keeper fault"),
         Refusal::NoMemory => String::from_str(alloc, "no memory"),
     }
@@ -84,13 +93,10 @@ fn denial(
     }
 }
 
-/// The cell that is broken.
-fn broken_cell(alloc: Global, schema: &Schema, broken: &Broken) -> Result<String, AllocError>
-    ensures { IfOk result (λ text. string_bytes text
-        ≡ row_text schema.now broken.now.cell.model broken.now.cell.id
-        ++ codes " " ++ field_name schema.now broken.now.cell.model broken.now.cell.field) }
+/// The text of a cell.
+fn text_of_cell(alloc: Global, schema: &Schema, cell: Cell) -> Result<String, AllocError>
+    ensures { IfOk result (λ text. string_bytes text ≡ cell_text schema.now cell) }
 {
-    let cell = broken.cell;
     let (model, number) = (model_name(schema, cell.model), cell.id.0);
     let field = field_name(schema, cell.model, cell.field);
     format!(in alloc; "{model} {number} {field}")

@@ -1,107 +1,161 @@
-//! Kept rows as replies tell them: the values of a row's fields, and the object that tells
-//! of them.
+//! Rows as replies tell them: the object of a row's id and fields, each as the engine has it.
 
-ghost use Rattle.std.specs.Prelude.{◌≡◌, ◌≤◌, ◌||◌, false, filter, map, true, All, IfOk, IfSome};
-ghost use Rattle.serde_json.specs.View.{view};
+ghost use Rattle.std.specs.Prelude.{◌≡◌, ◌≤◌, false, is_some, All, IfErr, IfOk, IfSome};
+ghost use Rattle.serde_json.specs.View.{members_view, view};
+ghost use Rattle.serde_json.specs.Data.{put};
 ghost use Rattle.serde_json.specs.Written.{has_float};
-ghost use Rattle.ob_base.specs.Limits.{max_id};
+ghost use Rattle.ob_cache.specs.Standing.{RestsAt, Stays};
+ghost use Rattle.ob_cache.specs.declared.stages.Phase.TheVariants as phase;
+ghost use Rattle.ob_codec.specs.Held.{HasFieldType};
 ghost use Rattle.ob_codec.specs.JsonForm.{IsJsonOf};
-ghost use Rattle.ob_codec.specs.RowForm.{HoldAll};
-ghost use Rattle.ob_schema.specs.Fields.{columns, is_kept};
-ghost use Rattle.ob_schema.specs.Models.{HasField, field_at, model_at};
-ghost use Rattle.ob_orm.specs.Read.{TellsRow};
-ghost use Rattle.ob_orm.specs.ReadParts.{HaveAll, columns_at, spread, value_told};
-ghost use Rattle.ob_orm.specs.Scratch.{val_or_unset};
-ghost use Rattle.ob_orm.specs.Served.{IsServed, is_id};
-ghost use Rattle.ob_orm.specs.Tables.{Row};
+ghost use Rattle.ob_io.specs.Cause.{Rose};
+ghost use Rattle.ob_orm.specs.Answer.{Refuses};
+ghost use Rattle.ob_orm.specs.ReadParts.{IsToldOrMissing, TellsCell, TellsOrMisses, columns_at};
+ghost use Rattle.ob_schema.specs.Models.{HasField, HasModel, field_at, model_at};
+ghost use Rattle.ob_schema.specs.Tables.{Tables, row_at};
 
-use ob_base::{FieldNo, ModelNo, NoMemory, Value};
+use ob_base::{Cell, FieldNo, ModelNo, RecId, Refusal, Value};
+use ob_cache::{Engine, ReadFault};
 use ob_call::Json;
-use ob_codec::{to_json, type_and_limits};
-use ob_schema::{FieldInfo, Origin, Schema};
+use ob_codec::to_json;
+use ob_io::Keeper;
+use ob_schema::{Facts, Schema};
 use serde_json::Map;
 use std::alloc::Global;
 
-/// The values of all fields of a row, by number: its id, and those that are kept.
-pub(crate) fn row_values(
+/// The object that tells of a row: its id and these fields; none where the row isn't there.
+pub(crate) fn row_object<K: Keeper>(
     alloc: Global,
-    fields: &[FieldInfo],
-    id: u64,
-    kept: Vec<Value>,
-) -> Result<Vec<Value>, NoMemory>
-    requires id { id ≤ max_id }
-    requires served { All (λ field. (is_id field.origin || is_kept field) ≡ true) fields.now }
-    requires kept { HoldAll (filter is_kept fields.now) kept.items }
-    ensures { IfOk result (λ values. values.items ≡ spread fields.now id kept.items) }
-{
-    let mut values = Vec::new(alloc);
-    let mut left = kept.into_iter();
-    for field in fields {
-        let value = if is_id(field) {
-            Value::Int(id as i64)
-        } else {
-            match left.next() {
-                Some(value) => value,
-                None => unreachable!(),
-            }
-        };
-        values.push(value)?;
-    }
-    Ok(values)
-}
-
-/// Whether the field's value is the row's id.
-fn is_id(field: &FieldInfo) -> bool
-    ensures { result ≡ is_id field.now.origin }
-{
-    matches!(field.origin, Origin::Id)
-}
-
-/// The object that tells of a row: its id and these fields.
-pub(crate) fn row_object(
-    alloc: Global,
-    schema: &Schema,
+    engine: &mut Engine<'_, K>,
     model: ModelNo,
     fields: &[FieldNo],
-    id: u64,
-    values: &[Value],
-) -> Result<Json, NoMemory>
-    requires served { IfSome (model_at schema.now model) IsServed }
-    requires fields { All (HasField schema.now model) fields.now }
-    requires values { IfSome (model_at schema.now model) (λ info. HaveAll info.fields values.now) }
-    ensures told { IfOk result (λ json. IfSome (model_at schema.now model) (λ info. (row : Row) →
-        values.now ≡ map (λ column. val_or_unset model column id row) (columns info) →
-        TellsRow model (columns_at info fields.now) id row (view json))) }
-    ensures plain { IfOk result (λ json. has_float (view json) ≡ false) }
+    id: RecId,
+) -> Result<Option<Json>, Refusal>
+    requires model { HasModel engine.old.held.models model }
+    requires fields { All (HasField engine.old.held.models model) fields.now }
+    requires rest { engine.old.held.phase ≡ phase.Settled }
+    ensures told { IfOk result (λ told. (tables : Tables) → RestsAt (K.kept engine.old.keeper.now) engine.old.held tables
+        → IfSome (model_at engine.old.held.models model) (λ info. TellsOrMisses engine.old.held.models tables model (columns_at info fields.now) id told)) }
+    ensures causes { IfErr result (Refuses (Rose (K.faults engine.old.keeper.now) (K.faults engine.new.keeper.now)) (λ _. ⊥)) }
+    ensures plain { IfOk result (λ told. IfSome told (λ json. has_float (view json) ≡ false)) }
+    ensures same { Stays (K.kept engine.old.keeper.now) engine.old.held (K.kept engine.new.keeper.now) engine.new.held }
+    ensures count { K.faults engine.old.keeper.now ≤ K.faults engine.new.keeper.now }
+    ensures lender { engine.new.keeper.ghost_name ≡ engine.old.keeper.ghost_name }
 {
-    let mut members = Map::new(alloc);
-    members.insert(String::from_str(alloc, "id")?, Json::from(id))?;
-    for number in fields {
-        let name = schema.info(model, *number).name.as_str();
-        let told = told_value(alloc, schema, model, *number, id, values)?;
-        members.insert(String::from_str(alloc, name)?, told)?;
+    if !is_there(engine, model, id)? {
+        return Ok(None);
     }
-    Ok(Json::Object(members))
+    let mut members = Map::new(alloc);
+    put(alloc, &mut members, "id", Json::from(id.0))?;
+    for field in fields {
+        let field = *field;
+        let Some(json) = cell_json(alloc, engine, model, field, id)? else {
+            return Ok(None);
+        };
+        let schema = engine.schema();
+        put(
+            alloc,
+            &mut members,
+            schema.info(model, field).name.as_str(),
+            json,
+        )?;
+    }
+    Ok(Some(Json::Object(members)))
 }
 
-/// The value of a field of a row as replies tell it.
-fn told_value(
+/// Whether a row is there.
+fn is_there<K: Keeper>(
+    engine: &mut Engine<'_, K>,
+    model: ModelNo,
+    id: RecId,
+) -> Result<bool, Refusal>
+    requires model { HasModel engine.old.held.models model }
+    ensures told { IfOk result (λ known. (tables : Tables) → RestsAt (K.kept engine.old.keeper.now) engine.old.held tables
+        → known ≡ is_some (row_at tables model id)) }
+    ensures causes { IfErr result (Refuses (Rose (K.faults engine.old.keeper.now) (K.faults engine.new.keeper.now)) (λ _. ⊥)) }
+    ensures same { Stays (K.kept engine.old.keeper.now) engine.old.held (K.kept engine.new.keeper.now) engine.new.held }
+    ensures count { K.faults engine.old.keeper.now ≤ K.faults engine.new.keeper.now }
+    ensures lender { engine.new.keeper.ghost_name ≡ engine.old.keeper.ghost_name }
+{
+    match engine.known(model, id) {
+        Ok(known) => Ok(known),
+        Err(ReadFault::Missing) => Ok(false),
+        Err(ReadFault::Keeper) => Err(Refusal::Keeper),
+        Err(ReadFault::NoMemory) => Err(Refusal::NoMemory),
+    }
+}
+
+/// A cell's value as replies tell it; none where its row isn't there.
+fn cell_json<K: Keeper>(
+    alloc: Global,
+    engine: &mut Engine<'_, K>,
+    model: ModelNo,
+    field: FieldNo,
+    id: RecId,
+) -> Result<Option<Json>, Refusal>
+    requires field { HasField engine.old.held.models model field }
+    requires rest { engine.old.held.phase ≡ phase.Settled }
+    ensures told { IfOk result (λ told. (tables : Tables) → RestsAt (K.kept engine.old.keeper.now) engine.old.held tables
+        → TellsCell engine.old.held.models tables model field id told) }
+    ensures causes { IfErr result (Refuses (Rose (K.faults engine.old.keeper.now) (K.faults engine.new.keeper.now)) (λ _. ⊥)) }
+    ensures plain { IfOk result (λ told. IfSome told (λ json. has_float (view json) ≡ false)) }
+    ensures same { Stays (K.kept engine.old.keeper.now) engine.old.held (K.kept engine.new.keeper.now) engine.new.held }
+    ensures count { K.faults engine.old.keeper.now ≤ K.faults engine.new.keeper.now }
+    ensures lender { engine.new.keeper.ghost_name ≡ engine.old.keeper.ghost_name }
+{
+    let schema = engine.schema();
+    match told(engine.read(Cell { model, id, field }))? {
+        Some(value) => Ok(Some(json_of(alloc, schema, model, field, &value)?)),
+        None => Ok(None),
+    }
+}
+
+/// A value that was read; none where the row isn't there.
+fn told(read: Result<Value, ReadFault>) -> Result<Option<Value>, Refusal>
+    ensures { IsToldOrMissing read result }
+{
+    match read {
+        Ok(value) => Ok(Some(value)),
+        Err(ReadFault::Missing) => Ok(None),
+        Err(ReadFault::Keeper) => Err(Refusal::Keeper),
+        Err(ReadFault::NoMemory) => Err(Refusal::NoMemory),
+    }
+}
+
+/// A value of a field as replies tell it.
+fn json_of(
     alloc: Global,
     schema: &Schema,
     model: ModelNo,
-    number: FieldNo,
-    id: u64,
-    values: &[Value],
-) -> Result<Json, NoMemory>
-    requires served { IfSome (model_at schema.now model) IsServed }
-    requires field { HasField schema.now model number }
-    requires values { IfSome (model_at schema.now model) (λ info. HaveAll info.fields values.now) }
-    ensures { IfOk result (λ json. IfSome (field_at schema.now model number)
-        (λ field. IsJsonOf (value_told field number id values.now) (view json))) }
+    field: FieldNo,
+    value: &Value,
+) -> Result<Json, Refusal>
+    requires field { HasField schema.now model field }
+    requires value { HasFieldType (field_at schema.now model field) value.now }
+    ensures told { IfOk result (λ json. IsJsonOf value.now (view json)) }
+    ensures causes { IfErr result (λ why. why ≡ Refusal.NoMemory) }
 {
-    if is_id(schema.info(model, number)) {
-        return Ok(Json::from(id));
+    match to_json(alloc, schema, model, field, value) {
+        Ok(json) => Ok(json),
+        Err(_) => Err(Refusal::NoMemory),
     }
-    type_and_limits();
-    to_json(alloc, schema, model, number, &values[number.0 as usize - 1])
+}
+
+/// Puts a member into an object.
+fn put(
+    alloc: Global,
+    members: &mut Map<String, Json>,
+    name: &str,
+    json: Json,
+) -> Result<(), Refusal>
+    ensures put { IfOk result (λ _. members_view members.new.entries ≡ put name.now (view json) (members_view members.old.entries)) }
+    ensures causes { IfErr result (λ why. why ≡ Refusal.NoMemory) }
+{
+    let Ok(name) = String::from_str(alloc, name) else {
+        return Err(Refusal::NoMemory);
+    };
+    match members.insert(name, json) {
+        Ok(_) => Ok(()),
+        Err(_) => Err(Refusal::NoMemory),
+    }
 }

@@ -1,6 +1,6 @@
 -- From what each step of serving a request does to a step of the machine.
-use Rattle.std.proofs.Common.{◌≡◌, inl, inr, ℕ, ℤ, List, Option, Some, None, option_map, Result, Ok, Err, refl, ap, ◌∙◌, Bor, BTreeMap, Global, String}
-use Rattle.std.specs.Prelude.{IsSomeAnd, unwrap_or}
+use Rattle.std.proofs.Common.{◌≡◌, inl, inr, ℕ, ℤ, List, Option, Some, None, option_map, Result, Ok, Err, refl, ap, ◌∙◌, subst, sym, Bor, BTreeMap, Global, String}
+use Rattle.std.specs.Prelude.{IsSome, IsSomeAnd, unwrap_or}
 use Rattle.std.specs.BTreeMap.{IsEmpty}
 use Rattle.serde_json.specs.Data.{Data, object, no_members}
 use Rattle.serde_json.specs.View.{members_view, view}
@@ -10,26 +10,24 @@ use Rattle.serde_json.specs.declared.value.Value.TheVariants.{Object}
 use Rattle.ob_base.specs.declared.id.ModelNo.{ModelNo}
 use Rattle.ob_base.specs.declared.refusal.Refusal.{Refusal}
 use Rattle.ob_base.specs.declared.refusal.Refusal.TheVariants as refusal
-use Rattle.ob_io.specs.Store.{Store, all_changed}
+use Rattle.ob_cache.specs.Stages.{resting}
+use Rattle.ob_cache.specs.Standing.{Holding, OfStages, RestsAt, Stands}
+use Rattle.ob_io.specs.Store.{Store}
 use Rattle.ob_rpc.specs.Envelope.{Envelope, Fault, element_place, envelope_of}
 use Rattle.ob_rpc.specs.declared.methods.Served.TheVariants.{ExecuteKw}
 use Rattle.ob_schema.specs.Models.{model_at}
 use Rattle.ob_schema.specs.declared.info.ModelInfo.{ModelInfo}
-use Rattle.ob_orm.specs.declared.creating.Created.{Created}
-use Rattle.ob_orm.specs.Tables.{Tables}
-use Rattle.ob_orm.specs.Sound.{IsSound}
-use Rattle.ob_orm.specs.Kept.{Kept}
+use Rattle.ob_schema.specs.Tables.{Tables}
 use Rattle.ob_orm.specs.Create.{Creates}
 use Rattle.ob_orm.specs.Read.{Reads}
-use Rattle.ob_orm.specs.Answer.{Called, CreateAnswers, ReadAnswers, Refuses}
+use Rattle.ob_orm.specs.Answer.{Called, CreateAnswers, ReadAnswers, Refuses, settled_over}
 use Rattle.stockd.specs.ModelCall.{call_view, method_view}
 use Rattle.stockd.specs.declared.request.ModelCall.{ModelCall}
 use Rattle.stockd.specs.Request.{Call, Method, Request, call_of, called, create, read, request_by, request_of}
 use Rattle.stockd.specs.Texts.{malformed_text, no_memory_text, outcome_text, told}
-use Rattle.stockd.specs.Body.{Serves, ServesOver}
+use Rattle.stockd.specs.Body.{Over, Serves, ServesOver}
 use Rattle.stockd.specs.Machine.{Calls, MayAnswer}
-use Rattle.stockd.specs.Reply.{MayTell}
-use Rattle.stockd.specs.Store.{Keeps}
+use Rattle.stockd.specs.Reply.{Keeps, MayTell}
 
 -- what holds of some model holds of the model of the number
 at_model : (P : ModelInfo → Type 0) (found : Option ModelInfo) (info : ModelInfo) → found ≡ Some info → P info → IsSomeAnd found P
@@ -58,16 +56,23 @@ refuses_as P Q rose then refusal.Keeper cause = cause
 refuses_as P Q rose then refusal.NoMemory cause = cause
 refuses_as P Q rose then why cause = then why cause
 
--- the store of sound tables, which a step leaves or replaces
-pub record Stands (models : List ModelInfo) (before : Option Store) (store : Store) (tables : Tables) : Type 0 where
-  pub before_is : before ≡ Some store
-  pub kept : Kept models store tables
-  pub sound : IsSound models tables
+-- a model that is there
+pub known_model : (found : Option ModelInfo) → IsSome found → (info : ModelInfo) × (found ≡ Some info)
+known_model None there = absurd (cc)
+known_model (Some info) there = (info, refl)
 
--- what is kept stays where an answer leaves the tables
-pub serves_unchanged : (models : List ModelInfo) (store : Store) (old : Tables) (now : ℤ) (rose : Type 0) (request : Request) (reply : List ℕ) (kept_now : Option Store)
-    → Stands models kept_now store old → MayAnswer models old now rose request reply old → Serves models old now rose request reply kept_now
-serves_unchanged models store old now rose request reply kept_now stands answer = record { store = store; tables = old; kept_is = stands.before_is; kept = stands.kept; sound = stands.sound; answer = answer }
+-- an engine of the same models that stands as before rests at the tables still
+pub rests_on : (before now : Option Store) (old new : Holding) → new.models ≡ old.models → OfStages before old (Stands now new) → (tables : Tables) → RestsAt before old tables → RestsAt now new tables
+rests_on before now old new same stands tables rests = subst (λ (models : List ModelInfo). Stands now new (resting models tables)) (sym same) (stands (resting old.models tables) rests)
+
+-- what tells by these models tells by the same ones
+pub tells_by : (models others : List ModelInfo) (id : Data) (outcome : Result Data Refusal) (reply : List ℕ) → others ≡ models → MayTell reply (outcome_text others id outcome) → MayTell reply (outcome_text models id outcome)
+tells_by models others id outcome reply same tells = rw (← same) tells
+
+-- where an answer leaves the tables the engine rests at them still
+pub serves_unchanged : (models : List ModelInfo) (old : Tables) (now : ℤ) (rose : Type 0) (request : Request) (reply : List ℕ) (kept : Option Store) (held : Holding)
+    → RestsAt kept held old → MayAnswer models old now rose request reply old → Serves models old now rose request reply kept held
+serves_unchanged models old now rose request reply kept held rests answer = record { tables = old; rests = rests; answer = answer }
 
 -- a read of a model
 abbrev pub read_of : Called → Call
@@ -78,93 +83,83 @@ abbrev pub create_of : Called → Call
 create_of c = record { model = c.model; method = create; args = c.args; kw = c.kw }
 
 -- a read that was answered, and its reply, serve the request
-pub read_serves : (models : List ModelInfo) (store : Store) (old : Tables) (c : Called) (id json : Data) (rose : Type 0) (reply : List ℕ) (kept_now : Option Store)
-    → model_at models c.model ≡ Some c.info → Stands models kept_now store old → ReadAnswers old c rose (Ok json) → MayTell reply (outcome_text models id (Ok json))
-    → Serves models old c.now rose (called id (read_of c)) reply kept_now
-read_serves models store old c id json rose reply kept_now is stands reads tells =
-    serves_unchanged models store old c.now rose (called id (read_of c)) reply kept_now stands
+pub read_serves : (models : List ModelInfo) (old : Tables) (c : Called) (id json : Data) (rose : Type 0) (reply : List ℕ) (kept : Option Store) (held : Holding)
+    → model_at models c.model ≡ Some c.info → RestsAt kept held old → ReadAnswers models old c rose (Ok json) → MayTell reply (outcome_text models id (Ok json))
+    → Serves models old c.now rose (called id (read_of c)) reply kept held
+read_serves models old c id json rose reply kept held is rests reads tells =
+    serves_unchanged models old c.now rose (called id (read_of c)) reply kept held rests
     (told_step models old c.now rose id (read_of c) reply (Ok json) (at_model _ (model_at models c.model) c.info is (reads, refl)) tells)
 
 -- a read that was refused, and its reply, serve the request
-pub refused_read_serves : (models : List ModelInfo) (store : Store) (old : Tables) (c : Called) (id : Data) (why : Refusal) (rose : Type 0) (reply : List ℕ) (kept_now : Option Store)
-    → model_at models c.model ≡ Some c.info → Stands models kept_now store old → ReadAnswers old c rose (Err why) → MayTell reply (outcome_text models id (told (Err why)))
-    → Serves models old c.now rose (called id (read_of c)) reply kept_now
-refused_read_serves models store old c id why rose reply kept_now is stands cause tells =
-    serves_unchanged models store old c.now rose (called id (read_of c)) reply kept_now stands
-    (refused_step models old c.now rose id (read_of c) reply why (refuses_as (λ w. Reads c.model c.info old c.args c.kw (Err w)) (λ w. Calls models old c.now (read_of c) (Err w) old) rose
-    (λ w reads. at_model (λ info. Reads c.model info old c.args c.kw (Err w) × (old ≡ old)) (model_at models c.model) c.info is (reads, refl)) why cause) tells)
+pub refused_read_serves : (models : List ModelInfo) (old : Tables) (c : Called) (id : Data) (why : Refusal) (rose : Type 0) (reply : List ℕ) (kept : Option Store) (held : Holding)
+    → model_at models c.model ≡ Some c.info → RestsAt kept held old → ReadAnswers models old c rose (Err why) → MayTell reply (outcome_text models id (told (Err why)))
+    → Serves models old c.now rose (called id (read_of c)) reply kept held
+refused_read_serves models old c id why rose reply kept held is rests cause tells =
+    serves_unchanged models old c.now rose (called id (read_of c)) reply kept held rests
+    (refused_step models old c.now rose id (read_of c) reply why (refuses_as (λ w. Reads models c.model c.info old c.args c.kw (Err w)) (λ w. Calls models old c.now (read_of c) (Err w) old) rose
+    (λ w reads. at_model (λ info. Reads models c.model info old c.args c.kw (Err w) × (old ≡ old)) (model_at models c.model) c.info is (reads, refl)) why cause) tells)
 
 -- a create that was refused, and its reply, serve the request
-pub refused_create_serves : (models : List ModelInfo) (store : Store) (old : Tables) (c : Called) (id : Data) (why : Refusal) (rose : Type 0) (reply : List ℕ) (kept_now : Option Store)
-    → model_at models c.model ≡ Some c.info → Stands models kept_now store old → CreateAnswers models store old c rose (Err why) → MayTell reply (outcome_text models id (told (Err why)))
-    → Serves models old c.now rose (called id (create_of c)) reply kept_now
-refused_create_serves models store old c id why rose reply kept_now is stands cause tells =
-    serves_unchanged models store old c.now rose (called id (create_of c)) reply kept_now stands
-    (refused_step models old c.now rose id (create_of c) reply why (refuses_as (λ w. Creates c.model c.info c.now old c.args c.kw (Err w) old) (λ w. Calls models old c.now (create_of c) (Err w) old)
-    rose (λ w creates. at_model (λ info. Creates c.model info c.now old c.args c.kw (Err w) old) (model_at models c.model) c.info is creates) why cause) tells)
+pub refused_create_serves : (models : List ModelInfo) (old : Tables) (c : Called) (id : Data) (why : Refusal) (rose : Type 0) (reply : List ℕ) (kept : Option Store) (held : Holding)
+    → model_at models c.model ≡ Some c.info → held.models ≡ models → CreateAnswers kept held old c rose (Err why) → MayTell reply (outcome_text models id (told (Err why)))
+    → Serves models old c.now rose (called id (create_of c)) reply kept held
+refused_create_serves models old c id why rose reply kept held is same (cause, rests) tells =
+    let own : Refuses rose (λ w. Creates models c.model c.info c.now old c.args c.kw (Err w) old) why =
+    subst (λ (ms : List ModelInfo). Refuses rose (λ w. Creates ms c.model c.info c.now old c.args c.kw (Err w) old) why) same cause in
+    serves_unchanged models old c.now rose (called id (create_of c)) reply kept held rests
+    (refused_step models old c.now rose id (create_of c) reply why (refuses_as (λ w. Creates models c.model c.info c.now old c.args c.kw (Err w) old) (λ w. Calls models old c.now (create_of c) (Err w) old)
+    rose (λ w creates. at_model (λ info. Creates models c.model info c.now old c.args c.kw (Err w) old) (model_at models c.model) c.info is creates) why own) tells)
 
--- a create that was made, and its reply and commit, serve the request
-pub created_serves : (models : List ModelInfo) (store : Store) (old : Tables) (c : Called) (id : Data) (created : Created) (rose_before rose_now rose : Type 0) (before kept_now : Option Store) (reply : List ℕ)
-    → (rose_now → rose) → model_at models c.model ≡ Some c.info → Stands models before store old → CreateAnswers models store old c rose_before (Ok created)
-    → Keeps rose_now id (view created.json) before (option_map (all_changed created.changes) before) kept_now reply
-    → Serves models old c.now rose (called id (create_of c)) reply kept_now
-created_serves models store old c id created rose_before rose_now rose before kept_now reply since is stands answers (inl keeps) = record {
-  store = all_changed created.changes store;
-  tables = answers.0;
-  kept_is = keeps.0 ∙ ap (option_map (all_changed created.changes)) stands.before_is;
-  kept = answers.3;
-  sound = answers.2;
-  answer = inl (Ok (view created.json), at_model _ (model_at models c.model) c.info is answers.1, keeps.1);
-}
-created_serves models store old c id created rose_before rose_now rose before kept_now reply since is stands answers (inr (same, inl unmade)) = record {
-  store = store;
-  tables = old;
-  kept_is = same ∙ stands.before_is;
-  kept = stands.kept;
-  sound = stands.sound;
-  answer = inr (refl, inl unmade);
-}
-created_serves models store old c id created rose_before rose_now rose before kept_now reply since is stands answers (inr (same, inr failed)) = record {
-  store = store;
-  tables = old;
-  kept_is = same ∙ stands.before_is;
-  kept = stands.kept;
-  sound = stands.sound;
-  answer = inr (refl, inr (since failed.0, failed.1));
-}
+-- a create that was made, and was kept with its reply or not, serves the request
+kept_serves : (models : List ModelInfo) (old next : Tables) (c : Called) (id json : Data) (rose_keeping rose : Type 0) (reply : List ℕ) (kept : Option Store) (held : Holding)
+    → (rose_keeping → rose) → Calls models old c.now (create_of c) (Ok json) next → Keeps rose_keeping id json old next kept held reply
+    → Serves models old c.now rose (called id (create_of c)) reply kept held
+kept_serves models old next c id json rose_keeping rose reply kept held since calls (inl (rests, tells)) = record { tables = next; rests = rests; answer = inl (Ok json, calls, tells) }
+kept_serves models old next c id json rose_keeping rose reply kept held since calls (inr (rests, inl unmade)) = record { tables = old; rests = rests; answer = inr (refl, inl unmade) }
+kept_serves models old next c id json rose_keeping rose reply kept held since calls (inr (rests, inr (cause, tells))) = record { tables = old; rests = rests; answer = inr (refl, inr (since cause, tells)) }
+
+-- the same by what the engine answered and what became of it then
+pub created_serves : (models : List ModelInfo) (old : Tables) (c : Called) (id json : Data) (rose_keeping rose : Type 0) (reply : List ℕ) (mid kept : Option Store) (made held : Holding)
+    → (rose_keeping → rose) → model_at models c.model ≡ Some c.info → made.models ≡ models → CreateAnswers mid made old c rose (Ok json)
+    → ((next : Tables) → Stands mid made (settled_over made.models old next) → Keeps rose_keeping id json old next kept held reply)
+    → Serves models old c.now rose (called id (create_of c)) reply kept held
+created_serves models old c id json rose_keeping rose reply mid kept made held since is same (next, creates, stands) keeps =
+    let own : Creates models c.model c.info c.now old c.args c.kw (Ok json) next =
+    subst (λ (ms : List ModelInfo). Creates ms c.model c.info c.now old c.args c.kw (Ok json) next) same creates in
+    kept_serves models old next c id json rose_keeping rose reply kept held since (at_model (λ info. Creates models c.model info c.now old c.args c.kw (Ok json) next) (model_at models c.model) c.info is own) (keeps next stands)
 
 -- the refusal of an element, and its reply, serve the request
-pub element_serves : (models : List ModelInfo) (store : Store) (old : Tables) (now : ℤ) (rose : Type 0) (id : Data) (n : ℕ) (reply : List ℕ) (kept_now : Option Store)
-    → Stands models kept_now store old → MayTell reply (malformed_text models id (element_place n)) → Serves models old now rose (request_by id (Err n)) reply kept_now
-element_serves models store old now rose id n reply kept_now stands (inl tells) = serves_unchanged models store old now rose (request_by id (Err n)) reply kept_now stands (inl (tells, refl))
-element_serves models store old now rose id n reply kept_now stands (inr unmade) = serves_unchanged models store old now rose (request_by id (Err n)) reply kept_now stands (inr (refl, inl unmade))
+pub element_serves : (models : List ModelInfo) (old : Tables) (now : ℤ) (rose : Type 0) (id : Data) (n : ℕ) (reply : List ℕ) (kept : Option Store) (held : Holding)
+    → RestsAt kept held old → MayTell reply (malformed_text models id (element_place n)) → Serves models old now rose (request_by id (Err n)) reply kept held
+element_serves models old now rose id n reply kept held rests (inl tells) = serves_unchanged models old now rose (request_by id (Err n)) reply kept held rests (inl (tells, refl))
+element_serves models old now rose id n reply kept held rests (inr unmade) = serves_unchanged models old now rose (request_by id (Err n)) reply kept held rests (inr (refl, inl unmade))
 
 -- who serves the request of a body's envelope serves the body
-pub body_serves : (models : List ModelInfo) (old : Tables) (now moment : ℤ) (rose : Type 0) (body reply : List ℕ) (envelope : Envelope) (kept_now : Option Store)
+pub body_serves : (models : List ModelInfo) (old : Tables) (now moment : ℤ) (rose : Type 0) (body reply : List ℕ) (envelope : Envelope) (kept : Option Store) (held : Holding)
     → now ≡ moment → envelope_of ExecuteKw body ≡ Ok envelope
-    → Serves models old now rose (request_by envelope.id (call_of models envelope.args)) reply kept_now → Serves models old moment rose (request_of models (envelope_of ExecuteKw body)) reply kept_now
-body_serves models old now moment rose body reply envelope kept_now now_is is serves = rw is (rw now_is at serves)
+    → Serves models old now rose (request_by envelope.id (call_of models envelope.args)) reply kept held → Serves models old moment rose (request_of models (envelope_of ExecuteKw body)) reply kept held
+body_serves models old now moment rose body reply envelope kept held now_is is serves = rw is (rw now_is at serves)
 
 -- the refusal of a body at a place, with the id that was read, serves it
-pub fault_serves : (models : List ModelInfo) (store : Store) (old : Tables) (now : ℤ) (rose : Type 0) (body reply : List ℕ) (fault : Fault) (kept_now : Option Store)
-    → envelope_of ExecuteKw body ≡ Err fault → Stands models kept_now store old → MayTell reply (malformed_text models fault.id fault.place)
-    → Serves models old now rose (request_of models (envelope_of ExecuteKw body)) reply kept_now
-fault_serves models store old now rose body reply fault kept_now is stands (inl tells) = rw is (serves_unchanged models store old now rose (request_of models (Err fault)) reply kept_now stands (inl (tells, refl)))
-fault_serves models store old now rose body reply fault kept_now is stands (inr unmade) = rw is (serves_unchanged models store old now rose (request_of models (Err fault)) reply kept_now stands (inr (refl, inl unmade)))
+pub fault_serves : (models : List ModelInfo) (old : Tables) (now : ℤ) (rose : Type 0) (body reply : List ℕ) (fault : Fault) (kept : Option Store) (held : Holding)
+    → envelope_of ExecuteKw body ≡ Err fault → RestsAt kept held old → MayTell reply (malformed_text models fault.id fault.place)
+    → Serves models old now rose (request_of models (envelope_of ExecuteKw body)) reply kept held
+fault_serves models old now rose body reply fault kept held is rests (inl tells) = rw is (serves_unchanged models old now rose (request_of models (Err fault)) reply kept held rests (inl (tells, refl)))
+fault_serves models old now rose body reply fault kept held is rests (inr unmade) = rw is (serves_unchanged models old now rose (request_of models (Err fault)) reply kept held rests (inr (refl, inl unmade)))
 
 -- the reply for want of memory serves any request
-pub no_memory_serves : (models : List ModelInfo) (store : Store) (old : Tables) (now : ℤ) (rose : Type 0) (request : Request) (kept_now : Option Store)
-    → Stands models kept_now store old → Serves models old now rose request no_memory_text kept_now
-no_memory_serves models store old now rose request kept_now stands = serves_unchanged models store old now rose request no_memory_text kept_now stands (inr (refl, inl refl))
+pub no_memory_serves : (models : List ModelInfo) (old : Tables) (now : ℤ) (rose : Type 0) (request : Request) (kept : Option Store) (held : Holding)
+    → RestsAt kept held old → Serves models old now rose request no_memory_text kept held
+no_memory_serves models old now rose request kept held rests = serves_unchanged models old now rose request no_memory_text kept held rests (inr (refl, inl refl))
 
 -- a call of these parts
 abbrev pub call_by : ModelNo → Method → (args kw : Data) → Call
 call_by model meth args kw = record { model = model; method = meth; args = args; kw = kw }
 
 -- a moment and a request under other names
-pub serves_same : (models : List ModelInfo) (before kept_now : Option Store) (now moment : ℤ) (rose : Type 0) (request other : Request) (reply : List ℕ)
-    → now ≡ moment → request ≡ other → ServesOver models before kept_now now rose request reply → ServesOver models before kept_now moment rose other reply
-serves_same models before kept_now now moment rose request other reply now_is is serves = rw (← now_is, ← is) serves
+pub serves_same : (before after : Over) (now moment : ℤ) (rose : Type 0) (request other : Request) (reply : List ℕ)
+    → now ≡ moment → request ≡ other → ServesOver before after now rose request reply → ServesOver before after moment rose other reply
+serves_same before after now moment rose request other reply now_is is serves = rw (← now_is, ← is) serves
 
 -- an object without members
 pub empty_object : (map : BTreeMap (String Global) Value) → IsEmpty map → view (Object map) ≡ object no_members

@@ -1,5 +1,5 @@
 -- What was read of a stream goes on by one line.
-use Rattle.std.proofs.Common.{◌≡◌, ◌≢◌, ◌+◌, ◌-◌, ℕ, suc, ◌<◌, ◌≤◌, true, false, ltb, List, [], ◌∷◌, ◌++◌, length, get_or, refl, ap, sym, ◌∙◌, arith, inl, inr, Option, Some, None, subst, append_assoc, length-append, get_or-take}
+use Rattle.std.proofs.Common.{◌≡◌, ◌≢◌, ◌+◌, ◌-◌, ℕ, zero, suc, ◌<◌, ◌≤◌, true, false, ltb, List, [], ◌∷◌, ◌++◌, length, get_or, refl, ap, sym, ◌∙◌, arith, inl, inr, Option, Some, None, subst, append_assoc, length-append, get_or-take}
 use Rattle.std.specs.Prelude.{All, option_map, IfSome}
 use Rattle.std.proofs.lemmas.Bool.{cases_lt, eqb-true, lt-ltb, le-ltb}
 use Rattle.std.proofs.lemmas.List.{append-nil, take_all, drop_all, nil_from_length}
@@ -10,7 +10,7 @@ use Rattle.ob_base.specs.Limits.{max_line_bytes, max_input_bytes}
 use Rattle.stockd.specs.Lines.{is_line_feed, lines_of, line_front, line_back, line_size, Reading, stream_of, ReadsLine, IsTooLong}
 use Rattle.stockd.specs.Session.{after_lines, lines_size}
 use Rattle.stockd.specs.SessionSteps.{whole_lines, HasRead, HasReadAll, HasReadTo}
-use Rattle.stockd.proofs.LineLaws.{feed_at, feed_at-le-length, length-line_front, line_back-open, line_size-open, open_from_all, all_from_open, lines_of-open, lines_of-whole}
+use Rattle.stockd.proofs.LineLaws.{feed_at, feed_at-le-length, length-line_front, line_back-open, line_size-open, line_size-line_back, open_from_all, all_from_open, lines_of-open, lines_of-whole}
 
 -- lines with their line feeds, one more
 
@@ -70,6 +70,11 @@ lines_size-read (line ∷ lines) rest no_feeds =
     ap (λ s. line_size s + lines_size (length lines) (line_back s)) (joined line lines rest)
     ∙ ap (λ s. line_size (line ++ 10 ∷ (whole_lines lines ++ rest)) + lines_size (length lines) s) (line_back-first line (whole_lines lines ++ rest) open_here)
     ∙ omega (arith, here, later, length-append (line ++ 10 ∷ []) (whole_lines lines), length-append line (10 ∷ []))
+
+-- lines take no more bytes than the stream has
+pub lines_fit : (count : ℕ) (stream : List ℕ) → lines_size count stream ≤ length stream
+lines_fit zero stream = omega arith
+lines_fit (suc count) stream = omega (arith, lines_fit count (line_back stream), line_size-line_back stream)
 
 -- a line more
 

@@ -1,5 +1,5 @@
 -- How a session ends whose input gives no further line.
-use Rattle.std.proofs.Common.{◌≡◌, ◌≢◌, ◌+◌, ℕ, true, false, List, [], ◌∷◌, ◌++◌, length, get_or, refl, ap, sym, ◌∙◌, arith, Option, Some, None, subst, append_assoc}
+use Rattle.std.proofs.Common.{◌≡◌, ◌≢◌, ◌+◌, ℕ, true, false, List, [], ◌∷◌, ◌++◌, length, get_or, refl, ap, sym, ◌∙◌, arith, Option, Some, None, subst, append_assoc, length-append}
 use Rattle.std.specs.Prelude.{All, take, option_map, IfSome}
 use Rattle.std.specs.List.{list_any}
 use Rattle.std.proofs.lemmas.List.{append-nil}
@@ -11,7 +11,7 @@ use Rattle.stockd.specs.declared.ending.Ending.TheVariants as ending
 use Rattle.stockd.specs.declared.lines.LineFault.{LineFault}
 use Rattle.stockd.specs.declared.lines.LineFault.TheVariants as fault
 use Rattle.stockd.specs.Lines.{is_line_feed, lines_of, bodies_of, Reading, stream_of, GivesPart, IsAtEnd, StopsInLine, IsTooLong}
-use Rattle.stockd.specs.Session.{whole_part, NoneTooLong, AreAmong}
+use Rattle.stockd.specs.Session.{whole_part, NoneTooLong, AreAmong, AreRead}
 use Rattle.stockd.specs.SessionSteps.{whole_lines, HasRead, StopsReading}
 use Rattle.stockd.proofs.ReadOn.{rest_after, size_before, lines_of-stream, lines_of-read, joined}
 
@@ -52,7 +52,7 @@ told_part : (before left : Option (List ℕ)) (part rest : List ℕ) → before 
 told_part before None part rest told given = absurd (cc)
 told_part before (Some now) part rest told given = (now, refl, cc)
 
-told_before : (held : List ℕ) (before : Option (List ℕ)) (rest : List ℕ) → option_map (λ left. held ++ left) before ≡ Some rest → (left : List ℕ) × (before ≡ Some left) × (rest ≡ held ++ left)
+pub told_before : (held : List ℕ) (before : Option (List ℕ)) (rest : List ℕ) → option_map (λ left. held ++ left) before ≡ Some rest → (left : List ℕ) × (before ≡ Some left) × (rest ≡ held ++ left)
 told_before held None rest e = absurd (cc)
 told_before held (Some left) rest e = (left, refl, cc)
 
@@ -69,6 +69,16 @@ pub among_read : {stream : List ℕ} {reader : Reading} {left : Option (List ℕ
 among_read {stream} {reader} {left} {lines} h = record {
   bodies_are = sym (ap (λ ls. bodies_of (take (length lines) ls)) (lines_of-stream h) ∙ ap bodies_of (take-append_seam lines (lines_of h.rest)));
   none_too_long = h.none_too_long;
+}
+
+-- these lines were read, also where more was read ahead of them
+pub are_read : {stream : List ℕ} {reader : Reading} {left : Option (List ℕ)} {lines : List (List ℕ)} (h : HasRead stream reader left lines) (ahead now : List ℕ) → h.rest ≡ ahead ++ now
+    → AreRead (length lines) stream now (bodies_of lines)
+are_read {stream} {reader} {left} {lines} h ahead now rest = record {
+  read = whole_lines lines ++ ahead;
+  stream_is = h.stream_is ∙ ap (λ s. whole_lines lines ++ s) rest ∙ sym (append_assoc (whole_lines lines) ahead now);
+  within = omega (arith, size_before h, h.consumed, length-append (whole_lines lines) ahead);
+  among = among_read h;
 }
 
 -- the endings
@@ -116,7 +126,7 @@ stops_too_long {stream} {old} {before} {left} {lines} number part h counted long
         length lines,
         omega (arith, counted, h.count),
         rw (size_before h, rest_after h) here,
-        among_read h,
+        are_read h (old.held ++ part) now.0 (now.2 ∙ sym (append_assoc old.held part now.0)),
       );
     }
 
@@ -126,7 +136,7 @@ stops_no_memory {stream} {old} {before} {left} {lines} part h given =
     let now = told_after h part given in record {
       left = now.0;
       left_is = now.1;
-      takes_in = (length lines, among_read h);
+      takes_in = (length lines, are_read h (old.held ++ part) now.0 (now.2 ∙ sym (append_assoc old.held part now.0)));
     }
 
 -- by what the reader says

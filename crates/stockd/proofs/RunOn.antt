@@ -1,7 +1,7 @@
 -- A run of the machine goes on by one body.
 use Rattle.std.proofs.Common.{◌≡◌, ℕ, ℤ, List, [], ◌∷◌, ◌++◌, ◌⊎◌, refl, ap, ◌∙◌, arith, inl, inr, Option, Some, option_map, subst}
 use Rattle.ob_io.specs.Cause.{Rose}
-use Rattle.ob_orm.specs.Tables.{Tables}
+use Rattle.ob_schema.specs.Tables.{Tables}
 use Rattle.ob_rpc.specs.Envelope.{envelope_of}
 use Rattle.ob_rpc.specs.declared.methods.Served.TheVariants.{ExecuteKw}
 use Rattle.ob_schema.specs.declared.info.ModelInfo.{ModelInfo}

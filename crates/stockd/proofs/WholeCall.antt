@@ -1,37 +1,59 @@
--- From what `call` did up to its last line to what the whole run did.
-use Rattle.std.proofs.Common.{◌≡◌, ℕ, ◌≤◌, List, Option, refl, sym, ap, ◌∙◌, subst, arith}
-use Rattle.ob_base.specs.declared.id.ModelNo.{ModelNo}
+-- From the loading and the opening to what the whole run did.
+use Rattle.std.proofs.Common.{◌≡◌, ℕ, ℤ, ◌≤◌, ◌⊎◌, List, Option, Some, None, refl, sym, ap, ◌∙◌, subst, arith, inl, inr, IfSome}
+use Rattle.std.specs.Option.{IsSome, IsSomeAnd, is_some}
+use Rattle.ob_cache.specs.Kept.{Kept, OthersStay}
+use Rattle.ob_cache.specs.Stages.{StandsOver, resting}
+use Rattle.ob_cache.specs.Standing.{Holding, RestsAt}
+use Rattle.ob_io.specs.Cause.{Rose}
 use Rattle.ob_io.specs.Store.{Store}
-use Rattle.std.specs.FinMap.{get-empty}
-use Rattle.ob_orm.specs.Tables.{empty_tables}
-use Rattle.ob_orm.specs.Kept.{Kept, KeepsModel}
-use Rattle.ob_schema.specs.Built.{IsBuilt}
-use Rattle.ob_schema.specs.Models.{model_at}
+use Rattle.ob_load.specs.Loading.{IsFirstFault, IsLoaded}
+use Rattle.ob_load.specs.Texts.{text_in}
+use Rattle.ob_load.specs.declared.fault.FaultyModule.{FaultyModule}
+use Rattle.ob_schema.specs.Broken.{AreSound}
+use Rattle.ob_schema.specs.Tables.{Tables}
 use Rattle.ob_schema.specs.declared.info.ModelInfo.{ModelInfo}
-use Rattle.stockd.specs.Model.{line_defs, line_model}
-use Rattle.stockd.specs.declared.ending.Ending.TheVariants.{Usage}
+use Rattle.stockd.specs.declared.ending.Ending.TheVariants as ending
 use Rattle.stockd.specs.declared.ending.Ending.{Ending}
-use Rattle.stockd.specs.Program.{Outside, HasCauses}
-use Rattle.stockd.specs.Session.{Start, Standing, StandsAt, Session, first_state}
-use Rattle.stockd.specs.Store.{IsNew}
-use Rattle.stockd.proofs.RegistryLine.{model_at-only}
+use Rattle.stockd.specs.Ending.{HasReason}
+use Rattle.stockd.specs.Program.{EndsCall, HasCauses, Outside}
+use Rattle.stockd.specs.Session.{Start, Surroundings, StandsAt, StandsFor, Session, first_state}
+use Rattle.stockd.specs.Store.{EndsLoading, EndsOpening, TellsFault}
+use Rattle.stockd.specs.Words.{Command}
 use Rattle.stockd.proofs.RunOn.{run_from}
-use Rattle.stockd.proofs.ServedOn.{if_found}
+
+-- a fault that is the first one, and is told, stops the loading
+stops_told : (text_of : List ℕ → Option (List ℕ)) (names : List (List ℕ)) (rose : Type 0) (faulty : FaultyModule) (why : Ending)
+    → IsFirstFault text_of names faulty → TellsFault faulty why → EndsLoading text_of names rose why
+stops_told text_of names rose faulty (ending.Module line) first told = (faulty, first, told)
+stops_told text_of names rose faulty ending.NoMemory first told = tt
+stops_told text_of names rose faulty ending.Done first told = absurd told
+stops_told text_of names rose faulty ending.Usage first told = absurd told
+stops_told text_of names rose faulty ending.ReadFault first told = absurd told
+stops_told text_of names rose faulty ending.WriteFault first told = absurd told
+stops_told text_of names rose faulty ending.KeeperFault first told = absurd told
+stops_told text_of names rose faulty (ending.Store cell) first told = absurd told
+stops_told text_of names rose faulty (ending.TooLong number) first told = absurd told
+
+-- of files that tell their texts
+pub loading_stops : (texts : Option (List ℕ → Option (List ℕ))) (folder : List ℕ) (names : List (List ℕ)) (rose : Type 0) (faulty : FaultyModule) (why : Ending)
+    → IfSome texts (λ texts. IsFirstFault (text_in texts folder) names faulty) → TellsFault faulty why → IfSome texts (λ texts. EndsLoading (text_in texts folder) names rose why)
+loading_stops None folder names rose faulty why first told = tt
+loading_stops (Some texts) folder names rose faulty why first told = stops_told (text_in texts folder) names rose faulty why first told
 
 -- a session from a later count of the keeper's faults on is one from an earlier one on
-pub session_from : (why : Ending) (start : Start) (faults : ℕ) (left_now : Option (List ℕ)) (now : Standing) → start.faults ≤ faults → Session why (record start { faults = faults }) left_now now → Session why start left_now now
-session_from why start faults left_now now h s = record {
-  models = s.models;
-  registry = s.registry;
+session_from : (models : List ModelInfo) (first : Tables) (why : Ending) (start : Start) (faults : ℕ) (left_now : Option (List ℕ)) (now : Surroundings) → start.faults ≤ faults
+    → Session models first why (record start { faults = faults }) left_now now → Session models first why start left_now now
+session_from models first why start faults left_now now h s = record {
   bodies = s.bodies;
   replies = s.replies;
   tables = s.tables;
   rest = s.rest;
-  run = run_from s.models (first_state start) (first_state (record start { faults = faults })) _ s.bodies s.replies (record { tables = refl; moments = refl; count = h }) s.run;
+  run = run_from models (first_state start first) (first_state (record start { faults = faults }) first) _ s.bodies s.replies (record { tables = refl; moments = refl; count = h }) s.run;
   coming_is = s.coming_is;
   store = s.store;
   kept_is = s.kept_is;
-  kept = s.kept;
+  stands = s.stands;
+  others = s.others;
   left = s.left;
   left_is = s.left_is;
   takes_in = s.takes_in;
@@ -41,7 +63,7 @@ session_from why start faults left_now now h s = record {
 }
 
 -- what the objects told before the store was opened they tell after it
-pub stands_after : (start : Start) (left : Option (List ℕ)) (old new : Standing) → new.kept ≡ old.kept → new.coming ≡ old.coming → new.written ≡ old.written → StandsAt start left old
+stands_after : (start : Start) (left : Option (List ℕ)) (old new : Surroundings) → new.kept ≡ old.kept → new.coming ≡ old.coming → new.written ≡ old.written → StandsAt start left old
     → StandsAt (record start { faults = new.faults }) left new
 stands_after start left old new kept coming written at = record {
   left_is = at.left_is;
@@ -51,24 +73,80 @@ stands_after start left old new kept coming written at = record {
   faults_are = refl;
 }
 
--- a new store has the rows of tables without rows
-keeps_none : (info : ModelInfo) (store : Store) → IsNew store → KeepsModel line_model info store empty_tables
-keeps_none info store new = record { rows = λ id. rw get-empty (new.no_row id); next = rw get-empty new.next }
+-- an engine that rests over a store rests at sound tables that are kept
+stands_for : (models : List ModelInfo) (held : Holding) (kept : Option Store) (store : Store) (tables : Tables) → held.models ≡ models → kept ≡ Some store → RestsAt kept held tables → StandsFor models tables store
+stands_for models held kept store tables same is rests =
+    let over = subst (λ k. IsSomeAnd k (StandsOver (resting held.models tables))) is rests.over in
+    record { kept = subst (λ m. Kept m tables store) same over.kept; sound = subst (λ m. AreSound m tables) same over.sound }
 
--- of each model of the registry, since it has no other
-pub new_is_kept : (models : List ModelInfo) → IsBuilt line_defs models → (store : Store) → IsNew store → Kept models store empty_tables
-new_is_kept models built store new model =
-    if_found (model_at models model) (λ info at.
-    let is_line : model ≡ line_model = ap (λ (n : ℕ). record { 0 = n }) (model_at-only models built model info at) in
-    subst (λ (m : ModelNo). KeepsModel m info store empty_tables) (sym is_line) (keeps_none info store new))
+is_there : (kept : Option Store) (store : Store) → kept ≡ Some store → IsSome kept
+is_there kept store is = ap is_some is
 
--- other words than `call` end with status 2, whatever the objects do
-pub other_words : (is_call : Type 0) (before after : Outside) (status : ℕ) → status ≡ 2 → (is_call → ⊥) → HasCauses is_call before after status
-other_words is_call before after status is not_call = record {
-  ending = Usage;
+module _ {D : Type 0} (faults : D → ℕ) (kept : D → Option Store) where
+  -- what a keeper, a clock and a sink tell
+  abbrev telling : D → Option (ℕ → ℤ) → Option (List ℕ) → Surroundings
+  telling keeper coming written = record { faults = faults keeper; kept = kept keeper; coming = coming; written = written }
+
+  -- An engine was opened over a keeper, and rested; a session was served over it, and the keeper is as the session left it.
+  pub opening_served : (models : List ModelInfo) (held : Holding) (start : Start) (left left_now : Option (List ℕ)) (coming coming_now : Option (ℕ → ℤ)) (written written_now : Option (List ℕ))
+      (before opened last after : D) (why : Ending)
+      → after ≡ last → held.models ≡ models → (IsSome (kept before) → (tables : Tables) × RestsAt (kept opened) held tables) → kept opened ≡ kept before → faults before ≤ faults opened
+      → ((start : Start) (first : Tables) → StandsAt start left (telling opened coming written) → RestsAt (kept opened) held first → Session held.models first why start left_now (telling last coming_now written_now))
+      → StandsAt start left (telling before coming written) → (first : Tables) × StandsFor models first start.store × Session models first why start left_now (telling after coming_now written_now)
+  opening_served models held start left left_now coming coming_now written written_now before opened last after why ends same rests kept_is count serves at =
+      let from = record start { faults = faults opened } in
+      let first = rests (is_there (kept before) start.store at.kept_is) in
+      let now = stands_after start left (telling before coming written) (telling opened coming written) kept_is refl refl at in
+      let session = subst (λ (m : List ModelInfo). Session m first.0 why from left_now (telling last coming_now written_now)) same (serves from first.0 now first.1) in
+      let ended = subst (λ (d : D). Session models first.0 why from left_now (telling d coming_now written_now)) (sym ends) session in (
+        first.0,
+        stands_for models held (kept opened) start.store first.0 same (kept_is ∙ at.kept_is) first.1,
+        session_from models first.0 why start (faults opened) left_now (telling after coming_now written_now) (omega (arith, at.faults_are, count)) ended,
+      )
+
+  -- so other rows stay
+  pub others_served : (models served : List ModelInfo) (before opened last after : D) → after ≡ last → served ≡ models → kept opened ≡ kept before
+      → OthersStay served (kept opened) (kept last) → OthersStay models (kept before) (kept after)
+  others_served models served before opened last after ends same kept_is stay =
+      let ended = subst (λ (d : D). OthersStay served (kept opened) (kept d)) (sym ends) stay in
+      subst (λ (k : Option Store). OthersStay models k (kept after)) kept_is (subst (λ (m : List ModelInfo). OthersStay m (kept opened) (kept after)) same ended)
+
+-- a fault of reading has its reason
+read_reason : (source output keeper : Type 0) (why : Ending) → HasReason source output keeper why → why ≡ ending.ReadFault → source
+read_reason source output keeper why reason is = subst (λ (w : Ending). HasReason source output keeper w) is reason
+
+-- the modules were loaded; what the opening did is what the call did
+pub ends_opened : (command : Command) (why : Ending) (start : Start) (rose source output keeper : Type 0) (left_now : Option (List ℕ)) (now : Surroundings) (models : List ModelInfo) (texts : Option (List ℕ → Option (List ℕ)))
+    → texts ≡ Some start.texts → IfSome texts (λ texts. IsLoaded (text_in texts command.folder) command.names models)
+    → (EndsOpening models start.store (Rose start.faults now.faults) why × StandsAt (record start { faults = now.faults }) left_now now)
+    ⊎ ((first : Tables) × StandsFor models first start.store × Session models first why start left_now now)
+    → HasReason source output keeper why → EndsCall command why start rose source left_now now
+ends_opened command why start rose source output keeper left_now now models texts told loaded (inl stopped) reason =
+    let loaded = subst (λ (t : Option (List ℕ → Option (List ℕ))). IfSome t (λ texts. IsLoaded (text_in texts command.folder) command.names models)) told loaded in
+    inr (inl (record { models = models; loaded = loaded; stops = stopped.0; same = stopped.1 }))
+ends_opened command why start rose source output keeper left_now now models texts told loaded (inr opened) reason =
+    let loaded = subst (λ (t : Option (List ℕ → Option (List ℕ))). IfSome t (λ texts. IsLoaded (text_in texts command.folder) command.names models)) told loaded in
+    inr (inr (record { models = models; loaded = loaded; first = opened.0; stands = opened.1; session = opened.2; read_fault = read_reason source output keeper why reason }))
+
+-- words that ask for nothing end with status 2, whatever the objects do
+pub no_command : (command : Option Command) (before after : Outside) (status : ℕ) → status ≡ 2 → command ≡ None → HasCauses command before after status
+no_command command before after status is none = record {
+  ending = ending.Usage;
   status_is = is;
-  usage = λ _. not_call;
+  usage = λ _. none;
   other_words = λ _. is;
+  read_fault = λ four. absurd (omega arith);
+  write_fault = λ five. absurd (omega arith);
+  keeper_fault = λ six. absurd (omega arith);
+}
+
+-- where memory is wanting for the words of a command
+pub no_room : (command : Option Command) (before after : Outside) (status : ℕ) → status ≡ 7 → (command ≡ None → ⊥) → HasCauses command before after status
+no_room command before after status is asked = record {
+  ending = ending.NoMemory;
+  status_is = is;
+  usage = λ two. absurd (omega arith);
+  other_words = λ none. absurd (asked none);
   read_fault = λ four. absurd (omega arith);
   write_fault = λ five. absurd (omega arith);
   keeper_fault = λ six. absurd (omega arith);

@@ -1,23 +1,23 @@
--- What is done for one body, over a keeper that tells its rows.
-use Rattle.std.specs.Prelude.{◌≡◌, ℕ, ℤ, List, Option, Some}
+-- What is done for one body, by an engine that rests at the machine's tables.
+use Rattle.std.specs.Prelude.{ℕ, ℤ, List, Option}
+use Rattle.ob_cache.specs.Standing.{Holding, RestsAt}
 use Rattle.ob_io.specs.Store.{Store}
-use Rattle.ob_orm.specs.Tables.{Tables}
-use Rattle.ob_orm.specs.Sound.{IsSound}
-use Rattle.ob_orm.specs.Kept.{Kept}
+use Rattle.ob_schema.specs.Tables.{Tables}
 use Rattle.ob_schema.specs.declared.info.ModelInfo.{ModelInfo}
 use Rattle.stockd.specs.Request.{Request}
 use Rattle.stockd.specs.Machine.{MayAnswer}
 
--- The machine may give this reply, and go on from old to tables with which the kept rows agree.
-pub record Serves (models : List ModelInfo) (old : Tables) (now : ℤ) (rose : Type 0) (request : Request) (reply : List ℕ) (kept_now : Option Store) : Type 0 where
-  pub store : Store
+-- The machine may give this reply, and go on from old to tables at which the engine then rests.
+pub record Serves (models : List ModelInfo) (old : Tables) (now : ℤ) (rose : Type 0) (request : Request) (reply : List ℕ) (kept_now : Option Store) (held_now : Holding) : Type 0 where
   pub tables : Tables
-  pub kept_is : kept_now ≡ Some store
-  pub kept : Kept models store tables
-  pub sound : IsSound models tables
+  pub rests : RestsAt kept_now held_now tables
   pub answer : MayAnswer models old now rose request reply tables
 
--- over a store with the rows of sound tables the request is served
-abbrev pub ServesOver : List ModelInfo → (before kept_now : Option Store) → ℤ → Type 0 → Request → List ℕ → Type 0
-ServesOver models before kept_now now rose request reply = (store : Store) (tables : Tables) → before ≡ Some store → Kept models store tables → IsSound models tables
-    → Serves models tables now rose request reply kept_now
+-- what an engine is over: its keeper's rows, where they are told, and what it holds
+pub record Over : Type 0 where
+  pub kept : Option Store
+  pub held : Holding
+
+-- at whatever tables the engine rests, the request is served
+abbrev pub ServesOver : (before after : Over) → ℤ → Type 0 → Request → List ℕ → Type 0
+ServesOver before after now rose request reply = (tables : Tables) → RestsAt before.kept before.held tables → Serves before.held.models tables now rose request reply after.kept after.held

@@ -1,11 +1,11 @@
 pub mod Lines
 pub mod LineSteps
-pub mod Model
 pub mod Request
 pub mod ModelCall
 pub mod Texts
 pub mod Machine
 pub mod Words
+pub mod WordPieces
 pub mod Ending
 pub mod Store
 pub mod Session

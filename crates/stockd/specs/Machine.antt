@@ -4,24 +4,24 @@ use Rattle.serde_json.specs.Data.{Data}
 use Rattle.ob_base.specs.declared.refusal.Refusal.{Refusal}
 use Rattle.ob_io.specs.Cause.{Rose}
 use Rattle.ob_io.specs.Moments.{later}
-use Rattle.ob_orm.specs.Tables.{Tables}
 use Rattle.ob_orm.specs.Create.{Creates}
 use Rattle.ob_orm.specs.Read.{Reads}
 use Rattle.ob_rpc.specs.Envelope.{Envelope, Fault, envelope_of}
 use Rattle.ob_rpc.specs.declared.methods.Served.TheVariants.{ExecuteKw}
 use Rattle.ob_schema.specs.Models.{model_at}
+use Rattle.ob_schema.specs.Tables.{Tables}
 use Rattle.ob_schema.specs.declared.info.ModelInfo.{ModelInfo}
 use Rattle.stockd.specs.Request.{Call, Method, create, read, Request, called, malformed, request_of}
 use Rattle.stockd.specs.Texts.{keeper_text, malformed_text, no_memory_text, outcome_text, told}
 
 -- the outcome of a method of a model at a moment, and the tables after it
-abbrev pub Does : Method → ModelInfo → Tables → ℤ → Call → Result Data Refusal → Tables → Type 0
-Does create info old now call outcome new = Creates call.model info now old call.args call.kw outcome new
-Does read info old now call outcome new = Reads call.model info old call.args call.kw outcome × (new ≡ old)
+abbrev pub Does : Method → List ModelInfo → ModelInfo → Tables → ℤ → Call → Result Data Refusal → Tables → Type 0
+Does create models info old now call outcome new = Creates models call.model info now old call.args call.kw outcome new
+Does read models info old now call outcome new = Reads models call.model info old call.args call.kw outcome × (new ≡ old)
 
 -- the outcome of a call at a moment, and the tables after it
 abbrev pub Calls : List ModelInfo → Tables → ℤ → Call → Result Data Refusal → Tables → Type 0
-Calls models old now call outcome new = IsSomeAnd (model_at models call.model) (λ info. Does call.method info old now call outcome new)
+Calls models old now call outcome new = IsSomeAnd (model_at models call.model) (λ info. Does call.method models info old now call outcome new)
 
 -- the defined answer to a request: its reply, and the tables after it
 abbrev pub Answers : List ModelInfo → Tables → ℤ → Request → List ℕ → Tables → Type 0

@@ -4,11 +4,12 @@ use Rattle.std.specs.Option.{option_map_or}
 use Rattle.ob_base.specs.declared.id.ModelNo.{ModelNo}
 use Rattle.ob_base.specs.declared.place.PathStep.{PathStep}
 use Rattle.ob_rpc.specs.Envelope.{Envelope, Fault, element_place, is_text}
-use Rattle.ob_schema.specs.Models.{model_named}
+use Rattle.ob_orm.specs.Served.{serves_calls}
+use Rattle.ob_schema.specs.Models.{model_at, model_named}
 use Rattle.ob_schema.specs.declared.info.ModelInfo.{ModelInfo}
 use Rattle.serde_json.specs.Data.{Data, object, no_members, Items, no_items, item}
 use Rattle.serde_json.specs.Events.{items_len}
-use Rattle.serde_json.specs.Find.{as_u64, as_number}
+use Rattle.serde_json.specs.Find.{as_number, as_str, as_u64}
 
 -- the methods that models serve so far
 pub data Method : Type 0 where
@@ -35,9 +36,13 @@ is_integer n d = option_map_or (λ m. m == n) (option_and_then as_u64 (as_number
 abbrev pub is_caller : (user key : Data) → Bool
 is_caller user key = is_integer 2 user && is_text (codes "admin") key
 
--- the model of a name, where it serves calls: so far `demo.line` alone
+-- the model, where it serves calls
+abbrev pub if_served : List ModelInfo → ModelNo → Option ModelNo
+if_served models model = if option_map_or serves_calls (model_at models model) false then Some model else None
+
+-- the model of a name, where there is one and it serves calls
 abbrev pub served_model : List ModelInfo → Data → Option ModelNo
-served_model models d = if is_text (codes "demo.line") d then model_named models (codes "demo.line") else None
+served_model models d = option_and_then (if_served models) (option_and_then (model_named models) (as_str d))
 
 -- the method of a name
 abbrev pub method_from : Data → Option Method

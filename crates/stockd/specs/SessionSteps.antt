@@ -1,15 +1,13 @@
 -- How far a session has come: what of the stream was read, and what was answered.
 use Rattle.std.specs.Prelude.{◌≡◌, ℕ, Bool, true, false, ℤ, List, [], ◌∷◌, ◌++◌, length, All, ◌≢◌, Option, Some}
-use Rattle.ob_io.specs.Store.{Store}
-use Rattle.ob_orm.specs.Tables.{Tables}
-use Rattle.ob_orm.specs.Sound.{IsSound}
-use Rattle.ob_orm.specs.Kept.{Kept}
-use Rattle.ob_schema.specs.declared.info.ModelInfo.{ModelInfo}
+use Rattle.ob_cache.specs.Kept.{OthersStay}
+use Rattle.ob_cache.specs.Standing.{Holding, RestsAt}
+use Rattle.ob_schema.specs.Tables.{Tables}
 use Rattle.stockd.specs.declared.ending.Ending.{Ending}
 use Rattle.stockd.specs.declared.ending.Ending.TheVariants.{WriteFault}
 use Rattle.stockd.specs.Lines.{lines_of, bodies_of, Reading, stream_of}
 use Rattle.stockd.specs.Machine.{Run}
-use Rattle.stockd.specs.Session.{reply_lines, NoneTooLong, TakesIn, WritesReplies, Start, Standing, first_state}
+use Rattle.stockd.specs.Session.{reply_lines, NoneTooLong, TakesIn, WritesReplies, Start, Surroundings, first_state}
 
 -- the lines, each with its line feed, as replies are written too
 abbrev pub whole_lines : List (List ℕ) → List ℕ
@@ -43,44 +41,46 @@ pub record StopsReading (why : Ending) (stream : List ℕ) (left_now : Option (L
   pub left_is : left_now ≡ Some left
   pub takes_in : TakesIn why stream left (bodies_of lines)
 
--- The machine answered these bodies over an empty store, and each reply is written on its
--- line: that is where the keeper, the clock and the sink stand.
-pub record HasServed (models : List ModelInfo) (start : Start) (bodies : List (List ℕ)) (now : Standing) : Type 0 where
+-- where a session stands, by what the objects tell and what its engine holds
+pub record Engaged : Type 0 where
+  pub now : Surroundings
+  pub held : Holding
+
+-- The machine answered these bodies from its first tables on, each reply is written on its line,
+-- and the engine rests at its tables: that is where the keeper, the clock and the sink stand.
+pub record HasServed (start : Start) (first : Tables) (bodies : List (List ℕ)) (at : Engaged) : Type 0 where
   pub replies : List (List ℕ)
   pub rest : ℕ → ℤ
   pub tables : Tables
-  pub store : Store
-  pub run : Run models (first_state start) bodies replies (record { tables = tables; moments = rest; faults = now.faults })
-  pub kept : Kept models store tables
-  pub sound : IsSound models tables
-  pub kept_is : now.kept ≡ Some store
-  pub coming_is : now.coming ≡ Some rest
-  pub written_is : now.written ≡ Some (start.written ++ reply_lines replies)
+  pub run : Run at.held.models (first_state start first) bodies replies (record { tables = tables; moments = rest; faults = at.now.faults })
+  pub rests : RestsAt at.now.kept at.held tables
+  pub others : OthersStay at.held.models (Some start.store) at.now.kept
+  pub coming_is : at.now.coming ≡ Some rest
+  pub written_is : at.now.written ≡ Some (start.written ++ reply_lines replies)
 
 -- The machine answered these bodies, and the sink failed within the last reply's line.
-pub record StopsWriting (models : List ModelInfo) (start : Start) (bodies : List (List ℕ)) (now : Standing) : Type 0 where
+pub record StopsWriting (start : Start) (first : Tables) (bodies : List (List ℕ)) (at : Engaged) : Type 0 where
   pub replies : List (List ℕ)
   pub rest : ℕ → ℤ
   pub tables : Tables
-  pub store : Store
   pub written : List ℕ
-  pub run : Run models (first_state start) bodies replies (record { tables = tables; moments = rest; faults = now.faults })
-  pub kept : Kept models store tables
-  pub kept_is : now.kept ≡ Some store
-  pub coming_is : now.coming ≡ Some rest
-  pub written_is : now.written ≡ Some (start.written ++ written)
+  pub run : Run at.held.models (first_state start first) bodies replies (record { tables = tables; moments = rest; faults = at.now.faults })
+  pub rests : RestsAt at.now.kept at.held tables
+  pub others : OthersStay at.held.models (Some start.store) at.now.kept
+  pub coming_is : at.now.coming ≡ Some rest
+  pub written_is : at.now.written ≡ Some (start.written ++ written)
   pub writes : WritesReplies WriteFault replies written
 
 -- Wherever a session stood, it stands so after these bodies more.
-abbrev pub ServesMore : List ModelInfo → List (List ℕ) → (old new : Standing) → Type 0
-ServesMore models more old new = (start : Start) (bodies : List (List ℕ)) → HasServed models start bodies old → HasServed models start (bodies ++ more) new
+abbrev pub ServesMore : List (List ℕ) → (old new : Engaged) → Type 0
+ServesMore more old new = (start : Start) (first : Tables) (bodies : List (List ℕ)) → HasServed start first bodies old → HasServed start first (bodies ++ more) new
 
 -- Wherever a session stood, it stops so within the reply to one body more.
-abbrev pub StopsAt : List ModelInfo → List ℕ → (old new : Standing) → Type 0
-StopsAt models body old new = (start : Start) (bodies : List (List ℕ)) → HasServed models start bodies old → StopsWriting models start (bodies ++ body ∷ []) new
+abbrev pub StopsAt : List ℕ → (old new : Engaged) → Type 0
+StopsAt body old new = (start : Start) (first : Tables) (bodies : List (List ℕ)) → HasServed start first bodies old → StopsWriting start first (bodies ++ body ∷ []) new
 
 -- A session that goes on: lines were read, and those that aren't blank were served.
-pub record GoesOn (models : List ModelInfo) (start : Start) (reader : Reading) (left_now : Option (List ℕ)) (now : Standing) : Type 0 where
+pub record GoesOn (start : Start) (first : Tables) (reader : Reading) (left_now : Option (List ℕ)) (at : Engaged) : Type 0 where
   pub lines : List (List ℕ)
   pub read : HasRead start.stream reader left_now lines
-  pub served : HasServed models start (bodies_of lines) now
+  pub served : HasServed start first (bodies_of lines) at

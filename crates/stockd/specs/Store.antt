@@ -1,55 +1,64 @@
--- What is kept: as it is found while it is opened, and as a create's commit leaves it.
-use Rattle.std.specs.Prelude.{◌≡◌, ℕ, ◌<◌, ◌⊎◌, List, Option, None, IsSome, MatchOption, ⊤}
-use Rattle.serde_json.specs.Data.{Data}
-use Rattle.ob_io.specs.declared.keeper.KeepFault.{KeepFault}
-use Rattle.ob_io.specs.declared.keeper.KeepFault.TheVariants as fault
-use Rattle.ob_io.specs.Store.{Store, row_at, next_of}
+-- Why a run stops before its session: its modules aren't loaded, or its store isn't opened.
+use Rattle.std.specs.Prelude.{◌≡◌, ℕ, List, Option, ⊤}
+use Rattle.ob_base.specs.declared.id.Cell.{Cell}
+use Rattle.ob_cache.specs.Opening.{IsInconsistent}
+use Rattle.ob_cache.specs.declared.fault.OpenFault.{OpenFault}
+use Rattle.ob_cache.specs.declared.fault.OpenFault.TheVariants as open_fault
+use Rattle.ob_io.specs.Store.{Store}
+use Rattle.ob_load.specs.FaultText.{fault_text}
+use Rattle.ob_load.specs.Loading.{IsFirstFault}
+use Rattle.ob_load.specs.declared.fault.FaultyModule.{FaultyModule}
+use Rattle.ob_orm.specs.RefusalText.{cell_text}
+use Rattle.ob_schema.specs.declared.info.ModelInfo.{ModelInfo}
 use Rattle.stockd.specs.declared.ending.Ending.{Ending}
 use Rattle.stockd.specs.declared.ending.Ending.TheVariants as ending
-use Rattle.stockd.specs.Model.{line_model}
-use Rattle.stockd.specs.Texts.{result_text, no_memory_text, keeper_text}
 
--- the model has no row
-abbrev pub HasNoRow : Store → Type 0
-HasNoRow store = (id : ℕ) → row_at store line_model (record { 0 = id }) ≡ None
+-- the first thing that stands against the modules of these names is told, where this is the text of each
+abbrev pub TellsModule : (text_of : List ℕ → Option (List ℕ)) → (names : List (List ℕ)) → List ℕ → Type 0
+TellsModule text_of names line = (faulty : FaultyModule) × IsFirstFault text_of names faulty × (line ≡ fault_text faulty)
 
--- the model has a row of this id, and none of a lower one
-abbrev pub IsLeastRow : Store → ℕ → Type 0
-IsLeastRow store id = IsSome (row_at store line_model (record { 0 = id })) × ((other : ℕ) → other < id → row_at store line_model (record { 0 = other }) ≡ None)
+-- what a loading ends with where it doesn't lead to a registry
+abbrev pub EndsLoading : (text_of : List ℕ → Option (List ℕ)) → (names : List (List ℕ)) → (rose : Type 0) → Ending → Type 0
+EndsLoading text_of names rose (ending.Module line) = TellsModule text_of names line
+EndsLoading text_of names rose ending.ReadFault = rose
+EndsLoading text_of names rose ending.NoMemory = ⊤
+EndsLoading text_of names rose _ = ⊥
 
--- the least id of a row, or that there is none
-abbrev pub IsLeastOf : Store → Option ℕ → Type 0
-IsLeastOf store least = MatchOption least (HasNoRow store) (IsLeastRow store)
+-- the same whatever the files tell
+abbrev pub MayEndLoading : Type 0 → Ending → Type 0
+MayEndLoading rose (ending.Module line) = ⊤
+MayEndLoading rose ending.ReadFault = rose
+MayEndLoading rose ending.NoMemory = ⊤
+MayEndLoading rose _ = ⊥
 
--- no row of the model is kept, and its next id is 1
-pub record IsNew (store : Store) : Type 0 where
-  pub no_row : HasNoRow store
-  pub next : next_of store line_model ≡ 1
-
--- why a store isn't opened: it isn't new, and the least id of a row is named, or else its next id
-abbrev pub IsOldBy : Store → ℕ → Type 0
-IsOldBy store id = IsLeastRow store id ⊎ (HasNoRow store × (id ≡ next_of store line_model) × (id ≡ 1 → ⊥))
+-- a cell is told that shows that no sound tables have the rows
+abbrev pub TellsCell : List ModelInfo → Store → List ℕ → Type 0
+TellsCell models store text = (cell : Cell) × IsInconsistent models store cell × (text ≡ cell_text models cell)
 
 -- what an opening ends with where it doesn't lead to a session
-abbrev pub StopsOpening : Store → Type 0 → Ending → Type 0
-StopsOpening store rose ending.KeeperFault = rose
-StopsOpening store rose ending.NoMemory = ⊤
-StopsOpening store rose (ending.Store id) = IsOldBy store id
-StopsOpening store rose _ = ⊥
+abbrev pub EndsOpening : List ModelInfo → Store → Type 0 → Ending → Type 0
+EndsOpening models store rose (ending.Store text) = TellsCell models store text
+EndsOpening models store rose ending.KeeperFault = rose
+EndsOpening models store rose ending.NoMemory = ⊤
+EndsOpening models store rose _ = ⊥
 
 -- the same whatever the keeper tells
-abbrev pub MayStop : Type 0 → Ending → Type 0
-MayStop rose ending.KeeperFault = rose
-MayStop rose ending.NoMemory = ⊤
-MayStop rose (ending.Store id) = ⊤
-MayStop rose _ = ⊥
+abbrev pub MayEndOpening : Type 0 → Ending → Type 0
+MayEndOpening rose (ending.Store text) = ⊤
+MayEndOpening rose ending.KeeperFault = rose
+MayEndOpening rose ending.NoMemory = ⊤
+MayEndOpening rose _ = ⊥
 
--- the ending of a run whose keeper fails so while the store is opened
-abbrev pub fault_ending : KeepFault → Ending
-fault_ending fault.Failed = ending.KeeperFault
-fault_ending fault.NoMemory = ending.NoMemory
+-- a fault is told; or memory is wanting for its text
+abbrev pub TellsFault : FaultyModule → Ending → Type 0
+TellsFault faulty (ending.Module line) = line ≡ fault_text faulty
+TellsFault faulty ending.NoMemory = ⊤
+TellsFault faulty _ = ⊥
 
--- the changes were kept and the result is told; or nothing was, for want of memory or a fault of the keeper
-abbrev pub Keeps : Type 0 → Data → Data → (before committed now : Option Store) → List ℕ → Type 0
-Keeps rose id json before committed now reply = ((now ≡ committed) × (reply ≡ result_text id json))
-    ⊎ ((now ≡ before) × ((reply ≡ no_memory_text) ⊎ (rose × (reply ≡ keeper_text id))))
+-- the ending of a run whose store isn't opened, by why; or memory is wanting for its text
+abbrev pub IsOpeningEnding : List ModelInfo → OpenFault → Ending → Type 0
+IsOpeningEnding models (open_fault.Inconsistent cell) (ending.Store text) = text ≡ cell_text models cell
+IsOpeningEnding models open_fault.Keeper ending.KeeperFault = ⊤
+IsOpeningEnding models open_fault.Keeper _ = ⊥
+IsOpeningEnding models _ ending.NoMemory = ⊤
+IsOpeningEnding models _ _ = ⊥

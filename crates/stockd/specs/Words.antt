@@ -1,8 +1,107 @@
--- The words that a run is given.
-use Rattle.std.specs.Prelude.{◌≡◌, List, [], ◌∷◌, codes, map, string_bytes}
+-- What the words of the command line ask for.
+use Rattle.std.specs.Prelude.{◌≡◌, ℕ, ◌==◌, ◌&&◌, nat_le, List, [], ◌∷◌, codes, length, filter, map, string_bytes, Bool, true, false, not, if◌then◌else◌, Option, Some, None, option_map, option_and_then}
+use Rattle.std.specs.List.{after_first, before_first, filter_map, list_any}
+use Rattle.std.specs.Str.{bytes_eq}
 use Rattle.std.specs.declared.alloc.Global.{Global}
 use Rattle.std.specs.declared.string.String.{String}
+use Rattle.ob_definition.specs.Names.{is_field_name}
 
--- the one word `call`
-abbrev pub IsCall : List (String Global) → Type 0
-IsCall words = map string_bytes words ≡ codes "call" ∷ []
+-- an option, by its name: the folder of module texts, or a module to load
+pub data Setting : Type 0 where
+  modules : Setting
+  load : Setting
+
+-- what one word says: the action, an option whose value is the next word, a folder, or a module
+pub data Piece : Type 0 where
+  call : Piece
+  awaiting : Setting → Piece
+  folder : List ℕ → Piece
+  loads : List ℕ → Piece
+
+-- the option of a name
+abbrev pub setting_of : List ℕ → Option Setting
+setting_of name = if bytes_eq name (codes "--modules") then Some modules else if bytes_eq name (codes "--load") then Some load else None
+
+-- a folder is any text that doesn't begin with a hyphen, of a byte at least
+abbrev pub is_folder : List ℕ → Bool
+is_folder [] = false
+is_folder (byte ∷ _) = not (byte == 45)
+
+-- a module is named as a field is
+abbrev pub is_module_name : List ℕ → Bool
+is_module_name name = is_field_name name
+
+-- what a value says of an option, where it may
+abbrev pub valued : Setting → List ℕ → Option Piece
+valued modules text = if is_folder text then Some (folder text) else None
+valued load text = if is_module_name text then Some (loads text) else None
+
+-- an equals sign stands between an option and its value in one word
+abbrev pub is_equals : ℕ → Bool
+is_equals byte = byte == 61
+
+-- an option with its value, or one whose value is the next word
+abbrev pub option_piece : List ℕ → Option Piece
+option_piece word =
+    if list_any is_equals word then option_and_then (λ setting. valued setting (after_first is_equals word)) (setting_of (before_first is_equals word))
+    else option_map awaiting (setting_of word)
+
+-- what a word says that is no value
+abbrev pub begun : List ℕ → Option Piece
+begun word = if bytes_eq word (codes "call") then Some call else option_piece word
+
+-- what a word says, by the option that waits for its value
+abbrev pub piece_of : Option Setting → List ℕ → Option Piece
+piece_of None word = begun word
+piece_of (Some setting) word = valued setting word
+
+-- the option that waits for its value behind a piece
+abbrev pub waits_of : Piece → Option Setting
+waits_of (awaiting setting) = Some setting
+waits_of _ = None
+
+-- what all words say in turn; no option may wait at the end
+abbrev pub pieces_from : Option Setting → List (List ℕ) → Option (List Piece)
+pieces_from None [] = Some []
+pieces_from (Some _) [] = None
+pieces_from waits (word ∷ words) = option_and_then (λ piece. option_map (λ more. piece ∷ more) (pieces_from (waits_of piece) words)) (piece_of waits word)
+
+-- the one action that is served
+abbrev pub is_action : Piece → Bool
+is_action call = true
+is_action _ = false
+
+-- the folder that a piece names
+abbrev pub folder_in : Piece → Option (List ℕ)
+folder_in (folder text) = Some text
+folder_in _ = None
+
+-- the module that a piece names
+abbrev pub module_in : Piece → Option (List ℕ)
+module_in (loads name) = Some name
+module_in _ = None
+
+-- the one text of a list, or what stands for none
+abbrev pub one_or : List ℕ → List (List ℕ) → List ℕ
+one_or default [] = default
+one_or default (text ∷ _) = text
+
+-- what a run is asked for: modules by their names, and the folder where their texts are
+pub record Command : Type 0 where
+  pub folder : List ℕ
+  pub names : List (List ℕ)
+
+-- the action once and a folder at most once, in any order with the modules; the folder is `modules` where none is named
+abbrev pub command_from : List Piece → Option Command
+command_from pieces =
+    if length (filter is_action pieces) == 1 && nat_le (length (filter_map folder_in pieces)) 1
+    then Some (record { folder = one_or (codes "modules") (filter_map folder_in pieces); names = filter_map module_in pieces })
+    else None
+
+-- what words ask for, where they may
+abbrev pub command_of : List (String Global) → Option Command
+command_of words = option_and_then command_from (pieces_from None (map string_bytes words))
+
+-- no command is asked for
+abbrev pub IsUsage : List (String Global) → Type 0
+IsUsage words = command_of words ≡ None

@@ -1,34 +1,36 @@
 //! The reply to one body. A reply's bytes are made before its changes are committed,
 //! so that want of memory for them comes before anything is kept.
 
-ghost use Rattle.std.specs.Prelude.{◌≡◌, ◌≤◌, ◌⊎◌, ℕ, ℤ, Some, Err, false, option_map, All};
+ghost use Rattle.std.specs.Prelude.{◌≡◌, ◌≤◌, ◌⊎◌, ℕ, ℤ, IfSome, Some, Err, false, option_map};
 ghost use Rattle.serde_json.specs.View.{view, items_view};
 ghost use Rattle.serde_json.specs.Written.{has_float};
 ghost use Rattle.ob_base.specs.Times.{IsMoment};
+ghost use Rattle.ob_cache.specs.Kept.{OthersStay};
+ghost use Rattle.ob_cache.specs.Standing.{IsAtRest, NextIdsUpTo, RestsAt, Stands, max_next_id};
+ghost use Rattle.ob_cache.specs.declared.stages.Phase.TheVariants as phase;
 ghost use Rattle.ob_io.specs.Cause.{Rose};
-ghost use Rattle.ob_io.specs.Store.{Store, IsChangeFit, all_changed};
+ghost use Rattle.ob_orm.specs.Answer.{settled_over};
+ghost use Rattle.ob_orm.specs.RefusalText.{refusal_message, refusal_name};
+ghost use Rattle.ob_orm.specs.Served.{IsServed};
 ghost use Rattle.ob_rpc.specs.Envelope.{element_place, envelope_of};
 ghost use Rattle.ob_rpc.specs.declared.methods.Served.TheVariants.{ExecuteKw};
 ghost use Rattle.ob_rpc.specs.Reply.{error, reply_form, reply_of, OutcomeHasNoFloat};
-ghost use Rattle.ob_orm.specs.RefusalText.{refusal_message, refusal_name};
-ghost use Rattle.ob_orm.specs.Tables.{Tables};
-ghost use Rattle.ob_orm.specs.Sound.{IsSound};
-ghost use Rattle.ob_orm.specs.Kept.{Kept, OthersStay};
-ghost use Rattle.stockd.specs.Machine.{moments_after};
-ghost use Rattle.stockd.specs.Model.{IsLineRegistry, line_model};
-ghost use Rattle.stockd.specs.ModelCall.{call_view};
-ghost use Rattle.stockd.specs.Request.{call_of, called, create, read, request_by, request_of};
+ghost use Rattle.ob_schema.specs.Models.{HasModel, model_at};
+ghost use Rattle.ob_schema.specs.Tables.{Tables};
 ghost use Rattle.stockd.specs.Body.{Serves, ServesOver};
-ghost use Rattle.stockd.specs.Reply.{MayTell, text_of};
-ghost use Rattle.stockd.specs.Store.{Keeps};
+ghost use Rattle.stockd.specs.Machine.{moments_after};
+ghost use Rattle.stockd.specs.ModelCall.{call_view};
+ghost use Rattle.stockd.specs.Reply.{Keeps, MayTell, text_of};
+ghost use Rattle.stockd.specs.Request.{call_of, called, create, read, request_by, request_of};
 ghost use Rattle.stockd.specs.Texts.{malformed_text, no_memory_text, outcome_text, told};
 
 use crate::places::{body_place, element_place};
 use crate::request::{Method, ModelCall, call_of};
 use ob_base::{Ledger, NoMemory, RecId, Refusal, Steps, Word};
+use ob_cache::Engine;
 use ob_call::Call;
 use ob_io::{Clock, KeepFault, Keeper};
-use ob_orm::{Created, create, read, refusal_text};
+use ob_orm::{create, read, refusal_text};
 use ob_rpc::{EnvFault, Envelope, Json, Outcome, Served, envelope, no_memory_reply, reply_text};
 use ob_schema::Schema;
 use serde_json::Map;
@@ -59,32 +61,38 @@ impl Reply {
 /// Answers one body, and carries out what it asks for.
 pub(crate) fn answer<K: Keeper, C: Clock, L: Ledger>(
     alloc: Global,
-    keeper: &mut K,
+    engine: &mut Engine<'_, K>,
     clock: &mut C,
-    schema: &Schema,
     steps: &mut Steps<L>,
     body: &[u8],
 ) -> Reply
-    requires { IsLineRegistry schema.now }
+    requires rest { IsAtRest engine.old.held.models engine.old.held }
 
-    // Over a keeper that tells its rows, and a clock that tells its moments, it is a step of the machine.
-    ensures served { (store : Store) (tables : Tables) (moments : ℕ → ℤ) → K.kept keeper.old ≡ Some store → C.coming clock.old ≡ Some moments
-        → Kept schema.now store tables → IsSound schema.now tables
-        → Serves schema.now tables (moments 0) (Rose (K.faults keeper.old) (K.faults keeper.new))
-        (request_of schema.now (envelope_of ExecuteKw body.now)) (text_of result) (K.kept keeper.new) }
+    // Over a keeper that tells its rows, and a clock that tells its moments, it is a step of
+    // the machine.
+    ensures served { (tables : Tables) (moments : ℕ → ℤ) → RestsAt (K.kept engine.old.keeper.now) engine.old.held tables → C.coming clock.old ≡ Some moments
+        → Serves engine.old.held.models tables (moments 0) (Rose (K.faults engine.old.keeper.now) (K.faults engine.new.keeper.now))
+        (request_of engine.old.held.models (envelope_of ExecuteKw body.now)) (text_of result) (K.kept engine.new.keeper.now) engine.new.held }
     // A request takes one moment. Where memory is wanting to read the body, none is taken.
     ensures moments { (C.coming clock.new ≡ option_map (moments_after (envelope_of ExecuteKw body.now)) (C.coming clock.old))
         ⊎ ((text_of result ≡ no_memory_text) × (C.coming clock.new ≡ C.coming clock.old)) }
     // Rows of other models stay.
-    ensures others { OthersStay line_model (K.kept keeper.old) (K.kept keeper.new) }
-    ensures count { K.faults keeper.old ≤ K.faults keeper.new }
+    ensures others { OthersStay engine.old.held.models (K.kept engine.old.keeper.now) (K.kept engine.new.keeper.now) }
+    ensures rests { IsAtRest engine.old.held.models engine.new.held }
+    ensures lender { engine.new.keeper.ghost_name ≡ engine.old.keeper.ghost_name }
+    ensures count { K.faults engine.old.keeper.now ≤ K.faults engine.new.keeper.now }
 {
     match envelope(alloc, Served::ExecuteKw, body) {
         Ok(envelope) => {
             let now = clock.now();
-            serve(alloc, keeper, now, schema, steps, &envelope)
+            serve(alloc, engine, now, steps, &envelope)
         }
-        Err(EnvFault::At(place, id)) => refused(alloc, schema, &id, &Refusal::Request(place)),
+        Err(EnvFault::At(place, id)) => refused(
+            alloc,
+            engine.schema(),
+            &id,
+            &Refusal::Request(place),
+        ),
         Err(EnvFault::NoMemory) => Reply::NoMemory,
     }
 }
@@ -92,44 +100,49 @@ pub(crate) fn answer<K: Keeper, C: Clock, L: Ledger>(
 /// Answers the request of an envelope at its moment.
 fn serve<K: Keeper, L: Ledger>(
     alloc: Global,
-    keeper: &mut K,
+    engine: &mut Engine<'_, K>,
     now: i64,
-    schema: &Schema,
     steps: &mut Steps<L>,
     envelope: &Envelope,
 ) -> Reply
-    requires built { IsLineRegistry schema.now }
+    requires rest { IsAtRest engine.old.held.models engine.old.held }
     requires moment { IsMoment now }
     requires id { has_float (view envelope.now.id) ≡ false }
-    ensures served { ServesOver schema.now (K.kept keeper.old) (K.kept keeper.new) now (Rose (K.faults keeper.old) (K.faults keeper.new))
-        (request_by (view envelope.now.id) (call_of schema.now (items_view envelope.now.args))) (text_of result) }
-    ensures others { OthersStay line_model (K.kept keeper.old) (K.kept keeper.new) }
-    ensures count { K.faults keeper.old ≤ K.faults keeper.new }
+    ensures served { ServesOver (record { kept = K.kept engine.old.keeper.now; held = engine.old.held }) (record { kept = K.kept engine.new.keeper.now; held = engine.new.held })
+        now (Rose (K.faults engine.old.keeper.now) (K.faults engine.new.keeper.now))
+        (request_by (view envelope.now.id) (call_of engine.old.held.models (items_view envelope.now.args))) (text_of result) }
+    ensures others { OthersStay engine.old.held.models (K.kept engine.old.keeper.now) (K.kept engine.new.keeper.now) }
+    ensures rests { IsAtRest engine.old.held.models engine.new.held }
+    ensures lender { engine.new.keeper.ghost_name ≡ engine.old.keeper.ghost_name }
+    ensures count { K.faults engine.old.keeper.now ≤ K.faults engine.new.keeper.now }
 {
-    match call_of(schema, envelope.args.as_slice()) {
-        Ok(call) => serve_call(alloc, keeper, now, schema, steps, &envelope.id, &call),
-        Err(number) => element_refused(alloc, schema, &envelope.id, number),
+    match call_of(engine.schema(), envelope.args.as_slice()) {
+        Ok(call) => serve_call(alloc, engine, now, steps, &envelope.id, &call),
+        Err(number) => element_refused(alloc, engine.schema(), &envelope.id, number),
     }
 }
 
 /// Answers a call at its moment. Arguments by name may be absent, and are none then.
 fn serve_call<K: Keeper, L: Ledger>(
     alloc: Global,
-    keeper: &mut K,
+    engine: &mut Engine<'_, K>,
     now: i64,
-    schema: &Schema,
     steps: &mut Steps<L>,
     id: &Json,
     call: &ModelCall<'_>,
 ) -> Reply
-    requires built { IsLineRegistry schema.now }
+    requires rest { IsAtRest engine.old.held.models engine.old.held }
     requires moment { IsMoment now }
-    requires model { call.now.model ≡ line_model }
+    requires model { HasModel engine.old.held.models call.now.model }
+    requires model_served { IfSome (model_at engine.old.held.models call.now.model) IsServed }
     requires id { has_float (view id.now) ≡ false }
-    ensures served { ServesOver schema.now (K.kept keeper.old) (K.kept keeper.new) now (Rose (K.faults keeper.old) (K.faults keeper.new))
+    ensures served { ServesOver (record { kept = K.kept engine.old.keeper.now; held = engine.old.held }) (record { kept = K.kept engine.new.keeper.now; held = engine.new.held })
+        now (Rose (K.faults engine.old.keeper.now) (K.faults engine.new.keeper.now))
         (called (view id.now) (call_view call.now)) (text_of result) }
-    ensures others { OthersStay line_model (K.kept keeper.old) (K.kept keeper.new) }
-    ensures count { K.faults keeper.old ≤ K.faults keeper.new }
+    ensures others { OthersStay engine.old.held.models (K.kept engine.old.keeper.now) (K.kept engine.new.keeper.now) }
+    ensures rests { IsAtRest engine.old.held.models engine.new.held }
+    ensures lender { engine.new.keeper.ghost_name ≡ engine.old.keeper.ghost_name }
+    ensures count { K.faults engine.old.keeper.now ≤ K.faults engine.new.keeper.now }
 {
     let none = Json::Object(Map::new(alloc));
     let called = Call {
@@ -140,82 +153,89 @@ fn serve_call<K: Keeper, L: Ledger>(
         kw: call.kw.unwrap_or(&none),
     };
     match call.method {
-        Method::Create => serve_create(alloc, keeper, schema, steps, id, &called),
-        Method::Read => serve_read(alloc, keeper, schema, steps, id, &called),
+        Method::Create => serve_create(alloc, engine, steps, id, &called),
+        Method::Read => serve_read(alloc, engine, steps, id, &called),
     }
 }
 
 /// Answers a create.
 fn serve_create<K: Keeper, L: Ledger>(
     alloc: Global,
-    keeper: &mut K,
-    schema: &Schema,
+    engine: &mut Engine<'_, K>,
     steps: &mut Steps<L>,
     id: &Json,
     call: &Call<'_>,
 ) -> Reply
-    requires built { IsLineRegistry schema.now }
+    requires rest { IsAtRest engine.old.held.models engine.old.held }
     requires moment { IsMoment call.now.now }
-    requires model { call.now.model ≡ line_model }
+    requires model { HasModel engine.old.held.models call.now.model }
+    requires model_served { IfSome (model_at engine.old.held.models call.now.model) IsServed }
     requires id { has_float (view id.now) ≡ false }
-    ensures served { ServesOver schema.now (K.kept keeper.old) (K.kept keeper.new) call.entry.now.now (Rose (K.faults keeper.old) (K.faults keeper.new))
+    ensures served { ServesOver (record { kept = K.kept engine.old.keeper.now; held = engine.old.held }) (record { kept = K.kept engine.new.keeper.now; held = engine.new.held })
+        call.entry.now.now (Rose (K.faults engine.old.keeper.now) (K.faults engine.new.keeper.now))
         (called (view id.now) (record { model = call.entry.now.model; method = create; args = view call.entry.now.args.now; kw = view call.entry.now.kw.now })) (text_of result) }
-    ensures others { OthersStay line_model (K.kept keeper.old) (K.kept keeper.new) }
-    ensures count { K.faults keeper.old ≤ K.faults keeper.new }
+    ensures others { OthersStay engine.old.held.models (K.kept engine.old.keeper.now) (K.kept engine.new.keeper.now) }
+    ensures rests { IsAtRest engine.old.held.models engine.new.held }
+    ensures lender { engine.new.keeper.ghost_name ≡ engine.old.keeper.ghost_name }
+    ensures count { K.faults engine.old.keeper.now ≤ K.faults engine.new.keeper.now }
 {
-    match create(alloc, keeper, schema, call, steps) {
-        Ok(created) => keep(alloc, keeper, schema, id, created),
-        Err(refusal) => call_refused(alloc, schema, id, refusal),
+    match create(alloc, engine, call, steps) {
+        Ok(json) => keep(alloc, engine, id, json),
+        Err(refusal) => call_refused(alloc, engine.schema(), id, refusal),
     }
 }
 
 /// Answers a read.
 fn serve_read<K: Keeper, L: Ledger>(
     alloc: Global,
-    keeper: &mut K,
-    schema: &Schema,
+    engine: &mut Engine<'_, K>,
     steps: &mut Steps<L>,
     id: &Json,
     call: &Call<'_>,
 ) -> Reply
-    requires built { IsLineRegistry schema.now }
+    requires rest { IsAtRest engine.old.held.models engine.old.held }
     requires moment { IsMoment call.now.now }
-    requires model { call.now.model ≡ line_model }
+    requires model { HasModel engine.old.held.models call.now.model }
+    requires model_served { IfSome (model_at engine.old.held.models call.now.model) IsServed }
     requires id { has_float (view id.now) ≡ false }
-    ensures served { ServesOver schema.now (K.kept keeper.old) (K.kept keeper.new) call.entry.now.now (Rose (K.faults keeper.old) (K.faults keeper.new))
+    ensures served { ServesOver (record { kept = K.kept engine.old.keeper.now; held = engine.old.held }) (record { kept = K.kept engine.new.keeper.now; held = engine.new.held })
+        call.entry.now.now (Rose (K.faults engine.old.keeper.now) (K.faults engine.new.keeper.now))
         (called (view id.now) (record { model = call.entry.now.model; method = read; args = view call.entry.now.args.now; kw = view call.entry.now.kw.now })) (text_of result) }
-    ensures others { OthersStay line_model (K.kept keeper.old) (K.kept keeper.new) }
-    ensures count { K.faults keeper.old ≤ K.faults keeper.new }
+    ensures others { OthersStay engine.old.held.models (K.kept engine.old.keeper.now) (K.kept engine.new.keeper.now) }
+    ensures rests { IsAtRest engine.old.held.models engine.new.held }
+    ensures lender { engine.new.keeper.ghost_name ≡ engine.old.keeper.ghost_name }
+    ensures count { K.faults engine.old.keeper.now ≤ K.faults engine.new.keeper.now }
 {
-    match read(alloc, keeper, schema, call, steps) {
+    match read(alloc, engine, call, steps) {
         Ok(json) => told(alloc, id, &Outcome::Result(json)),
-        Err(refusal) => call_refused(alloc, schema, id, refusal),
+        Err(refusal) => call_refused(alloc, engine.schema(), id, refusal),
     }
 }
 
-/// Makes the reply to a create, and then commits its changes.
-fn keep<K: Keeper>(
-    alloc: Global,
-    keeper: &mut K,
-    schema: &Schema,
-    id: &Json,
-    created: Created,
-) -> Reply
-    requires fits { All IsChangeFit created.changes }
+/// Makes the reply to a call that is settled, and then keeps its changes; or neither.
+fn keep<K: Keeper>(alloc: Global, engine: &mut Engine<'_, K>, id: &Json, json: Json) -> Reply
+    requires settled { engine.old.held.phase ≡ phase.Settled }
+    requires next_ids { NextIdsUpTo max_next_id engine.old.held }
     requires id { has_float (view id.now) ≡ false }
-    requires json { has_float (view created.json) ≡ false }
-    ensures kept { Keeps (Rose (K.faults keeper.old) (K.faults keeper.new)) (view id.now) (view created.json)
-        (K.kept keeper.old) (option_map (all_changed created.changes) (K.kept keeper.old)) (K.kept keeper.new) (text_of result) }
-    ensures count { K.faults keeper.old ≤ K.faults keeper.new }
+    requires json { has_float (view json) ≡ false }
+    ensures kept { (old next : Tables) → Stands (K.kept engine.old.keeper.now) engine.old.held (settled_over engine.old.held.models old next)
+        → Keeps (Rose (K.faults engine.old.keeper.now) (K.faults engine.new.keeper.now)) (view id.now) (view json) old next (K.kept engine.new.keeper.now) engine.new.held (text_of result) }
+    ensures rests { IsAtRest engine.old.held.models engine.new.held }
+    ensures lender { engine.new.keeper.ghost_name ≡ engine.old.keeper.ghost_name }
+    ensures count { K.faults engine.old.keeper.now ≤ K.faults engine.new.keeper.now }
+    ensures others { OthersStay engine.old.held.models (K.kept engine.old.keeper.now) (K.kept engine.new.keeper.now) }
 {
-    let Created { json, changes } = created;
     let Ok(text) = reply_text(alloc, id, &Outcome::Result(json)) else {
+        engine.forget();
         return Reply::NoMemory;
     };
-    match keeper.commit(changes.as_slice()) {
-        Ok(()) => Reply::Text(text),
-        Err(KeepFault::Failed) => refused(alloc, schema, id, &Refusal::Keeper),
-        Err(KeepFault::NoMemory) => Reply::NoMemory,
+    let Err(fault) = engine.flush() else {
+        return Reply::Text(text);
+    };
+    engine.forget();
+    match fault {
+        KeepFault::Failed => refused(alloc, engine.schema(), id, &Refusal::Keeper),
+        KeepFault::NoMemory => Reply::NoMemory,
     }
 }
 

@@ -1,19 +1,18 @@
-//! The program `stockd`: a business-object server. It runs over the host's input,
+//! The program `stockd`: a business-object server. It runs over the host's files, input,
 //! output and clock, and keeps its rows in memory. The contract of `run`: its replies are
 //! those of a machine that keeps plain fields alone and evaluates each computed field from
 //! scratch, its rows are the machine's tables, and its status has a cause.
 //!
-//! Rooms: `run` has a whole run, over any objects; `session` serves the lines of the
-//! input, `lines` cuts them, `request` reads what one asks for, `answer` answers it, and
-//! `places` says where it is wrong; `model` has the definitions that are served; `output`
-//! writes, and `ending` says how a run ends; `start` has the words of the command line and
-//! the host's things. Nothing but `main` stands here.
+//! Rooms: `run` has a whole run, over any objects; `words` says what it is asked for;
+//! `session` serves the lines of the input, `lines` cuts them, `request` reads what one asks
+//! for, `answer` answers it, and `places` says where it is wrong; `output` writes, and `ending`
+//! says how a run ends; `start` has the words of the command line and the host's things.
+//! Nothing but `main` stands here.
 #![tactic(auto)]
 
 mod answer;
 mod ending;
 mod lines;
-mod model;
 mod output;
 mod places;
 mod request;
@@ -22,10 +21,11 @@ mod session;
 mod start;
 #[cfg(test)]
 mod tests;
+mod words;
 
 pub use run::run;
 use std::process::ExitCode;
 
 fn main(rt: HostRuntime) -> ExitCode {
-    ExitCode::from(start::started(&rt))
+    ExitCode::from(start::started(&rt, &rt))
 }

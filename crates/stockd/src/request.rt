@@ -1,16 +1,16 @@
-//! What the elements of an envelope ask for: a call of a model. The caller, the models and
-//! the methods that are served so far stand here; the first element that is wrong is told
-//! by its number.
+//! What the elements of an envelope ask for: a call of a model. The caller and the methods that
+//! are served so far stand here; the first element that is wrong is told by its number.
 
-ghost use Rattle.std.specs.Prelude.{◌≡◌, option_map, codes, IfOk, IfSome, Some};
-ghost use Rattle.ob_schema.specs.Models.{model_named};
+ghost use Rattle.std.specs.Prelude.{◌≡◌, option_map, IfOk, IfSome};
+ghost use Rattle.ob_orm.specs.Served.{IsServed};
+ghost use Rattle.ob_schema.specs.Models.{HasModel, model_at};
 ghost use Rattle.serde_json.specs.View.{view, items_view};
 ghost use Rattle.stockd.specs.ModelCall.{CallIs, method_view};
 ghost use Rattle.stockd.specs.Request.{call_of, is_caller, is_integer, method_from, served_model};
 ghost use Rattle.ob_rpc.specs.Envelope.{is_text};
 
-use crate::model::LINE_NAME;
 use ob_base::ModelNo;
+use ob_orm::serves_calls;
 use ob_rpc::Json;
 use ob_schema::Schema;
 
@@ -34,7 +34,7 @@ pub(crate) struct ModelCall<'a> {
 /// arguments by name. Or the number of the first that is wrong, or that is missing.
 pub(crate) fn call_of<'a>(schema: &Schema, elements: &'a [Json]) -> Result<ModelCall<'a>, u64>
     ensures found { CallIs result (call_of schema.now (items_view elements.now)) }
-    ensures model { IfOk result (λ call. model_named schema.now (codes "demo.line") ≡ Some call.model) }
+    ensures model { IfOk result (λ call. HasModel schema.now call.model × IfSome (model_at schema.now call.model) IsServed) }
 {
     let [db, user, key, model, method, args, named @ ..] = elements else {
         return Err(elements.len() as u64);
@@ -66,13 +66,14 @@ fn is_caller(user: &Json, key: &Json) -> bool
     is_integer(user, 2) && is_text(key, "admin")
 }
 
-/// The model of a name, where it serves calls: so far one model alone.
+/// The model of a name, where there is one and it serves calls.
 fn served_model(schema: &Schema, model: &Json) -> Option<ModelNo>
     ensures found { result ≡ served_model schema.now (view model.now) }
-    ensures named { IfSome result (λ number. model_named schema.now (codes "demo.line") ≡ Some number) }
+    ensures served { IfSome result (λ number. HasModel schema.now number × IfSome (model_at schema.now number) IsServed) }
 {
-    if is_text(model, LINE_NAME) {
-        schema.model(LINE_NAME)
+    let model = schema.model(model.as_str()?)?;
+    if serves_calls(schema, model) {
+        Some(model)
     } else {
         None
     }

@@ -6,13 +6,13 @@
 //! `answer`; only the order of reading, answering and writing may be changed here.
 
 ghost use Rattle.std.specs.Prelude.{◌≡◌, ◌≤◌, ◌<◌, ◌++◌, ◌∷◌, [], ℕ, List, Some, false, IsErr, IfOk, IfErr, IfNone, IfSome, OnOk, OnErr, MatchOption};
-ghost use Rattle.ob_io.specs.Cause.{HasCause, Rose};
-ghost use Rattle.ob_orm.specs.Tables.{empty_tables};
-ghost use Rattle.ob_orm.specs.Kept.{Kept, OthersStay};
-ghost use Rattle.stockd.specs.Ending.{IsSessionEnding};
 ghost use Rattle.ob_base.specs.Limits.{max_input_bytes};
+ghost use Rattle.ob_cache.specs.Kept.{OthersStay};
+ghost use Rattle.ob_cache.specs.Standing.{IsAtRest, RestsAt};
+ghost use Rattle.ob_io.specs.Cause.{HasCause, Rose};
+ghost use Rattle.ob_schema.specs.Tables.{Tables};
+ghost use Rattle.stockd.specs.Ending.{IsSessionEnding};
 ghost use Rattle.stockd.specs.Lines.{is_blank_line, bodies_of};
-ghost use Rattle.stockd.specs.Model.{IsLineRegistry, line_model};
 ghost use Rattle.stockd.specs.Session.{Start, StandsAt, Session, WritesReplies, reply_lines};
 ghost use Rattle.stockd.specs.SessionSteps.{HasRead, HasReadTo, StopsReading, GoesOn, ServesMore, StopsAt};
 
@@ -21,38 +21,39 @@ use crate::ending::Ending;
 use crate::lines::{LineFault, LineReader, is_blank};
 use crate::output::write_line;
 use ob_base::{Silent, Steps};
+use ob_cache::Engine;
 use ob_io::{Clock, Failed, Keeper, Sink, Source};
-use ob_schema::Schema;
 use std::alloc::Global;
 
 /// Serves the lines of the input to its end.
 pub(crate) fn serve_lines<K: Keeper, S: Source, W: Sink, C: Clock>(
     alloc: Global,
-    keeper: &mut K,
+    engine: &mut Engine<'_, K>,
     input: &mut S,
     output: &mut W,
     clock: &mut C,
-    schema: &Schema,
 ) -> Ending
-    requires { IsLineRegistry schema.now }
-    // Over a new store, and objects that tell what they hold, it is a run of the machine.
-    ensures session { (start : Start) → StandsAt start (S.left input.old)
-        (record { faults = K.faults keeper.old; kept = K.kept keeper.old; coming = C.coming clock.old; written = W.written output.old })
-        → Kept schema.now start.store empty_tables → Session result start (S.left input.new)
-        (record { faults = K.faults keeper.new; kept = K.kept keeper.new; coming = C.coming clock.new; written = W.written output.new }) }
+    requires rest { IsAtRest engine.old.held.models engine.old.held }
+    // Over an engine that rests at tables, and objects that tell what they hold, it is a run
+    // of the machine.
+    ensures session { (start : Start) (first : Tables) → StandsAt start (S.left input.old)
+        (record { faults = K.faults engine.old.keeper.now; kept = K.kept engine.old.keeper.now; coming = C.coming clock.old; written = W.written output.old })
+        → RestsAt (K.kept engine.old.keeper.now) engine.old.held first → Session engine.old.held.models first result start (S.left input.new)
+        (record { faults = K.faults engine.new.keeper.now; kept = K.kept engine.new.keeper.now; coming = C.coming clock.new; written = W.written output.new }) }
     ensures kind { IsSessionEnding result }
     ensures read_fault { result ≡ Ending.ReadFault → Rose (S.faults input.old) (S.faults input.new) }
     ensures write_fault { result ≡ Ending.WriteFault → Rose (W.faults output.old) (W.faults output.new) }
     ensures input_count { S.faults input.old ≤ S.faults input.new }
     ensures output_count { W.faults output.old ≤ W.faults output.new }
-    ensures keeper_count { K.faults keeper.old ≤ K.faults keeper.new }
-    ensures others { OthersStay line_model (K.kept keeper.old) (K.kept keeper.new) }
+    ensures keeper_count { K.faults engine.old.keeper.now ≤ K.faults engine.new.keeper.now }
+    ensures others { OthersStay engine.old.held.models (K.kept engine.old.keeper.now) (K.kept engine.new.keeper.now) }
+    ensures lender { engine.new.keeper.ghost_name ≡ engine.old.keeper.ghost_name }
 {
     let Ok(mut reader) = LineReader::new(alloc) else {
         return Ending::NoMemory;
     };
     'lines: loop {
-        if let Some(ending) = serve_next(alloc, keeper, input, output, clock, schema, &mut reader) {
+        if let Some(ending) = serve_next(alloc, engine, input, output, clock, &mut reader) {
             return ending;
         }
     }
@@ -61,21 +62,21 @@ pub(crate) fn serve_lines<K: Keeper, S: Source, W: Sink, C: Clock>(
 /// Reads and serves the next line. Answers how the session ends, where it does.
 fn serve_next<K: Keeper, S: Source, W: Sink, C: Clock>(
     alloc: Global,
-    keeper: &mut K,
+    engine: &mut Engine<'_, K>,
     input: &mut S,
     output: &mut W,
     clock: &mut C,
-    schema: &Schema,
     reader: &mut LineReader,
 ) -> Option<Ending>
-    requires { IsLineRegistry schema.now }
+    requires rest { IsAtRest engine.old.held.models engine.old.held }
     // A session goes on, or ends.
-    ensures session { (start : Start) → GoesOn schema.now start reader.old (S.left input.old)
-        (record { faults = K.faults keeper.old; kept = K.kept keeper.old; coming = C.coming clock.old; written = W.written output.old })
-        → MatchOption result (GoesOn schema.now start reader.new (S.left input.new)
-        (record { faults = K.faults keeper.new; kept = K.kept keeper.new; coming = C.coming clock.new; written = W.written output.new }))
-        (λ why. Session why start (S.left input.new)
-        (record { faults = K.faults keeper.new; kept = K.kept keeper.new; coming = C.coming clock.new; written = W.written output.new })) }
+    ensures session { (start : Start) (first : Tables) → GoesOn start first reader.old (S.left input.old)
+        (record { held = engine.old.held; now = record { faults = K.faults engine.old.keeper.now; kept = K.kept engine.old.keeper.now; coming = C.coming clock.old; written = W.written output.old } })
+        → MatchOption result (GoesOn start first reader.new (S.left input.new)
+        (record { held = engine.new.held; now = record { faults = K.faults engine.new.keeper.now; kept = K.kept engine.new.keeper.now; coming = C.coming clock.new; written = W.written output.new } }))
+        (λ why. Session engine.old.held.models first why start (S.left input.new)
+        (record { faults = K.faults engine.new.keeper.now; kept = K.kept engine.new.keeper.now; coming = C.coming clock.new; written = W.written output.new })) }
+    ensures rests { IsAtRest engine.old.held.models engine.new.held }
     ensures kind { IfSome result IsSessionEnding }
     ensures moved { IfNone result (reader.old.consumed < reader.new.consumed) }
     ensures in_input { reader.new.consumed ≤ max_input_bytes }
@@ -83,14 +84,15 @@ fn serve_next<K: Keeper, S: Source, W: Sink, C: Clock>(
     ensures write_fault { result ≡ Some Ending.WriteFault → Rose (W.faults output.old) (W.faults output.new) }
     ensures input_count { S.faults input.old ≤ S.faults input.new }
     ensures output_count { W.faults output.old ≤ W.faults output.new }
-    ensures keeper_count { K.faults keeper.old ≤ K.faults keeper.new }
-    ensures others { OthersStay line_model (K.kept keeper.old) (K.kept keeper.new) }
+    ensures keeper_count { K.faults engine.old.keeper.now ≤ K.faults engine.new.keeper.now }
+    ensures others { OthersStay engine.old.held.models (K.kept engine.old.keeper.now) (K.kept engine.new.keeper.now) }
+    ensures lender { engine.new.keeper.ghost_name ≡ engine.old.keeper.ghost_name }
 {
     let whole = match next_line(reader, input) {
         Ok(whole) => whole,
         Err(ending) => return Some(ending),
     };
-    if serve_line(alloc, keeper, output, clock, schema, reader.line()).is_err() {
+    if serve_line(alloc, engine, output, clock, reader.line()).is_err() {
         return Some(Ending::WriteFault);
     }
     if whole { None } else { Some(Ending::Done) }
@@ -123,52 +125,54 @@ fn next_line<S: Source>(reader: &mut LineReader, input: &mut S) -> Result<bool, 
 /// Serves one line: nothing where it is blank, else its reply.
 fn serve_line<K: Keeper, W: Sink, C: Clock>(
     alloc: Global,
-    keeper: &mut K,
+    engine: &mut Engine<'_, K>,
     output: &mut W,
     clock: &mut C,
-    schema: &Schema,
     line: &[u8],
 ) -> Result<(), Failed>
-    requires { IsLineRegistry schema.now }
-    ensures ok { OnOk result (ServesMore schema.now (bodies_of (line.now ∷ []))
-        (record { faults = K.faults keeper.old; kept = K.kept keeper.old; coming = C.coming clock.old; written = W.written output.old })
-        (record { faults = K.faults keeper.new; kept = K.kept keeper.new; coming = C.coming clock.new; written = W.written output.new })) }
-    ensures err { OnErr result (StopsAt schema.now line.now
-        (record { faults = K.faults keeper.old; kept = K.kept keeper.old; coming = C.coming clock.old; written = W.written output.old })
-        (record { faults = K.faults keeper.new; kept = K.kept keeper.new; coming = C.coming clock.new; written = W.written output.new })) }
+    requires rest { IsAtRest engine.old.held.models engine.old.held }
+    ensures ok { OnOk result (ServesMore (bodies_of (line.now ∷ []))
+        (record { held = engine.old.held; now = record { faults = K.faults engine.old.keeper.now; kept = K.kept engine.old.keeper.now; coming = C.coming clock.old; written = W.written output.old } })
+        (record { held = engine.new.held; now = record { faults = K.faults engine.new.keeper.now; kept = K.kept engine.new.keeper.now; coming = C.coming clock.new; written = W.written output.new } })) }
+    ensures err { OnErr result (StopsAt line.now
+        (record { held = engine.old.held; now = record { faults = K.faults engine.old.keeper.now; kept = K.kept engine.old.keeper.now; coming = C.coming clock.old; written = W.written output.old } })
+        (record { held = engine.new.held; now = record { faults = K.faults engine.new.keeper.now; kept = K.kept engine.new.keeper.now; coming = C.coming clock.new; written = W.written output.new } })) }
     ensures body { OnErr result (is_blank_line line.now ≡ false) }
     ensures cause { HasCause (W.faults output.old) (W.faults output.new) (IsErr result) }
-    ensures count { K.faults keeper.old ≤ K.faults keeper.new }
-    ensures others { OthersStay line_model (K.kept keeper.old) (K.kept keeper.new) }
+    ensures rests { IsAtRest engine.old.held.models engine.new.held }
+    ensures count { K.faults engine.old.keeper.now ≤ K.faults engine.new.keeper.now }
+    ensures others { OthersStay engine.old.held.models (K.kept engine.old.keeper.now) (K.kept engine.new.keeper.now) }
+    ensures lender { engine.new.keeper.ghost_name ≡ engine.old.keeper.ghost_name }
 {
     if is_blank(line) {
         return Ok(());
     }
-    serve_body(alloc, keeper, output, clock, schema, line)
+    serve_body(alloc, engine, output, clock, line)
 }
 
 /// Answers one body, and writes the reply on a line.
 fn serve_body<K: Keeper, W: Sink, C: Clock>(
     alloc: Global,
-    keeper: &mut K,
+    engine: &mut Engine<'_, K>,
     output: &mut W,
     clock: &mut C,
-    schema: &Schema,
     body: &[u8],
 ) -> Result<(), Failed>
-    requires { IsLineRegistry schema.now }
-    ensures ok { OnOk result (ServesMore schema.now (body.now ∷ [])
-        (record { faults = K.faults keeper.old; kept = K.kept keeper.old; coming = C.coming clock.old; written = W.written output.old })
-        (record { faults = K.faults keeper.new; kept = K.kept keeper.new; coming = C.coming clock.new; written = W.written output.new })) }
-    ensures err { OnErr result (StopsAt schema.now body.now
-        (record { faults = K.faults keeper.old; kept = K.kept keeper.old; coming = C.coming clock.old; written = W.written output.old })
-        (record { faults = K.faults keeper.new; kept = K.kept keeper.new; coming = C.coming clock.new; written = W.written output.new })) }
+    requires rest { IsAtRest engine.old.held.models engine.old.held }
+    ensures ok { OnOk result (ServesMore (body.now ∷ [])
+        (record { held = engine.old.held; now = record { faults = K.faults engine.old.keeper.now; kept = K.kept engine.old.keeper.now; coming = C.coming clock.old; written = W.written output.old } })
+        (record { held = engine.new.held; now = record { faults = K.faults engine.new.keeper.now; kept = K.kept engine.new.keeper.now; coming = C.coming clock.new; written = W.written output.new } })) }
+    ensures err { OnErr result (StopsAt body.now
+        (record { held = engine.old.held; now = record { faults = K.faults engine.old.keeper.now; kept = K.kept engine.old.keeper.now; coming = C.coming clock.old; written = W.written output.old } })
+        (record { held = engine.new.held; now = record { faults = K.faults engine.new.keeper.now; kept = K.kept engine.new.keeper.now; coming = C.coming clock.new; written = W.written output.new } })) }
     ensures cause { HasCause (W.faults output.old) (W.faults output.new) (IsErr result) }
-    ensures count { K.faults keeper.old ≤ K.faults keeper.new }
-    ensures others { OthersStay line_model (K.kept keeper.old) (K.kept keeper.new) }
+    ensures rests { IsAtRest engine.old.held.models engine.new.held }
+    ensures count { K.faults engine.old.keeper.now ≤ K.faults engine.new.keeper.now }
+    ensures others { OthersStay engine.old.held.models (K.kept engine.old.keeper.now) (K.kept engine.new.keeper.now) }
+    ensures lender { engine.new.keeper.ghost_name ≡ engine.old.keeper.ghost_name }
 {
     let mut steps = Steps::new(Silent);
-    let reply = answer(alloc, keeper, clock, schema, &mut steps, body);
+    let reply = answer(alloc, engine, clock, &mut steps, body);
     write_line(output, reply.as_str())
 }
 

@@ -1,5 +1,5 @@
 //! The start of the program: the words of the command line, and a run over the host's
-//! input, output and clock, with rows kept in memory. `main` hands its runtime to `started`
+//! files, input, output and clock, with rows kept in memory. `main` hands its runtime to `started`
 //! and ends with the status that it answers. Which objects a run is handed may be changed
 //! here; what it does with them is settled in `run`.
 
@@ -8,49 +8,56 @@ ghost use Rattle.std.specs.IoError.{error_kind};
 ghost use Rattle.std.specs.Vec.Iter.{into_iter_items};
 ghost use Rattle.stockd.specs.declared.ending.Ending.{Ending};
 ghost use Rattle.stockd.specs.Ending.{status_of};
-ghost use Rattle.stockd.specs.Words.{IsCall};
+ghost use Rattle.stockd.specs.Words.{IsUsage};
 
 use crate::ending::Ending;
 use crate::run::run;
 use ob_base::NoMemory;
-use ob_io::{HostClock, StdSink, StdSource, SureDoor, SureFiles, SureKeeper};
+use ob_io::{DiskFiles, HostClock, StdSink, StdSource, SureDoor, SureKeeper};
 use std::alloc::Global;
 use std::io::{ErrorKind, Input};
-use std::rt::{Clock, Env};
+use std::rt::{Clock, Env, Files};
 use std::{env, io};
 
-/// Runs the program over this runtime and answers the status that it ends with. Where
-/// memory is wanting before the run, its last line and status are those of a run for which
-/// it is wanting.
-pub(crate) fn started<R: AllocGlobal + Env + Input + Print + Clock>(rt: &R) -> u8
+/// Runs the program over this runtime and this disk, and answers the status that it ends with.
+/// Where memory is wanting before the run, its last line and status are those of a run for
+/// which it is wanting.
+pub(crate) fn started<R: AllocGlobal + Env + Input + Print + Clock, D: Files + Drop>(
+    rt: &R,
+    disk: D,
+) -> u8
     ensures { (why : Ending) × (result ≡ status_of why) }
 {
-    match run_given(rt) {
+    match run_given(rt, disk) {
         Ok(status) => status,
         Err(NoMemory) => no_memory(rt),
     }
 }
 
 /// Runs over the words that this runtime gives.
-fn run_given<R: AllocGlobal + Env + Input + Print + Clock>(rt: &R) -> Result<u8, NoMemory>
+fn run_given<R: AllocGlobal + Env + Input + Print + Clock, D: Files + Drop>(
+    rt: &R,
+    disk: D,
+) -> Result<u8, NoMemory>
     ensures { IfOk result (λ status. (why : Ending) × (status ≡ status_of why)) }
 {
     let words = words_after_name(rt.alloc(), env::args(rt))?;
-    run_words(rt, &words)
+    run_words(rt, disk, &words)
 }
 
 /// Runs over these words, the host's things and an empty keeper in memory.
-fn run_words<R: AllocGlobal + Input + Print + Clock>(
+fn run_words<R: AllocGlobal + Input + Print + Clock, D: Files + Drop>(
     rt: &R,
+    disk: D,
     words: &[String],
 ) -> Result<u8, NoMemory>
     ensures status { IfOk result (λ status. (why : Ending) × (status ≡ status_of why)) }
-    // Status 2 is that of other words than `call`.
-    ensures other_words { IfOk result (λ status. (IsCall words.now → ⊥) → status ≡ 2) }
-    ensures call { IfOk result (λ status. status ≡ 2 → IsCall words.now → ⊥) }
+    // Status 2 is that of words that ask for nothing that is served.
+    ensures other_words { IfOk result (λ status. IsUsage words.now → status ≡ 2) }
+    ensures call { IfOk result (λ status. status ≡ 2 → IsUsage words.now) }
 {
     let alloc = rt.alloc();
-    let mut files = SureFiles::new(alloc, Vec::new(alloc))?;
+    let mut files = DiskFiles::new(alloc, disk)?;
     let mut keeper = SureKeeper::new(alloc, Vec::new(alloc), Vec::new(alloc))?;
     let mut input = StdSource::new(rt)?;
     let mut output = StdSink::new(rt)?;

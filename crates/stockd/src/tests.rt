@@ -1,13 +1,17 @@
 //! Cases of `run` over objects in memory. The expected texts were worked out by hand from
 //! the rules of docs/CALL.md, and the bytes of rows from those of docs/VALUES.md. Here are
-//! the worked requests; `causes` has each status, refusal and failing call, `places` where
-//! a request is malformed, and `arguments` how optional arguments are given. `case` reads
-//! the pages, whose lines docs/CASES.md explains.
+//! the worked requests; `causes` has each status, refusal and failing call, `opened` stores
+//! with rows, `loaded` modules and words, `places` where a request is malformed, and
+//! `arguments` how optional arguments are given. `case` reads the pages, whose lines
+//! docs/CASES.md explains, with `modules` for their texts and `kept` for the store.
 
 mod arguments;
 mod case;
 mod causes;
 mod kept;
+mod loaded;
+mod modules;
+mod opened;
 mod places;
 
 use case::play;
@@ -74,7 +78,7 @@ kept demo.line ids
 kept demo.line next 1
 
 == a commit that fails in the second of three calls
-fail keeper 7
+fail keeper 17
 2 demo.line create [{"name":"bolt"}]
 = 1
 2 demo.line create [{"name":"nut"}]

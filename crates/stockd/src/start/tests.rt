@@ -14,7 +14,12 @@ use std::time::Duration;
 const CREATE: &[u8] =
     b"{\"method\":\"call\",\"params\":{\"service\":\"object\",\"method\":\"execute_kw\",\"args\":[\"stock\",2,\"admin\",\"demo.line\",\"create\",[{}]]},\"id\":1}";
 
-const CREATED: &str = "{\"id\":1,\"jsonrpc\":\"2.0\",\"result\":1}\n";
+/// Without a module there is no such model.
+const REFUSED: &str =
+    "{\"error\":{\"code\":200,\"data\":{\"message\":\"malformed at params.args.3\",\"name\":\"Request\"},\"message\":\"Odoo Server Error\"},\"id\":1,\"jsonrpc\":\"2.0\"}\n";
+
+/// What the folder that the tests run in lacks.
+const ABSENT: &str = "module demo: Absent text\n";
 
 const USAGE: &str = "usage: stockd call|serve|audit|gen [options]\n";
 
@@ -105,10 +110,11 @@ impl Clock for Given {
 
 /// The status of a start with these words over the input, and what was printed.
 fn status_and_output(
-    alloc: Global,
+    rt: &HostRuntime,
     words: &'static [&'static [u8]],
     is_shut: bool,
 ) -> (u8, Vec<u8>) {
+    let alloc = rt.alloc();
     let given = Given {
         alloc,
         words,
@@ -116,7 +122,7 @@ fn status_and_output(
         is_shut,
         printed: RefCell::new(Vec::new(alloc)),
     };
-    let status = started(&given);
+    let status = started(&given, rt);
     let Given {
         alloc: _,
         words: _,
@@ -129,18 +135,19 @@ fn status_and_output(
 
 #[test]
 fn words_come_after_the_name(rt: HostRuntime) {
-    let rows: [(&'static [&'static [u8]], u8, &'static str); 6] = [
-        (&[b"stockd", b"call"], 0, CREATED),
+    let rows: [(&'static [&'static [u8]], u8, &'static str); 7] = [
+        (&[b"stockd", b"call"], 0, REFUSED),
+        (&[b"stockd", b"call", b"--load", b"demo"], 3, ABSENT),
         // The program's name is no word.
         (&[b"call"], 2, USAGE),
-        (&[b"call", b"call"], 0, CREATED),
+        (&[b"call", b"call"], 0, REFUSED),
         (&[b"stockd", b"call", b"call"], 2, USAGE),
         // One that isn't UTF-8.
         (&[b"stockd", b"call", b"\xff"], 2, USAGE),
         (&[], 2, USAGE),
     ];
     for (words, want, output) in rows {
-        let (status, printed) = status_and_output(rt.alloc(), words, false);
+        let (status, printed) = status_and_output(&rt, words, false);
         assert_eq!(rt; status, want);
         assert_eq!(rt; printed.as_slice(), output.as_bytes());
     }
@@ -150,7 +157,7 @@ fn words_come_after_the_name(rt: HostRuntime) {
 fn a_shut_output_fails_the_reply_and_no_last_line(rt: HostRuntime) {
     let rows: [(&'static [&'static [u8]], u8); 2] = [(&[b"stockd", b"call"], 5), (&[b"stockd"], 2)];
     for (words, want) in rows {
-        let (status, printed) = status_and_output(rt.alloc(), words, true);
+        let (status, printed) = status_and_output(&rt, words, true);
         assert_eq!(rt; status, want);
         assert!(rt; printed.is_empty());
     }

@@ -3,8 +3,11 @@
 //! in `Case::take` or `Case::set`, and its row in that document.
 
 use super::kept::{bytes_of, hold, kept};
+use super::modules::{Texts, module_names};
 use crate::run::run;
-use ob_io::{MemClock, MemKeeper, MemSink, MemSource, SureDoor, SureFiles};
+use ob_io::{MemClock, MemKeeper, MemSink, MemSource, SureDoor};
+use ob_load::load;
+use ob_schema::Schema;
 use std::alloc::Global;
 use std::mem;
 use std::process::Abort;
@@ -15,6 +18,7 @@ use std::test::Fail;
 struct Case<'a> {
     alloc: Global,
     words: &'a str,
+    texts: Texts<'a>,
     start: u32,
     step: i64,
     cut: usize,
@@ -78,7 +82,8 @@ impl<'a> Case<'a> {
         let fail = numbers_of(alloc, keeper_fails, puts as u64)?;
         Some(Case {
             alloc,
-            words: "call",
+            words: "call --load demo",
+            texts: Texts::new(alloc),
             start: 1_700_000_000,
             step: 0,
             cut: 64,
@@ -104,9 +109,17 @@ impl<'a> Case<'a> {
             "<" => self.want(&[rest, "\n"]),
             "<-" => self.want(&[rest]),
             "status" => self.run(rest),
-            "hold" => hold(self.alloc, &mut self.keeper, rest),
+            "module" => {
+                let (name, text) = rest.split_once(' ')?;
+                self.texts.put(name, text)
+            }
+            "hold" => {
+                let schema = self.schema()?;
+                hold(self.alloc, &mut self.keeper, &schema, rest)
+            }
             "kept" => {
-                let (wanted, found) = kept(self.alloc, &mut self.keeper, rest)?;
+                let schema = self.schema()?;
+                let (wanted, found) = kept(self.alloc, &mut self.keeper, &schema, rest)?;
                 self.compare(line, wanted.as_str(), found.as_str())
             }
             _ => match line.as_bytes() {
@@ -128,6 +141,7 @@ impl<'a> Case<'a> {
             }
             ("cut", _) => self.cut = rest.parse().ok()?,
             ("room", _) => self.room = rest.parse().ok()?,
+            ("fail", "files") => self.texts.fails = second,
             ("fail", "source") => self.source_fails = second,
             ("fail", "sink") => self.sink_fails = second,
             // These were read when the case began.
@@ -235,7 +249,7 @@ impl<'a> Case<'a> {
         let ended = run(
             alloc,
             words.as_slice(),
-            &mut SureFiles::new(alloc, Vec::new(alloc)).ok()?,
+            &mut self.texts.files()?,
             &mut self.keeper,
             &mut source,
             &mut sink,
@@ -245,6 +259,14 @@ impl<'a> Case<'a> {
         let output = str::from_utf8(sink.written()).ok()?;
         self.compare("output", wanted.as_str(), output)?;
         self.compare("status", status, ended.to_string(alloc).ok()?.as_str())
+    }
+
+    /// The registry of the modules that the words name.
+    fn schema(&self) -> Option<Schema> {
+        let names = module_names(self.alloc, self.words)?;
+        let mut files = self.texts.files()?;
+        let loaded = load(self.alloc, &mut files, "modules", names.as_slice()).ok()?;
+        Some(loaded.schema)
     }
 
     /// Tells of what two texts are, and the first lines in which they differ, where they do.
@@ -290,7 +312,7 @@ fn words_of(alloc: Global, text: &str) -> Option<Vec<String>> {
 }
 
 /// The numbers of a text, each so much higher.
-fn numbers_of(alloc: Global, text: &str, by: u64) -> Option<Vec<u64>> {
+pub(super) fn numbers_of(alloc: Global, text: &str, by: u64) -> Option<Vec<u64>> {
     let mut numbers = Vec::new(alloc);
     for word in text.split_whitespace() {
         let number: u64 = word.parse().ok()?;

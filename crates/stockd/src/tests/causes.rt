@@ -1,5 +1,6 @@
-//! Each status and each refusal, by at least one run, and each call of an object in its turn
-//! made to fail. What comes of wanting memory no page can say.
+//! Each status but those of modules and of stores with rows, and refusals, by at least one run
+//! each, and each call of an object in its turn made to fail. What comes of wanting memory no
+//! page can say.
 
 use super::case::play;
 use std::test::Fail;
@@ -10,13 +11,14 @@ words serve
 2 demo.line create [{}]
 < usage: stockd call|serve|audit|gen [options]
 status 2
-words call call
+words call call --load demo
 2 demo.line create [{}]
 < usage: stockd call|serve|audit|gen [options]
 status 2
 words
 < usage: stockd call|serve|audit|gen [options]
 status 2
+words call --load demo
 kept demo.line ids
 kept demo.line next 1
 
@@ -27,42 +29,6 @@ room 10
 2 demo.line create [{}]
 status 5
 kept demo.line ids 1
-
-== a store that an earlier run left
-2 demo.line create [{}]
-= 1
-2 demo.line create [{}]
-= 2
-status 0
-2 demo.line read [[1],["qty"]]
-< store demo.line 1 id
-status 8
-kept demo.line ids 1,2
-kept demo.line next 3
-
-== a store with a next id
-hold demo.line next 5
-2 demo.line create [{}]
-< store demo.line 5 id
-status 8
-kept demo.line ids
-kept demo.line next 5
-
-== a store with rows
-hold demo.line 7 010000
-hold demo.line 6 010000
-2 demo.line create [{}]
-< store demo.line 6 id
-status 8
-kept demo.line ids 6,7
-kept demo.line next 1
-kept demo.line 5 none
-kept demo.line 6 01 0000
-
-== a store with a row of the id 0
-hold demo.line 0 010000
-< store demo.line 0 id
-status 8
 
 == a product that doesn't fit spends no id
 > {"method":"call","params":{"service":"object","method":"execute_kw","args":["stock",2,"admin","demo.line","create",[{"qty":9223372036854775807,"price":2}]]},"id":"big"}
@@ -91,10 +57,12 @@ kept demo.line next 3
 = []
 status 0
 
-== a malformed call asks nothing of the keeper
-fail keeper 4
+== only a commit is asked of the keeper once the store is open
+fail keeper 16
 2 demo.line create [{"qty":1.5}]
 ! Request malformed at params.args.5.0.qty
+2 demo.line read [[1],["qty"]]
+! Missing demo.line 1 does not exist
 2 demo.line create [{}]
 ! Keeper keeper fault
 status 0
@@ -107,11 +75,14 @@ fn each_status_and_each_refusal(rt: HostRuntime) -> Result<(), Fail> {
 }
 
 const EACH_CALL_OF_THE_KEEPER_FAILS: &str = r#"
+# Opening asks three calls for each of the five models: the next id, the row 0, a page.
 == the first at opening
 fail keeper 1
 2 demo.line create [{}]
 < keeper fault
 status 6
+kept demo.line ids
+kept demo.line next 1
 
 == the second at opening
 fail keeper 2
@@ -124,19 +95,83 @@ fail keeper 3
 2 demo.line create [{}]
 < keeper fault
 status 6
+
+== the fourth at opening
+fail keeper 4
+< keeper fault
+status 6
+
+== the fifth at opening
+fail keeper 5
+< keeper fault
+status 6
+
+== the sixth at opening
+fail keeper 6
+< keeper fault
+status 6
+
+== the seventh at opening
+fail keeper 7
+< keeper fault
+status 6
+
+== the eighth at opening
+fail keeper 8
+< keeper fault
+status 6
+
+== the ninth at opening
+fail keeper 9
+< keeper fault
+status 6
+
+== the tenth at opening
+fail keeper 10
+< keeper fault
+status 6
+
+== the eleventh at opening
+fail keeper 11
+< keeper fault
+status 6
+
+== the twelfth at opening
+fail keeper 12
+< keeper fault
+status 6
+
+== the thirteenth at opening
+fail keeper 13
+< keeper fault
+status 6
+
+== the fourteenth at opening
+fail keeper 14
+< keeper fault
+status 6
+
+== the last at opening
+fail keeper 15
+2 demo.line create [{}]
+< keeper fault
+status 6
 kept demo.line ids
 kept demo.line next 1
 
-== the first at opening, where a row was put before
-hold demo.line 1 010000
-fail keeper 1
+== the second page at opening, where a row was put before
+2 demo.line create [{"qty":2,"price":3}]
+= 1
+status 0
+fail keeper 26
 < keeper fault
 status 6
-< store demo.line 1 id
-status 8
+2 demo.line read [[1],["subtotal"]]
+= [{"id":1,"subtotal":6}]
+status 0
 
-== the first of a create
-fail keeper 4
+== the commit of a create
+fail keeper 16
 2 demo.line create [{}]
 ! Keeper keeper fault
 2 demo.line read [[1],["qty"]]
@@ -147,24 +182,10 @@ fail keeper 4
 = [{"id":1,"qty":0}]
 status 0
 
-== the second of a create
-fail keeper 5
-2 demo.line create [{}]
-! Keeper keeper fault
-2 demo.line read [[1],["qty"]]
-! Missing demo.line 1 does not exist
+== two commits of three
+fail keeper 17 18
 2 demo.line create [{}]
 = 1
-2 demo.line read [[1],["qty"]]
-= [{"id":1,"qty":0}]
-status 0
-
-== the one of a read, and both of the next create
-fail keeper 6 7 9
-2 demo.line create [{}]
-= 1
-2 demo.line read [[1],["qty"]]
-! Keeper keeper fault
 2 demo.line create [{}]
 ! Keeper keeper fault
 2 demo.line create [{}]
@@ -174,18 +195,8 @@ fail keeper 6 7 9
 2 demo.line read [[1,2],["qty"]]
 = [{"id":1,"qty":0},{"id":2,"qty":0}]
 status 0
-
-== the second row of a read
-fail keeper 9
-2 demo.line create [{}]
-= 1
-2 demo.line create [{}]
-= 2
-2 demo.line read [[2,1],["qty"]]
-! Keeper keeper fault
-2 demo.line read [[2,1],["qty"]]
-= [{"id":2,"qty":0},{"id":1,"qty":0}]
-status 0
+kept demo.line ids 1,2
+kept demo.line next 3
 "#;
 
 #[test]
@@ -283,12 +294,15 @@ status 0
 fail sink 1
 words serve
 status 2
-words call
+words call --load none
+status 3
+words call --load demo
 fail source 1
 status 4
 fail source
 2 demo.line create [{}]
 status 5
+hold demo.line next 0
 status 8
 
 == a last line after a fault of the keeper that can't be written

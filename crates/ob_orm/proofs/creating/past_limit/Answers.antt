@@ -1,8 +1,10 @@
-use Rattle.ob_orm.proofs.CreateIds.{id_found, past_broken}
+use Rattle.std.proofs.Common.{refl}
+use Rattle.ob_orm.proofs.CreateIds.{id_found, no_id}
 use Rattle.ob_orm.proofs.creating.past_limit.Goals as goal
 
 pub unreachable-requires : goal.unreachable-requires
-unreachable-requires c = id_found c.args.schema.now c.args.model c.field.result c.requires.model c.requires.valid c.field.ensures.named c.in_default.is
+unreachable-requires c = no_id c.args.schema.now c.parts_fit_together.ensures c.args.model c.field.result c.requires.model c.field.ensures.named c.in_default.is
 
 pub returns : goal.returns
-returns c = past_broken c.args.schema.now c.args.model c.args.id c.field.result c.in-Some.field c.requires.valid c.field.ensures.named c.in-Some.is
+returns c =
+    (c.in-Some.field, id_found c.args.schema.now c.parts_fit_together.ensures c.args.model c.field.result c.in-Some.field c.requires.model c.field.ensures.named c.in-Some.is, refl)

@@ -1,64 +1,34 @@
-use Rattle.std.proofs.Common.{◌≡◌, ◌+◌, Vec, Global, Ok, ap, arith, length, ◌∙◌}
-use Rattle.std.proofs.lemmas.List.{length_push}
+use Rattle.std.proofs.Common.{arith, sym, ◌∙◌}
 use Rattle.std.proofs.lemmas.Result.{err_from_is_err_and}
 use Rattle.serde_json.specs.View.{members_view}
-use Rattle.ob_base.specs.declared.value.Value.{Value}
-use Rattle.ob_schema.specs.Fields.{plain_columns}
-use Rattle.ob_schema.specs.Models.{IsModel, model_at}
-use Rattle.ob_orm.specs.Create.{new_row}
-use Rattle.ob_orm.specs.CreateSteps.{ArePlain, gathered}
 use Rattle.ob_call.specs.Places.{spot_place}
-use Rattle.ob_orm.proofs.CreateKept.{field_there, fields_at}
-use Rattle.ob_orm.proofs.CreateFields.{tell}
-use Rattle.ob_orm.proofs.CreateNewRow.{givable_at, if_left, if_right, taken_all, taken_more, taken_refused}
+use Rattle.ob_orm.proofs.CreateNewRow.{Values, givable_at, refused_at, taken_at, passed_at}
 use Rattle.ob_orm.proofs.new_row.all_values.Goals as goal
+use Rattle.ob_orm.proofs.new_row.all_values.Goals.{then-is_plain_kept+in_ok-value+in-Ok, else-is_plain_kept}
 
-pub value_at-requires-clause-givable : goal.value_at-requires-clause-givable
-value_at-requires-clause-givable c =
-    givable_at c.args.schema.now c.args.model c.model_info.result.now.fields c.loop-index.index (fields_at c.args.schema.now c.args.model c.model_info.result.now c.model_info.ensures.at)
-    (omega arith) (tell (model_at c.args.schema.now c.args.model) c.model_info.result.now (IsModel c.args.schema.now c.args.model) c.model_info.ensures.at c.model_info.ensures.fit) c.requires.served
+pub new_value-requires-clause-givable : goal.new_value-requires-clause-givable
+new_value-requires-clause-givable c =
+    let test = c.loop-index-test.true in
+    givable_at c.args.schema.now c.args.model c.model_info.result.now c.loop-index.index c.model_info.ensures.at (omega arith) c.model_info.ensures.fit c.requires.served
 
 pub returns-in_err-value-clause-value : goal.returns-in_err-value-clause-value
 returns-in_err-value-clause-value c =
     let p = err_from_is_err_and c.from_residual.result c.from_residual.ensures.1 in
     let row = c.args.row.now in
-    rw (p.1, p.2) (taken_refused c.args.schema.now c.args.model c.model_info.result.now.fields c.loop-index.index row.now (spot_place row.spot) (members_view row.members.now.entries) c.loop-index.values.items c.in_err-value.field-0.0
-    (fields_at c.args.schema.now c.args.model c.model_info.result.now c.model_info.ensures.at) (omega arith) c.in_err-value.ensures c.loop-index.invariant.taken (Vec Value Global) (λ info values. gathered info values.items))
+    rw (p.1, p.2) (refused_at c.args.schema.now c.args.model c.model_info.result.now c.loop-index.index row.now (spot_place row.spot) (members_view row.members.now.entries) c.info.result.now c.loop-index.values c.in_err-value.field-0.0
+    c.model_info.ensures.at (omega arith) c.info.ensures (sym c.is_plain_kept.ensures ∙ c.if-is_plain_kept.true) c.in_err-value.ensures.value c.loop-index.invariant {Of = Values} (λ values. values))
 
 pub loop-index-preserved : goal.loop-index-preserved
 loop-index-preserved c =
     let row = c.args.row.now in
-    let now = c.push.new.self.items in
-    let old = c.loop-index.values.items in
-    let pushed = c.in-Ok.ensures.items in
-    record {
-      count = ap length pushed ∙ length_push old c.in_ok-value.value ∙ ap (λ n. n + 1) c.loop-index.invariant.count;
-      taken = taken_more c.args.schema.now c.args.model c.model_info.result.now.fields c.loop-index.index row.now (spot_place row.spot) (members_view row.members.now.entries) old now c.in_ok-value.value
-          (fields_at c.args.schema.now c.args.model c.model_info.result.now c.model_info.ensures.at) (omega arith) c.loop-index.invariant.count pushed c.in_ok-value.ensures c.loop-index.invariant.taken;
-    }
-
-pub returns-clause-value : goal.returns-clause-value
-returns-clause-value c =
-    let row = c.args.row.now in
     let models = c.args.schema.now in
-    let place = spot_place row.spot in
+    let info = c.model_info.result.now in
+    let i = c.loop-index.index in
     let ms = members_view row.members.now.entries in
-    let values = c.loop-index.values.items in
-    if_left (model_at models c.args.model) (λ info. new_row row.now place ms (plain_columns info) ≡ Ok (gathered info values)) (λ info. ArePlain info values)
-    (taken_all models c.args.model c.model_info.result.now.fields c.loop-index.index row.now place ms values
-    (fields_at c.args.schema.now c.args.model c.model_info.result.now c.model_info.ensures.at) (omega arith) c.loop-index.invariant.count c.loop-index.invariant.taken)
-
-pub returns-clause-plain : goal.returns-clause-plain
-returns-clause-plain c =
-    let row = c.args.row.now in
-    let models = c.args.schema.now in
     let place = spot_place row.spot in
-    let ms = members_view row.members.now.entries in
-    let values = c.loop-index.values.items in
-    if_right (model_at models c.args.model) (λ info. new_row row.now place ms (plain_columns info) ≡ Ok (gathered info values)) (λ info. ArePlain info values)
-    (taken_all models c.args.model c.model_info.result.now.fields c.loop-index.index row.now place ms values
-    (fields_at c.args.schema.now c.args.model c.model_info.result.now c.model_info.ensures.at) (omega arith) c.loop-index.invariant.count c.loop-index.invariant.taken)
-
-pub value_at-requires-clause-field : goal.value_at-requires-clause-field
-value_at-requires-clause-field c =
-    field_there c.args.schema.now c.args.model c.model_info.result.now.fields c.loop-index.index (fields_at c.args.schema.now c.args.model c.model_info.result.now c.model_info.ensures.at) (omega arith)
+    elim c.if-is_plain_kept.branch [
+      | then-is_plain_kept+in_ok-value+in-Ok w ↦ rw w.values-is (taken_at models c.args.model info i row.now place ms c.info.result.now c.loop-index.values w.push.new.self w.in_ok-value.value
+          c.model_info.ensures.at (omega arith) c.info.ensures (sym c.is_plain_kept.ensures ∙ w.if-is_plain_kept.true) w.in_ok-value.ensures.value w.in_ok-value.ensures.holds w.in-Ok.ensures.ok c.loop-index.invariant)
+      | else-is_plain_kept w ↦ rw w.values-is (passed_at models c.args.model info i row.now place ms c.info.result.now c.loop-index.values
+          c.model_info.ensures.at (omega arith) c.info.ensures (sym c.is_plain_kept.ensures ∙ w.if-is_plain_kept.false) c.loop-index.invariant)
+    ]

@@ -1,19 +1,46 @@
-use Rattle.std.proofs.Common.{◌≤◌, length, ◌∙◌, arith, rules}
+use Rattle.std.proofs.Common.{◌≡◌, ◌≤◌, Ok, Some, length, arith, rules}
 use Rattle.serde_json.specs.View.{members_view}
 use Rattle.serde_json.proofs.Views.{view-Object}
-use Rattle.ob_schema.specs.Models.{model_at}
-use Rattle.ob_orm.proofs.OwnFields.{in_own, to_own}
-use Rattle.ob_orm.proofs.ReadObjects.{IsToldTo-more, IsToldTo-all}
+use Rattle.ob_orm.proofs.ReadObjects.{IsToldTo-more, IsToldTo-all, stays-then}
 use Rattle.ob_orm.proofs.told_rows.row_object.Goals as goal
 
-pub loop-number-preserved : goal.loop-number-preserved
-loop-number-preserved c =
-    IsToldTo-more c.args.model (model_at c.args.schema.now c.args.model) c.args.fields.now c.args.id c.args.values.now c.loop-number.number-index c.loop-number.members.entries c.insert-in-loop-number.new.self.entries
-    c.in_ok-from_str-2.field-0 c.in_ok-told.told _ c.info.result.now c.loop-number-test.true (search rules) (in_own c.args.schema.now c.args.model _ c.requires.served c.info.result.now c.info.ensures)
-    (let e = c.in_ok-insert-2.ensures.entries in e) (c.in_ok-from_str-2.ensures.ok ∙ c.as_str-name.ensures) (to_own c.args.schema.now c.args.model _ c.requires.served _ c.in_ok-told.ensures) c.loop-number.invariant
+pub returns-in_err-json-clause-same : goal.returns-in_err-json-clause-same
+returns-in_err-json-clause-same g c =
+    let kept = g.K.Keeper.kept in
+    stays-then (kept c.args.engine.now.keeper.now) (kept c.loop-field.engine.keeper.now) (kept c.cell_json.new.engine.keeper.now) c.args.engine.now.held c.loop-field.engine.held c.cell_json.new.engine.held
+    c.loop-field.invariant.0.same c.cell_json.ensures.same
+
+pub returns-in_default-clause-same : goal.returns-in_default-clause-same
+returns-in_default-clause-same g c =
+    let kept = g.K.Keeper.kept in
+    stays-then (kept c.args.engine.now.keeper.now) (kept c.loop-field.engine.keeper.now) (kept c.cell_json.new.engine.keeper.now) c.args.engine.now.held c.loop-field.engine.held c.cell_json.new.engine.held
+    c.loop-field.invariant.0.same c.cell_json.ensures.same
+
+pub returns-in_err-put-2-clause-same : goal.returns-in_err-put-2-clause-same
+returns-in_err-put-2-clause-same g c =
+    let kept = g.K.Keeper.kept in
+    stays-then (kept c.args.engine.now.keeper.now) (kept c.loop-field.engine.keeper.now) (kept c.cell_json.new.engine.keeper.now) c.args.engine.now.held c.loop-field.engine.held c.cell_json.new.engine.held
+    c.loop-field.invariant.0.same c.cell_json.ensures.same
+
+pub loop-field-preserved : goal.loop-field-preserved
+loop-field-preserved g c =
+    let kept = g.K.Keeper.kept in
+    let mid = c.loop-field.engine in let next = c.cell_json.new.engine in
+    let made : c.cell_json.result ≡ Ok (Some c.in-Some.json) = grind arith in
+    let cell = rw made at c.cell_json.ensures.told in
+    let plain = rw made at c.cell_json.ensures.plain in
+    let number = c.cell_json.new.field in (
+      IsToldTo-more (kept c.args.engine.now.keeper.now) c.args.engine.now.held (kept mid.keeper.now) mid.held (kept next.keeper.now) next.held c.args.model c.args.fields.now c.args.id c.loop-field.field-index
+          (members_view c.loop-field.members.entries) (members_view c.put-in-loop-field.new.members.entries) c.in-Some.json _ c.info.result.now c.loop-field-test.true (search rules) (search rules) c.cell_json.ensures.same
+          cell plain (search rules) c.loop-field.invariant.0,
+      search rules,
+      search rules,
+    )
 
 pub returns-clause-told : goal.returns-clause-told
-returns-clause-told c =
-    let all : length c.args.fields.now ≤ c.loop-number.number-index = omega arith in
-    IsToldTo-all c.args.model (model_at c.args.schema.now c.args.model) c.args.fields.now c.args.id c.args.values.now c.loop-number.number-index (members_view c.loop-number.members.entries) _ all
-    (view-Object c.loop-number.members) c.loop-number.invariant
+returns-clause-told g c =
+    let kept = g.K.Keeper.kept in
+    let mid = c.loop-field.engine in
+    let all : length c.args.fields.now ≤ c.loop-field.field-index = omega arith in
+    IsToldTo-all (kept c.args.engine.now.keeper.now) c.args.engine.now.held (kept mid.keeper.now) mid.held c.args.model c.args.fields.now c.args.id c.loop-field.field-index
+    (members_view c.loop-field.members.entries) _ all (view-Object c.loop-field.members) c.loop-field.invariant.0

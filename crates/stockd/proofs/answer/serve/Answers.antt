@@ -1,21 +1,22 @@
 use Rattle.std.proofs.Common.{◌≡◌, Ok, Err, ap, sym}
 use Rattle.std.proofs.lemmas.Int.{to_z-of_z}
 use Rattle.serde_json.specs.View.{view, items_view}
+use Rattle.ob_base.specs.declared.refusal.Refusal.TheVariants as refusal
+use Rattle.ob_rpc.specs.Envelope.{element_place}
 use Rattle.stockd.specs.ModelCall.{call_view}
 use Rattle.stockd.specs.Request.{call_of, request_by}
-use Rattle.stockd.proofs.AnswerLaws.{element_serves, serves_same}
-use Rattle.stockd.proofs.ServedLine.{same_number}
+use Rattle.stockd.proofs.AnswerLaws.{element_serves, serves_same, tells_by}
 use Rattle.stockd.proofs.answer.serve.Goals as goal
 
-pub serve_call-requires-clause-model : goal.serve_call-requires-clause-model
-serve_call-requires-clause-model g c = same_number c.args.schema.now c.requires.built c.in-Ok.call.model c.in-Ok.ensures.model
-
 pub returns-in-Ok-clause-served : goal.returns-in-Ok-clause-served
-returns-in-Ok-clause-served g c = λ store tables kept_is kept sound.
-    let found : call_of c.args.schema.now (items_view c.args.envelope.now.args) ≡ Ok (call_view c.in-Ok.call) = rw (← c.as_slice.ensures) c.in-Ok.ensures.found in
-    serves_same c.args.schema.now _ _ _ _ _ _ _ _ (to_z-of_z _ _ c.ranges.now) (sym (ap (request_by (view c.args.envelope.now.id)) found)) c.serve_call.ensures.served store tables kept_is kept sound
+returns-in-Ok-clause-served g c =
+    let models = c.args.engine.now.held.models in
+    let found : call_of models (items_view c.args.envelope.now.args) ≡ Ok (call_view c.in-Ok.call) = rw (← c.as_slice.ensures, ← c.schema.ensures) c.in-Ok.ensures.found in
+    serves_same _ _ _ _ _ _ _ _ (to_z-of_z _ _ c.ranges.now) (sym (ap (request_by (view c.args.envelope.now.id)) found)) c.serve_call.ensures.served
 
 pub returns-in-Err-clause-served : goal.returns-in-Err-clause-served
-returns-in-Err-clause-served g c = λ store tables kept_is kept sound.
-    let found : call_of c.args.schema.now (items_view c.args.envelope.now.args) ≡ Err c.in-Err.number = rw (← c.as_slice.ensures) c.in-Err.ensures.found in
-    rw found (element_serves c.args.schema.now store tables _ _ _ c.in-Err.number _ _ (record { before_is = kept_is; kept = kept; sound = sound }) c.element_refused.ensures)
+returns-in-Err-clause-served g c = λ tables rests.
+    let models = c.args.engine.now.held.models in
+    let found : call_of models (items_view c.args.envelope.now.args) ≡ Err c.in-Err.number = rw (← c.as_slice.ensures, ← c.schema.ensures) c.in-Err.ensures.found in
+    rw found (element_serves models tables _ _ _ c.in-Err.number _ _ _ rests
+    (tells_by models c.schema-in-Err.result.now _ (Err (refusal.Request (element_place c.in-Err.number))) _ c.schema-in-Err.ensures c.element_refused.ensures))

@@ -7,13 +7,13 @@ use Rattle.stockd.proofs.AnswerLaws.{empty_object, named_or_none, seen_as, serve
 use Rattle.stockd.proofs.answer.serve_call.Goals as goal
 
 pub returns-in-Create-clause-served : goal.returns-in-Create-clause-served
-returns-in-Create-clause-served g c = λ store tables kept_is kept sound.
+returns-in-Create-clause-served g c =
     let kw = named_or_none c.args.call.now.kw _ c.unwrap_or.result (empty_object c.new.result c.new.ensures.empty) c.unwrap_or.ensures in
-    serves_same c.args.schema.now _ _ _ _ _ _ _ _ (to_z-of_z _ _ c.ranges.now) (seen_as (view c.args.id.now) c.args.call.now create (view c.unwrap_or.result.now) (ap method_view c.in-Create.is) kw)
-    c.serve_create.ensures.served store tables kept_is kept sound
+    serves_same _ _ _ _ _ _ _ _ (to_z-of_z _ _ c.ranges.now) (seen_as (view c.args.id.now) c.args.call.now create (view c.unwrap_or.result.now) (ap method_view c.in-Create.is) kw)
+    c.serve_create.ensures.served
 
 pub returns-clause-served : goal.returns-clause-served
-returns-clause-served g c = λ store tables kept_is kept sound.
+returns-clause-served g c =
     let kw = named_or_none c.args.call.now.kw _ c.unwrap_or.result (empty_object c.new.result c.new.ensures.empty) c.unwrap_or.ensures in
-    serves_same c.args.schema.now _ _ _ _ _ _ _ _ (to_z-of_z _ _ c.ranges.now) (seen_as (view c.args.id.now) c.args.call.now read (view c.unwrap_or.result.now) (ap method_view c.in-Read.is) kw)
-    c.serve_read.ensures.served store tables kept_is kept sound
+    serves_same _ _ _ _ _ _ _ _ (to_z-of_z _ _ c.ranges.now) (seen_as (view c.args.id.now) c.args.call.now read (view c.unwrap_or.result.now) (ap method_view c.in-Read.is) kw)
+    c.serve_read.ensures.served

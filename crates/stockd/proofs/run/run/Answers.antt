@@ -1,24 +1,40 @@
 -- The last line comes after what `call` did, and other words are told at once.
-use Rattle.stockd.proofs.WholeCall.{other_words}
-use Rattle.std.proofs.Common.{refl}
-use Rattle.stockd.proofs.Others.{others_same}
+use Rattle.std.proofs.Common.{◌≡◌, arith, inl, sym}
+use Rattle.stockd.specs.declared.ending.Ending.TheVariants as ending
+use Rattle.stockd.specs.WordPieces.{command_view}
+use Rattle.stockd.proofs.WholeCall.{no_command, no_room}
 use Rattle.stockd.proofs.run.run.Goals as goal
 
-pub returns-then-not-is_call-clause-causes : goal.returns-then-not-is_call-clause-causes
-returns-then-not-is_call-clause-causes g c =
-    let told = c.is_call.ensures in
-    other_words _ _ _ _ c.finish.ensures.status (λ is. let says = told.1 is in cc)
+pub returns-in-Ok-Some-clause-call : goal.returns-in-Ok-Some-clause-call
+returns-in-Ok-Some-clause-call g c = λ command is start texts at.
+    let told = rw c.in-Ok-Some.field-0-is at c.in-Ok-Some.ensures in
+    let same : command ≡ command_view c.in-Ok-Some.command = cc in
+    record {
+      why = c.call-ending.result;
+      status_is = c.finish.ensures.status;
+      written = _;
+      sink_faults = _;
+      call = rw same (c.call-ending.ensures.outcome start texts at);
+      since = c.call-ending.ensures.output_count;
+      last = c.finish.ensures.line;
+    }
 
-pub returns-clause-call : goal.returns-clause-call
-returns-clause-call g c = λ is_call start at. record {
-  why = c.call-ending.result;
-  status_is = c.finish-2.ensures.status;
+pub returns-in-Ok-None-clause-causes : goal.returns-in-Ok-None-clause-causes
+returns-in-Ok-None-clause-causes g c =
+    let told = rw c.in-Ok-None.field-0-is at c.in-Ok-None.ensures in
+    no_command _ _ _ _ c.finish-in-Ok-None.ensures.status (sym told)
+
+pub returns-in-Err-clause-call : goal.returns-in-Err-clause-call
+returns-in-Err-clause-call g c = λ command is start texts at. record {
+  why = ending.NoMemory;
+  status_is = c.finish-in-Err.ensures.status;
   written = _;
   sink_faults = _;
-  call = c.call-ending.ensures.outcome start at;
-  since = c.call-ending.ensures.output_count;
-  last = c.finish-2.ensures.line;
+  call = inl (record { stops = tt; same = at });
+  since = omega arith;
+  last = c.finish-in-Err.ensures.line;
 }
 
-pub returns-then-not-is_call-clause-others : goal.returns-then-not-is_call-clause-others
-returns-then-not-is_call-clause-others g c = others_same _ _ refl
+pub returns-in-Err-clause-causes : goal.returns-in-Err-clause-causes
+returns-in-Err-clause-causes g c =
+    no_room _ _ _ _ c.finish-in-Err.ensures.status c.in-Err.ensures

@@ -1,26 +1,29 @@
-use Rattle.std.proofs.Common.{arith, refl}
-use Rattle.stockd.proofs.SessionOn.{begins, ends_at_once}
+use Rattle.std.proofs.Common.{arith, refl, ◌∙◌}
+use Rattle.stockd.proofs.SessionOn.{begins, ends_at_once, rest_on, others_over, over_same}
 use Rattle.stockd.proofs.Others.{others_same, others_on}
 use Rattle.stockd.proofs.session.serve_lines.Goals as goal
 
 pub returns-in_default-clause-session : goal.returns-in_default-clause-session
-returns-in_default-clause-session g c start at same = ends_at_once _ c.requires start _ at same
+returns-in_default-clause-session g c start first at rests = ends_at_once start first _ at rests
 
 pub lines-init : goal.lines-init
 lines-init g c = record {
-  session = λ start at same. begins _ start _ c.in-Ok.ensures at same;
+  session = λ start first at rests. begins start first _ c.in-Ok.ensures at rests;
+  rests = c.requires.rest;
   input_count = omega arith;
   output_count = omega arith;
   keeper_count = omega arith;
-  others = others_same _ _ refl;
+  others = others_same _ _ _ refl;
+  lender = refl;
 }
 
 pub returns-in_default-clause-others : goal.returns-in_default-clause-others
-returns-in_default-clause-others g c = others_same _ _ refl
+returns-in_default-clause-others g c = others_same _ _ _ refl
 
 -- the session went on to here, and ends
 pub returns-in-Some-clause-session : goal.returns-in-Some-clause-session
-returns-in-Some-clause-session g c = λ start at same. c.in-Some.ensures.session start (c.lines.invariant.session start at same)
+returns-in-Some-clause-session g c start first at rests =
+    over_same c.lines.invariant.rests.models_are (c.in-Some.ensures.session start first (c.lines.invariant.session start first at rests))
 
 -- the session went on to here, and goes on
 pub lines-preserved : goal.lines-preserved
@@ -28,9 +31,11 @@ lines-preserved g c =
     let so_far = c.lines.invariant in
     let said = c.in_default-serve_next.ensures in
     record {
-      session = λ start at same. said.session start (so_far.session start at same);
+      session = λ start first at rests. said.session start first (so_far.session start first at rests);
+      rests = rest_on so_far.rests said.rests;
       input_count = omega (arith, so_far.input_count, said.input_count);
       output_count = omega (arith, so_far.output_count, said.output_count);
       keeper_count = omega (arith, so_far.keeper_count, said.keeper_count);
-      others = others_on _ _ _ so_far.others said.others;
+      others = others_on _ _ _ _ so_far.others (others_over so_far.rests.models_are said.others);
+      lender = said.lender ∙ so_far.lender;
     }

@@ -1,0 +1,15 @@
+-- What an opened store is: the rows of sound tables, and so a session from these on.
+use Rattle.std.proofs.Common.{inr, rules}
+use Rattle.stockd.proofs.WholeCall.{opening_served, others_served}
+use Rattle.stockd.proofs.run.opened.Goals as goal
+
+pub returns-in-Ok-clause-others : goal.returns-in-Ok-clause-others
+returns-in-Ok-clause-others g c =
+    let opened = c.in-Ok.ensures in
+    others_served g.K.Keeper.faults g.K.Keeper.kept _ _ _ _ c.serve_lines-ending.new.engine.keeper.now _ (search rules) opened.rests.models_are opened.same c.serve_lines-ending.ensures.others
+
+pub returns-in-Ok-clause-outcome : goal.returns-in-Ok-clause-outcome
+returns-in-Ok-clause-outcome g c = λ start at.
+    let opened = c.in-Ok.ensures in
+    inr (opening_served g.K.Keeper.faults g.K.Keeper.kept _ c.in-Ok.engine.held start _ _ _ _ _ _ _ c.in-Ok.engine.keeper.now c.serve_lines-ending.new.engine.keeper.now _ _ (search rules)
+    opened.rests.models_are opened.stands opened.same opened.count c.serve_lines-ending.ensures.session at)
