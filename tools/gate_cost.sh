@@ -52,10 +52,10 @@ edits() {
     timed rt must-fail "$1"
 }
 
-names=${*:-$(tools/crates_below.sh)}
+names=${*:-$(tools/build.sh below)}
 echo '| crate | processor minutes | of these the proof | its tests | its must-fail edits |'
 echo '|---|---|---|---|---|'
-crates=$(for name in $names; do tools/crates_below.sh "$name" || exit 1; done) || exit 1
+crates=$(for name in $names; do tools/build.sh below "$name" || exit 1; done) || exit 1
 for crate in $(echo "$crates" | awk '!seen[$0]++'); do
     proved "$crate"
     case " $(echo $names) " in

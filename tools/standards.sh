@@ -5,7 +5,7 @@
 # Ends with 1 where one differs, and tells it. The gate runs it.
 set -u
 top=$(cd "$(dirname "$0")/.." && pwd)
-program=$("$top/tools/proved.sh" stockd) || exit 1
+program=$("$top/tools/build.sh" proved stockd) || exit 1
 demo=(call --modules "$top/modules" --load demo)
 usage='usage: stockd call|serve|audit|gen [options]'
 failed=0

@@ -17,8 +17,6 @@ mod laws;
 mod ops;
 mod policy;
 mod rights;
-#[cfg(test)]
-mod tests;
 
 pub use fitting::fits;
 pub use groups::GroupSet;

@@ -17,8 +17,6 @@ mod ref_list;
 mod refusal;
 mod sequence;
 mod steps;
-#[cfg(test)]
-mod tests;
 mod value;
 mod word;
 

@@ -10,8 +10,6 @@
 //! kept form) and `flushing` (what tables change in a keeper).
 #![tactic(auto)]
 
-#[cfg(test)]
-mod demo;
 mod engine;
 mod facts;
 mod fault;
@@ -22,8 +20,6 @@ mod links;
 mod native;
 mod opening;
 mod stages;
-#[cfg(test)]
-mod tests;
 mod whole;
 
 pub use engine::{Engine, Unopened};

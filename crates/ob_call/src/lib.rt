@@ -15,8 +15,6 @@ mod field_names;
 mod form;
 mod ids;
 mod places;
-#[cfg(test)]
-mod tests;
 
 pub use arguments::{Given, Parameter, arguments_of};
 pub use call::{Call, Json};

@@ -22,8 +22,6 @@ mod kept_writing;
 mod place;
 mod replies;
 mod scalars;
-#[cfg(test)]
-mod tests;
 
 pub use fault::{CodecFault, RowFault};
 pub use input::{Command, Input, Json};

@@ -8,8 +8,6 @@
 
 mod day;
 mod moment;
-#[cfg(test)]
-mod tests;
 mod text;
 
 pub use day::{day_of, day_text, one_day_text};

@@ -19,8 +19,6 @@ mod keys;
 mod made;
 mod names;
 mod orders;
-#[cfg(test)]
-mod tests;
 mod wrong;
 
 pub use by_name::{CheckEntry, Checks, FieldEntry, Fields};

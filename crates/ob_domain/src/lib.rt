@@ -25,8 +25,6 @@ mod pattern;
 mod place;
 mod reading;
 mod term;
-#[cfg(test)]
-mod tests;
 mod tree;
 
 pub use domain::Domain;

@@ -27,6 +27,3 @@ pub use kind::{Found, Kind, Scope};
 pub use ob_syntax::{Expr, ExprFault, one_tree, parse};
 pub use paths::Renumbering;
 pub use typed::{Aggregate, Extreme, Link, Path, Typed};
-
-#[cfg(test)]
-mod tests;

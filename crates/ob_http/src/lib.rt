@@ -17,8 +17,6 @@ mod length;
 mod lines;
 mod reply;
 mod request;
-#[cfg(test)]
-mod tests;
 mod text;
 
 pub use held::Held;

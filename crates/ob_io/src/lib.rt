@@ -13,8 +13,6 @@
 
 mod clock;
 mod door;
-#[cfg(test)]
-mod door_tests;
 mod fault;
 mod files;
 mod host_clock;
@@ -23,8 +21,6 @@ mod host_files;
 mod host_sink;
 mod host_source;
 mod keeper;
-#[cfg(test)]
-mod keeper_tests;
 mod memory_clock;
 mod memory_door;
 mod memory_files;
@@ -38,8 +34,6 @@ mod slots;
 mod source;
 mod store;
 mod sure_keeper;
-#[cfg(test)]
-mod tests;
 
 pub use clock::Clock;
 pub use door::Door;

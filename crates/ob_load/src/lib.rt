@@ -20,8 +20,6 @@ mod loading;
 mod modules;
 mod reading;
 mod tables;
-#[cfg(test)]
-mod tests;
 mod wrong;
 
 pub use fault::{FaultyModule, LoadFault, ModuleFault};

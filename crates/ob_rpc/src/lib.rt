@@ -12,8 +12,6 @@ mod methods;
 mod read;
 mod reply;
 mod request;
-#[cfg(test)]
-mod tests;
 
 pub use methods::Served;
 pub use read::envelope;

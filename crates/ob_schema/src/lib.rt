@@ -25,8 +25,6 @@ mod models;
 mod paths;
 mod schema;
 mod strata;
-#[cfg(test)]
-mod tests;
 
 pub use facts::Facts;
 pub use info::{

@@ -19,6 +19,3 @@ pub use fault::ExprFault;
 pub use parser::{one_tree, parse};
 pub use sign::Operator;
 pub use syntax::{Expr, Prefix, call_order};
-
-#[cfg(test)]
-mod tests;

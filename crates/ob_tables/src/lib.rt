@@ -10,18 +10,12 @@
 //! rows share), `forest` (trees) and `formulas`, which add to `findings`.
 #![tactic(auto)]
 
-#[cfg(test)]
-mod apply_tests;
 mod applying;
 mod cells;
-#[cfg(test)]
-mod demo;
 mod edit;
 mod evaluating;
 mod fault;
 mod findings;
-#[cfg(test)]
-mod fit_tests;
 mod fitting;
 mod forest;
 mod formulas;
@@ -31,12 +25,8 @@ mod outcome;
 mod paging;
 mod reading;
 mod row;
-#[cfg(test)]
-mod scratch_tests;
 mod soundness;
 mod tables;
-#[cfg(test)]
-mod tests;
 mod unique;
 mod values;
 

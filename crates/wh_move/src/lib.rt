@@ -8,8 +8,6 @@
 
 mod demand;
 mod state;
-#[cfg(test)]
-mod tests;
 
 pub use demand::split;
 pub use state::{MoveState, next_state};

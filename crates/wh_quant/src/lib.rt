@@ -13,8 +13,6 @@ mod quant;
 mod spot;
 mod stock;
 mod taking;
-#[cfg(test)]
-mod tests;
 
 pub use moving::{move_lines, small_sums_fit};
 pub use quant::{Line, LineFault, Quant};

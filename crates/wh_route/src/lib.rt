@@ -9,8 +9,6 @@
 mod pull;
 mod push;
 mod rule;
-#[cfg(test)]
-mod tests;
 
 pub use pull::pull_chain;
 pub use push::push_next;

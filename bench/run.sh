@@ -1,0 +1,186 @@
+#!/usr/bin/env bash
+# Measures: bench/run.sh NAME.., of the names in the table below. README.md says what each prints,
+# and what was read. SIZE and TIMES, where they are set, stand for the table's. By the proved
+# programs, which `tools/build.sh PROGRAM` builds, and which make each call as often as their
+# input says: reading the line and telling the answer are taken off. The least of five runs
+# counts. Figures, no test.
+set -euo pipefail
+top=$(cd "$(dirname "$0")/.." && pwd)
+
+# The size of what is asked, and how often (of codec the rows and the values, of http the small
+# requests and the bodies).
+table='
+name         program       size     times
+call         stockd        500      1
+codec        probe_values  5000000  1000000
+expr         probe_values  1        2000
+schema       probe_models  256      6
+load         probe_models  31       40
+domain       probe_access  1000     300
+access       probe_access  100      2000
+stock_parts  probe_stock   10000    300
+http         probe_stock   200000   100
+'
+work=$(mktemp -d)
+trap 'rm -rf "$work"' EXIT
+
+lines() { python3 "$top/bench/lines.py" "$@"; }
+
+# What the command takes of a processor, so that other work beside it counts little; without
+# the host's part, or with it.
+user() { local TIMEFORMAT=%U; { time "$@" >/dev/null; } 2>&1; }
+both() { local TIMEFORMAT='%U %S'; { time "$@" >/dev/null; } 2>&1 | awk '{ print $1 + $2 }'; }
+
+on() { "$program" <"$1"; }
+
+least() { for _ in 1 2 3 4 5; do user on "$1"; done | sort -n | head -n 1; }
+
+# What all calls but one take, of so many: calls CALL SIZE [TIMES].
+calls() {
+    lines "$1" "$2" >"$work/once"
+    sed "s/^/times ${3:-$times} /" "$work/once" >"$work/often"
+    awk -v often="$(least "$work/often")" -v once="$(least "$work/once")" 'BEGIN { print often - once }'
+}
+
+instructions() {
+    valgrind --tool=callgrind --callgrind-out-file=/dev/null "$program" <"$1" 2>&1 >/dev/null | awk '/Collected/ { print $NF }'
+}
+
+# The instructions of one call: work_of CALL SIZE.
+work_of() {
+    lines "$1" "$2" >"$work/once"
+    sed 's/^/times 2 /' "$work/once" >"$work/twice"
+    echo $(($(instructions "$work/twice") - $(instructions "$work/once")))
+}
+
+# How many times as many instructions a call takes for twice the size.
+work_ratio() {
+    if ! command -v valgrind >/dev/null; then
+        echo 'not counted, without valgrind'
+        return
+    fi
+    awk -v a="$(work_of "$1" "$2")" -v b="$(work_of "$1" $((2 * $2)))" 'BEGIN { printf "%.2f", b / a }'
+}
+
+# Prints a form with what a call takes at a size (a) and at twice it (b), and the ratio of the
+# instructions, where it tells that: doubled CALL SIZE FORM [TIMES].
+doubled() {
+    awk -v what="$1" -v n="$2" -v m="${4:-$times}" -v a="$(calls "$1" "$2" "${4:-$times}")" -v b="$(calls "$1" $((2 * $2)) "${4:-$times}")" -v counted="$([[ $3 != *counted* ]] || work_ratio "$1" "$2")" "BEGIN { m -= 1; $3 }"
+}
+
+seconds() {
+    local from to
+    from=$(date +%s.%N)
+    "$program" call --modules "$top/modules" --load demo <"$1" >/dev/null
+    to=$(date +%s.%N)
+    echo "$to $from" | awk '{ print $1 - $2 }'
+}
+
+bench_call() {
+    local n t told=()
+    for n in "$size" $((2 * size)); do
+        lines requests "$n" >"$work/requests"
+        t=$(seconds "$work/requests")
+        told+=("$t")
+        awk -v n="$n" -v t="$t" 'BEGIN {
+            reads = int(n / 100)
+            printf "%d creates and %d reads: %.2f s, %.0f requests a second\n", n, reads, t, (n + reads) / t }'
+    done
+    awk -v a="${told[0]}" -v b="${told[1]}" 'BEGIN { printf "ratio: %.2f\n", b / a }'
+}
+
+bench_codec() {
+    local call
+    for call in row body; do lines $call "$size" >"$work/$call"; done
+    lines json "$times" >"$work/json"
+    awk -v m="$size" -v n="$times" -v b=47 -v r="$(user on "$work/row")" -v w="$(user on "$work/body")" -v t="$(user on "$work/json")" -v p="$(user lines told "$times")" 'BEGIN {
+        printf "rows read: %.1f million a second\n", m / r / 1e6
+        printf "rows written: %.1f million a second\n", m / w / 1e6
+        printf "JSON values: %.0f MB a second; python: %.0f MB a second; ratio %.1f\n", b * n / t / 1e6, b * n / p / 1e6, p / t }'
+}
+
+bench_expr() {
+    local call n nodes often form
+    while read -r call n nodes often; do
+        form='printf "%s: %.0f a second of %d parts, %.0f of %d; %.0f ns a node; ratio %.2f\n", what, m / a, n, m / b, 2 * n, b / m / (2 * n * NODES) * 1e9, b / a'
+        doubled "$call" $((n * size)) "${form/NODES/$nodes}" $((times * often))
+    done <<<$'checked 81 9 1\nchosen 20 7 40\nsummed 1000 3 1'
+}
+
+bench_schema() {
+    doubled registry "$size" 'printf "schema: %.0f ns a field of %d models, %.0f ns of %d; ratio of the times %.2f, of the instructions %s\n", a / m / (n * 256) * 1e9, n, b / m / (2 * n * 256) * 1e9, 2 * n, b / a, counted'
+}
+
+# Milliseconds that a run of stockd with these words takes on a file; the least of 11.
+least_start() {
+    local from to input=$1
+    shift
+    for _ in {1..11}; do
+        from=$(date +%s%N)
+        "$@" <"$input" >/dev/null
+        to=$(date +%s%N)
+        echo $((to - from))
+    done | sort -n | awk 'NR == 1 { printf "%.2f", $1 / 1e6 }'
+}
+
+bench_load() {
+    local server
+    if server=$("$top/tools/build.sh" proved stockd); then
+        echo '{"jsonrpc":"2.0","method":"call","params":{"service":"object","method":"execute_kw","args":["stock",2,"admin","demo.line","read",[[],["qty"]]]},"id":1}' >"$work/request"
+        echo "start: $(least_start "$work/request" "$server" call --modules "$top/modules" --load demo) ms to the first reply with demo, $(least_start /dev/null "$server" call) ms for an empty call"
+    else
+        echo 'start: not measured, the proved program stockd is not there'
+    fi
+    doubled modules "$size" "size = $(lines bytes "$size"); "'printf "load: %.0f modules a second, %.1f MB of TOML; ratio of the times for %d and %d modules %.2f, of the instructions %s\n", n / (a / m), size / (a / m) / 1e6, n, 2 * n, b / a, counted'
+}
+
+bench_domain() {
+    local call
+    for call in equality range pattern dotted child_of; do
+        doubled "$call" "$size" 'printf "%s: %.1f million rows a second, %.0f ns a row; ratio of the times for %d and %d rows %.2f, of the instructions %s\n", what, n * m / a / 1e6, b / m / (2 * n) * 1e9, n, 2 * n, b / a, counted'
+    done
+    awk -v m="$times" -v a="$(calls criteria 400)" 'BEGIN { printf "read: %.0f domains of 400 criteria a second\n", (m - 1) / a }'
+}
+
+bench_access() {
+    local call others
+    for call in admissions rights; do
+        for others in 1 10 100; do
+            awk -v what="$call" -v n="$others" -v m="$times" -v a="$(calls "$call" "$others")" 'BEGIN { printf "%s: %.2f million a second with %d rules and lines on other models\n", what, 100 * (m - 1) / a / 1e6, n }'
+        done
+    done
+    doubled groups "$size" 'printf "groups: %.2f microseconds for %d groups in a chain; ratio of the times for %d and %d %.2f, of the instructions %s\n", a / (100 * m) * 1e6, n, n, 2 * n, b / a, counted'
+}
+
+bench_stock_parts() {
+    local call
+    for call in takes move_lines pull_chain; do
+        doubled "$call" "$size" 'printf "%s: %.1f million items a second at %d, %.1f million at %d; ratio of the times %.2f, of the instructions %s\n", what, n * m / a / 1e6, n, 2 * n * m / b / 1e6, 2 * n, b / a, counted'
+    done
+}
+
+# What all calls but one take of a processor and the host: pieces CALL CUT TIMES.
+pieces() {
+    lines "$1" "$2" >"$work/once"
+    sed "s/^/times $3 /" "$work/once" >"$work/often"
+    awk -v often="$(both on "$work/often")" -v once="$(both on "$work/once")" 'BEGIN { print often - once }'
+}
+
+bench_http() {
+    local call requests often name bytes
+    while read -r call requests often name; do
+        bytes=$((($(lines "$call" whole | wc -c) - 14) / 2))
+        awk -v name="$name" -v n=$((requests * (often - 1))) -v b=$((bytes * (often - 1))) -v w="$(pieces "$call" whole "$often")" -v p="$(pieces "$call" 1 "$often")" 'BEGIN {
+            printf "%s: %.0f a second, %.1f MB a second; in pieces of a byte %.0f, %.1f MB; ratio %.1f\n", name, n / w, b / w / 1e6, n / p, b / p / 1e6, p / w }'
+    done <<<"small 100 $((size / 100)) small requests
+large 1 $times bodies of 1 MiB"
+}
+
+[ "$#" -gt 0 ] || { echo "usage: bench/run.sh NAME.., of:$table" >&2; exit 2; }
+for name; do
+    read -r found program size times <<<"$(awk -v name="$name" '$1 == name' <<<"$table")"
+    [ -n "$found" ] || { echo "no bench of the name $name; there are:$table" >&2; exit 2; }
+    size=${SIZE:-$size} times=${TIMES:-$times}
+    program=$("$top/tools/build.sh" proved "$program")
+    "bench_$name"
+done

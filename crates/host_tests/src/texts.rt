@@ -1,0 +1,73 @@
+//! Files in memory and of the host.
+
+use crate::told::tell_file;
+use ob_base::limits::MAX_MODULE_BYTES;
+use ob_base::{NoMemory, Word};
+use ob_io::{DiskFiles, MemFiles, SureFiles};
+use std::alloc::Global;
+use std::fs;
+use std::test::Fail;
+
+/// So many bytes.
+fn bytes_of(alloc: Global, len: usize) -> Result<Vec<u8>, NoMemory> {
+    let mut bytes = Vec::new(alloc);
+    for _ in 0..len {
+        bytes.push(b'#')?;
+    }
+    Ok(bytes)
+}
+
+/// A text of this name with so many bytes.
+fn text_of(alloc: Global, name: &str, len: usize) -> Result<(Word, Vec<u8>), NoMemory> {
+    let bytes = bytes_of(alloc, len)?;
+    Ok((Word::from_text(alloc, name)?, bytes))
+}
+
+/// The texts `a` (the first of two counts), `most` and `more`.
+fn texts(alloc: Global) -> Result<Vec<(Word, Vec<u8>)>, NoMemory> {
+    let mut pairs = Vec::new(alloc);
+    pairs.push(text_of(alloc, "a", 3)?)?;
+    pairs.push(text_of(alloc, "a", 4)?)?;
+    pairs.push(text_of(alloc, "most", MAX_MODULE_BYTES)?)?;
+    pairs.push(text_of(alloc, "more", MAX_MODULE_BYTES + 1)?)?;
+    Ok(pairs)
+}
+
+#[test]
+fn files_in_memory_fail(rt: HostRuntime) -> Result<(), Fail> {
+    let alloc = rt.alloc();
+    let mut text = String::new(alloc);
+    let mut files = MemFiles::new(alloc, texts(alloc)?, [2, 9].to_vec(alloc)?)?;
+    tell_file(&mut text, &mut files, "a");
+    tell_file(&mut text, &mut files, "a");
+    tell_file(&mut text, &mut files, "b");
+    tell_file(&mut text, &mut files, "most");
+    tell_file(&mut text, &mut files, "more");
+    let mut files = SureFiles::new(alloc, Vec::new(alloc))?;
+    tell_file(&mut text, &mut files, "main");
+    assert_eq!(rt;
+        text.as_str(),
+        "3 the file could not be read there is no such file \
+         1048576 the file is too long there is no such file "
+    );
+    Ok(())
+}
+
+#[test]
+fn files_of_the_host(rt: HostRuntime) -> Result<(), Fail> {
+    let alloc = rt.alloc();
+    fs::write(&rt, "three", "abc")?;
+    let long = bytes_of(alloc, MAX_MODULE_BYTES + 1)?;
+    fs::write(&rt, "long", long.as_slice())?;
+    let mut text = String::new(alloc);
+    let mut files = DiskFiles::new(alloc, &rt)?;
+    tell_file(&mut text, &mut files, "three");
+    tell_file(&mut text, &mut files, "long");
+    tell_file(&mut text, &mut files, "four");
+    tell_file(&mut text, &mut files, "three/four");
+    assert_eq!(rt;
+        text.as_str(),
+        "3 the file is too long there is no such file the file could not be read "
+    );
+    Ok(())
+}

@@ -1,6 +1,0 @@
-use Rattle.ob_schema.specs.Models.{HasModel}
-use Rattle.stockd_probe.proofs.domains.domain.Given as goal
-
--- the model that is asked about stays one of the facts' registry
-abbrev pub invariant-loop : goal.invariant-loop
-invariant-loop l = HasModel l.facts.schema.now l.case.model

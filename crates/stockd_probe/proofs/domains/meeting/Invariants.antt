@@ -1,6 +1,0 @@
-use Rattle.std.proofs.Common.{◌≡◌}
-use Rattle.stockd_probe.proofs.domains.meeting.Given as goal
-
--- the registry stays
-abbrev pub invariant-loop-id : goal.invariant-loop-id
-invariant-loop-id l = l.facts.schema.now ≡ l.fn.facts.schema.now

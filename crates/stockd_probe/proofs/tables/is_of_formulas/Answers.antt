@@ -1,5 +1,0 @@
-use Rattle.stockd_probe.proofs.Ties.{formulas_tie}
-use Rattle.stockd_probe.proofs.tables.is_of_formulas.Goals as goal
-
-pub returns-in-Overflow : goal.returns-in-Overflow
-returns-in-Overflow c = λ yes. formulas_tie c.args.kind c.in-Overflow.is
