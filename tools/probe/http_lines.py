@@ -4,11 +4,13 @@ import re
 import compare_http
 from stockd_oracle import http
 
-ITEM = re.compile(r'(post:(?:keep|close):"(?:[^"\\]|\\.)*"|bad:\d+|ended|cut|failed) "((?:[^"\\]|\\.)*)" "((?:[^"\\]|\\.)*)" ')
+ITEM = re.compile(r'(post:(?:keep|close):(?:"(?:[^"\\]|\\.)*"|\d+:\d+)|bad:\d+|ended|cut|failed) "((?:[^"\\]|\\.)*)" "((?:[^"\\]|\\.)*)" ')
 HEAD = re.compile(rb"(?:\r?\n)*(?!\r?\n)[^\n]*\n(?:(?!\r?\n)[^\n]*\n)*\r?\n")
 CUTS = ("1", "7", "64", "whole")
 # The most that one read asks for while a head comes in.
 READ = 4096
+# The longest body that is told byte by byte.
+LONGEST_TOLD = 256
 # Bytes that mean something in a head.
 MARKS = b"\r\n\t :,?/\0\x7f\x80\xff015AZaz"
 LENGTHS = ("%d", "0%d", "000%d", "+%d", "-%d", " %d ", "\t%d\t", "%d,%d", "%d, %d", "%d %d", "%d.", "%dx", "0x%d", "", " ", "0", "00",
@@ -108,10 +110,20 @@ class Items:
         return least <= taken <= min(len(self.data), max(least, head.end() - 1 + self.read))
 
 
+def body_told(body):
+    """A body as the probe tells it: a long one by its length and a sum in which each byte counts by its place."""
+    if len(body) <= LONGEST_TOLD:
+        return '"%s"' % escaped(body)
+    total = 0
+    for byte in body:
+        total = (total * 1000003 + byte) % 2 ** 64
+    return "%d:%d" % (len(body), total)
+
+
 def told(item):
     """An item as the probe tells it, and its reply."""
     if isinstance(item, http.Post):
-        return 'post:%s:"%s"' % ("keep" if item.keep else "close", escaped(item.body)), http.reply(200, b"{}", item.keep)
+        return "post:%s:%s" % ("keep" if item.keep else "close", body_told(item.body)), http.reply(200, b"{}", item.keep)
     if item.kind == "Bad":
         return "bad:%d" % item.status, http.reply(item.status, b"", False)
     return item.kind.lower(), b""
