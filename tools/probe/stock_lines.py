@@ -68,7 +68,9 @@ def lines(rng, _model):
     try:
         moved = stock.move_lines([stock.Quant(*q) for q in quants], [stock.Line(*it) for it in moving], now, next_)
     except stock.LineShort as short:
-        return asked, "short at %d" % short.i
+        return asked, "short at %d of %d" % (short.i, short.quant)
+    except stock.LineOverflow as over:
+        return asked, "overflow at %d of %d" % (over.i, over.quant)
     return asked, listed([(q.id, q.product, q.place, q.lot, q.quantity, q.reserved, q.in_date, q.guarded) for q in moved])
 
 

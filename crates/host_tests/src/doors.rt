@@ -1,5 +1,6 @@
 //! Doors in memory, and the real one over loopback.
 
+use crate::odd_host::Slow;
 use crate::told::{tell, tell_bytes, tell_count, tell_value};
 use ob_base::NoMemory;
 use ob_io::{Door, MemDoor, SureDoor, TcpDoor};
@@ -63,77 +64,125 @@ fn tell_peer(text: &mut String, answer: Option<usize>) {
     }
 }
 
-#[test]
-fn sure_doors_admit_one_after_another(rt: HostRuntime) -> Result<(), Fail> {
-    let alloc = rt.alloc();
-    let mut text = String::new(alloc);
+/// A sure door with these connections; none where memory is wanting.
+fn sure_door(
+    alloc: Global,
+    first: &str,
+    second: &str,
+    cut: usize,
+    room: usize,
+) -> Option<SureDoor> {
+    match SureDoor::new(alloc, streams(alloc, first, second).ok()?, cut, room) {
+        Ok(door) => Some(door),
+        Err(_) => None,
+    }
+}
+
+/// Connections one after another, of which a read gives two bytes and which take three.
+fn tell_sure(alloc: Global, text: &mut String) {
     let mut room = [b'.'; 4];
-    let mut door = SureDoor::new(alloc, streams(alloc, "abc", "d")?, 2, 3)?;
-    tell_calls(&mut text, &mut door, &mut room, "nrwnrWwsn");
-    tell_written(&mut text, door.written(0));
-    tell_written(&mut text, door.written(1));
-    tell_written(&mut text, door.written(2));
-    assert_eq!(rt;
-        text.as_str(),
-        "came 2 ab.. 1 came 1 db.. 2 failed ended x xy none "
-    );
-    Ok(())
+    if let Some(mut door) = sure_door(alloc, "abc", "d", 2, 3) {
+        tell_calls(text, &mut door, &mut room, "nrwnrWwsn");
+        tell_written(text, door.written(0));
+        tell_written(text, door.written(1));
+        tell_written(text, door.written(2));
+    }
 }
 
-#[test]
-fn doors_without_connections_end(rt: HostRuntime) -> Result<(), Fail> {
-    let alloc = rt.alloc();
-    let mut text = String::new(alloc);
+/// A door without connections, which ends.
+fn tell_none(alloc: Global, text: &mut String) {
     let mut room = [b'.'; 2];
-    let mut door = SureDoor::new(alloc, Vec::new(alloc), 1, 0)?;
-    tell_calls(&mut text, &mut door, &mut room, "nrWs");
-    assert_eq!(rt; text.as_str(), "ended 0 .. 3 ");
-    Ok(())
+    if let Ok(mut door) = SureDoor::new(alloc, Vec::new(alloc), 1, 0) {
+        tell_calls(text, &mut door, &mut room, "nrWs");
+    }
 }
 
-#[test]
-fn doors_in_memory_fail(rt: HostRuntime) -> Result<(), Fail> {
-    let alloc = rt.alloc();
-    let mut text = String::new(alloc);
+/// A door whose calls of some numbers fail.
+fn tell_failing(alloc: Global, text: &mut String) {
     let mut room = [b'.'; 2];
+    if let Ok(mut door) = failing_door(alloc) {
+        tell_calls(text, &mut door, &mut room, "nnrrww");
+        tell_written(text, door.written(0));
+        tell_calls(text, &mut door, &mut room, "sr");
+    }
+}
+
+/// A door of one connection whose first, third and fifth call fail.
+fn failing_door(alloc: Global) -> Result<MemDoor, NoMemory> {
     let fail = [1, 3, 5].to_vec(alloc)?;
-    let mut door = MemDoor::new(alloc, streams(alloc, "ab", "")?, 1, 4, fail)?;
-    tell_calls(&mut text, &mut door, &mut room, "nnrrww");
-    tell_written(&mut text, door.written(0));
-    tell_calls(&mut text, &mut door, &mut room, "sr");
+    MemDoor::new(alloc, streams(alloc, "ab", "")?, 1, 4, fail)
+}
+
+#[test]
+fn doors_in_memory(rt: HostRuntime) -> Result<(), Fail> {
+    let mut text = String::new(rt.alloc());
+    tell_sure(rt.alloc(), &mut text);
+    tell(&mut text, "without connections:");
+    tell_none(rt.alloc(), &mut text);
+    tell(&mut text, "fails at 1, 3 and 5:");
+    tell_failing(rt.alloc(), &mut text);
     assert_eq!(rt;
         text.as_str(),
-        "failed came failed .. 1 a. failed 1 x 0 a. "
+        "came 2 ab.. 1 came 1 db.. 2 failed ended x xy none \
+         without connections: ended 0 .. 3 \
+         fails at 1, 3 and 5: failed came failed .. 1 a. failed 1 x 0 a. "
     );
     Ok(())
 }
 
-#[test]
-fn tcp_doors_pass_bytes_both_ways(rt: HostRuntime) -> Result<(), Fail> {
-    let mut text = String::new(rt.alloc());
+/// Bytes both ways over loopback, and either side's end.
+fn tell_tcp(rt: &HostRuntime, text: &mut String) -> Result<(), Fail> {
     let mut room = [b'.'; 4];
+    let listener = TcpListener::bind(rt, SocketAddr::from((Ipv4Addr::LOCALHOST, 0)))?;
+    let mut peer = TcpStream::connect(rt, listener.local_addr()?)?;
+    let (stream, _) = listener.accept()?;
+    let mut door: TcpDoor<&HostRuntime> = TcpDoor::over(stream);
+    tell_peer(text, peer.write(b"abc").ok());
+    tell_calls(text, &mut door, &mut room, "nrW");
+    tell_peer(text, peer.read(&mut room).ok());
+    tell_bytes(text, &room);
+    peer.shutdown(Shutdown::Write)?;
+    tell_calls(text, &mut door, &mut room, "rs");
+    tell_peer(text, peer.read(&mut room).ok());
+    tell_calls(text, &mut door, &mut room, "n");
+    Ok(())
+}
+
+/// A port that is taken, which fails at the first next.
+fn tell_taken(rt: &HostRuntime, text: &mut String) -> Result<(), Fail> {
+    let listener = TcpListener::bind(rt, SocketAddr::from((Ipv4Addr::LOCALHOST, 0)))?;
+    let mut door = TcpDoor::new(rt, listener.local_addr()?.port());
+    tell_next(text, &mut door);
+    Ok(())
+}
+
+/// Each read takes ten seconds by the clock: the first three give enough, the next don't.
+#[test]
+fn a_slow_peer_is_ended(rt: HostRuntime) -> Result<(), Fail> {
+    let mut text = String::new(rt.alloc());
+    let mut room = [b'.'; 100];
     let listener = TcpListener::bind(&rt, SocketAddr::from((Ipv4Addr::LOCALHOST, 0)))?;
     let mut peer = TcpStream::connect(&rt, listener.local_addr()?)?;
     let (stream, _) = listener.accept()?;
-    let mut door: TcpDoor<&HostRuntime> = TcpDoor::over(stream);
-    tell_peer(&mut text, peer.write(b"abc").ok());
-    tell_calls(&mut text, &mut door, &mut room, "nrW");
-    tell_peer(&mut text, peer.read(&mut room).ok());
-    tell_bytes(&mut text, &room);
-    peer.shutdown(Shutdown::Write)?;
-    tell_calls(&mut text, &mut door, &mut room, "rs");
-    tell_peer(&mut text, peer.read(&mut room).ok());
-    tell_calls(&mut text, &mut door, &mut room, "n");
-    assert_eq!(rt; text.as_str(), "3 came 3 abc. 3 3 xyz. 0 xyz. 0 ended ");
+    let mut door = TcpDoor::timed(Slow::new(), stream);
+    tell_peer(&mut text, peer.write(&[b'x'; 306]).ok());
+    tell_next(&mut text, &mut door);
+    for size in [100, 100, 100, 2, 2, 2, 2] {
+        tell_count(&mut text, door.read(&mut room[..size]));
+    }
+    assert_eq!(rt; text.as_str(), "306 came 100 100 100 2 2 failed 0 ");
     Ok(())
 }
 
 #[test]
-fn a_taken_port_fails_at_the_first_next(rt: HostRuntime) -> Result<(), Fail> {
+fn doors_of_the_host(rt: HostRuntime) -> Result<(), Fail> {
     let mut text = String::new(rt.alloc());
-    let listener = TcpListener::bind(&rt, SocketAddr::from((Ipv4Addr::LOCALHOST, 0)))?;
-    let mut door = TcpDoor::new(&rt, listener.local_addr()?.port());
-    tell_next(&mut text, &mut door);
-    assert_eq!(rt; text.as_str(), "failed ");
+    tell_tcp(&rt, &mut text)?;
+    tell(&mut text, "a taken port:");
+    tell_taken(&rt, &mut text)?;
+    assert_eq!(rt;
+        text.as_str(),
+        "3 came 3 abc. 3 3 xyz. 0 xyz. 0 ended a taken port: failed "
+    );
     Ok(())
 }

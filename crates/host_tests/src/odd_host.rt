@@ -1,8 +1,10 @@
-//! A host as a real one is not to be.
+//! Hosts as a real one is not to be.
 
 use std::alloc::Allocator;
+use std::cell::Cell;
 use std::fmt::Display;
-use std::io::{self, BufRead, Input, Lines};
+use std::io::{self, BufRead, ErrorKind, Input, Lines};
+use std::net::{Net, SocketAddr, TcpListener, TcpStream};
 use std::rt::Clock;
 use std::time::Duration;
 
@@ -51,5 +53,46 @@ impl Print for Odd {
 
     fn write_some(&self, _bytes: &[u8]) -> io::Result<usize> {
         Ok(0)
+    }
+}
+
+/// A host whose clock goes on by ten seconds each time that it is read, and that has no
+/// network.
+#[derive(Drop)]
+pub(crate) struct Slow {
+    seconds: Cell<u64>,
+}
+
+impl Slow {
+    /// A host whose clock wasn't read yet.
+    pub(crate) fn new() -> Slow {
+        Slow {
+            seconds: Cell::new(0),
+        }
+    }
+}
+
+impl Clock for Slow {
+    fn monotonic(&self) -> io::Result<Duration> {
+        self.seconds.set(self.seconds.get().saturating_add(10));
+        Ok(Duration::from_secs(self.seconds.get()))
+    }
+
+    fn since_1970(&self) -> io::Result<Duration> {
+        self.monotonic()
+    }
+}
+
+impl Net for Slow {
+    type Stream = TcpStream;
+
+    type Listener = TcpListener;
+
+    fn bind(&self, _addr: SocketAddr) -> io::Result<TcpListener> {
+        Err(io::Error::from(ErrorKind::Unsupported))
+    }
+
+    fn connect(&self, _addr: SocketAddr) -> io::Result<TcpStream> {
+        Err(io::Error::from(ErrorKind::Unsupported))
     }
 }

@@ -2,7 +2,7 @@
 //! there is do answer, and that a chosen one fails and changes nothing.
 
 use crate::told::{tell, tell_bytes, tell_value};
-use ob_base::{FieldNo, ModelNo, RecId, Sequence};
+use ob_base::{FieldNo, ModelNo, NoMemory, RecId, Sequence};
 use ob_io::{Change, KeepFault, Keeper, KeptRow, Link, MemKeeper, SureKeeper};
 use std::alloc::Global;
 use std::test::Fail;
@@ -55,6 +55,19 @@ fn put<K: Keeper>(
     let id = RecId(u64::from(id));
     let row = KeptRow { id, body, links };
     keeper.commit(&[Change::Put { model, row }])
+}
+
+/// Keeps a row of one byte with such links, and adds whether that was carried out.
+fn tell_put<K: Keeper>(
+    alloc: Global,
+    text: &mut String,
+    keeper: &mut K,
+    model: ModelNo,
+    id: u32,
+    byte: u8,
+    order: Links,
+) {
+    tell_kept(text, put(alloc, keeper, model, id, byte, order));
 }
 
 /// Adds whether changes were carried out.
@@ -115,109 +128,84 @@ fn tell_links<K: Keeper>(text: &mut String, keeper: &mut K, id: u32) {
     tell(text, ",");
 }
 
-#[test]
-fn keepers_replace_and_forget(rt: HostRuntime) -> Result<(), Fail> {
-    let alloc = rt.alloc();
-    let mut text = String::new(alloc);
-    let mut keeper = SureKeeper::new(alloc, Vec::new(alloc), Vec::new(alloc))?;
-    tell_kept(
-        &mut text,
-        put(alloc, &mut keeper, CITY, 7, b'a', Links::None),
-    );
-    tell_kept(
-        &mut text,
-        put(alloc, &mut keeper, CITY, 8, b'b', Links::None),
-    );
-    tell_kept(
-        &mut text,
-        put(alloc, &mut keeper, ROAD, 7, b'c', Links::None),
-    );
-    tell_byte(&mut text, &mut keeper, CITY, 7);
-    tell_kept(
-        &mut text,
-        put(alloc, &mut keeper, CITY, 7, b'd', Links::None),
-    );
-    tell_byte(&mut text, &mut keeper, CITY, 7);
+/// Rows that are kept, replaced and forgotten.
+fn tell_replaced<K: Keeper>(alloc: Global, text: &mut String, keeper: &mut K) {
+    tell_put(alloc, text, keeper, CITY, 7, b'a', Links::None);
+    tell_put(alloc, text, keeper, CITY, 8, b'b', Links::None);
+    tell_put(alloc, text, keeper, ROAD, 7, b'c', Links::None);
+    tell_byte(text, keeper, CITY, 7);
+    tell_put(alloc, text, keeper, CITY, 7, b'd', Links::None);
+    tell_byte(text, keeper, CITY, 7);
     let id = RecId(7);
-    tell_kept(
-        &mut text,
-        keeper.commit(&[Change::Gone { model: CITY, id }]),
-    );
-    tell_byte(&mut text, &mut keeper, CITY, 7);
-    tell_byte(&mut text, &mut keeper, CITY, 8);
-    tell_byte(&mut text, &mut keeper, ROAD, 7);
-    assert_eq!(rt; text.as_str(), "kept kept kept a kept d kept gone b c ");
-    Ok(())
+    tell_kept(text, keeper.commit(&[Change::Gone { model: CITY, id }]));
+    tell_byte(text, keeper, CITY, 7);
+    tell_byte(text, keeper, CITY, 8);
+    tell_byte(text, keeper, ROAD, 7);
+}
+
+/// Next ids, which are counted by model, and pages, which begin past an id.
+fn tell_counted<K: Keeper>(alloc: Global, text: &mut String, keeper: &mut K) {
+    tell_next(text, keeper, CITY);
+    let next = 5;
+    tell_kept(text, keeper.commit(&[Change::Next { model: CITY, next }]));
+    tell_next(text, keeper, CITY);
+    tell_next(text, keeper, ROAD);
+    tell_put(alloc, text, keeper, CITY, 9, 3, Links::None);
+    tell_put(alloc, text, keeper, CITY, 4, 1, Links::None);
+    tell_put(alloc, text, keeper, CITY, 6, 2, Links::None);
+    tell_put(alloc, text, keeper, ROAD, 5, 9, Links::None);
+    tell_page(text, keeper, 4, 5);
+    tell_page(text, keeper, 0, 1);
+    tell_page(text, keeper, 9, 5);
+}
+
+/// Links, which come back in their order, and the rows that they lead from.
+fn tell_linked<K: Keeper>(alloc: Global, text: &mut String, keeper: &mut K) {
+    tell_put(alloc, text, keeper, ROAD, 2, b'r', Links::Falling);
+    tell_put(alloc, text, keeper, ROAD, 1, b'r', Links::Rising);
+    tell_links(text, keeper, 2);
+    tell_holders(text, keeper, 20, 0);
+    tell_holders(text, keeper, 20, 1);
+    tell_holders(text, keeper, 30, 0);
+}
+
+/// A commit that fails, and changes nothing.
+fn tell_failing<K: Keeper>(alloc: Global, text: &mut String, keeper: &mut K) {
+    tell_put(alloc, text, keeper, CITY, 7, b'a', Links::None);
+    tell_put(alloc, text, keeper, CITY, 7, b'd', Links::None);
+    tell_byte(text, keeper, CITY, 7);
+    tell_put(alloc, text, keeper, CITY, 7, b'e', Links::None);
+    tell_byte(text, keeper, CITY, 7);
+}
+
+/// A keeper that keeps nothing.
+fn sure_keeper(alloc: Global) -> Result<SureKeeper, NoMemory> {
+    SureKeeper::new(alloc, Vec::new(alloc), Vec::new(alloc))
+}
+
+/// A keeper that keeps nothing, whose second commit fails.
+fn failing_keeper(alloc: Global) -> Result<MemKeeper, NoMemory> {
+    let fail = [2].to_vec(alloc)?;
+    MemKeeper::new(alloc, Vec::new(alloc), Vec::new(alloc), fail)
 }
 
 #[test]
-fn ids_are_counted_and_pages_begin_past_one(rt: HostRuntime) -> Result<(), Fail> {
+fn keepers(rt: HostRuntime) -> Result<(), Fail> {
     let alloc = rt.alloc();
     let mut text = String::new(alloc);
-    let mut keeper = SureKeeper::new(alloc, Vec::new(alloc), Vec::new(alloc))?;
-    tell_next(&mut text, &mut keeper, CITY);
-    let next = 5;
-    tell_kept(
-        &mut text,
-        keeper.commit(&[Change::Next { model: CITY, next }]),
-    );
-    tell_next(&mut text, &mut keeper, CITY);
-    tell_next(&mut text, &mut keeper, ROAD);
-    tell_kept(&mut text, put(alloc, &mut keeper, CITY, 9, 3, Links::None));
-    tell_kept(&mut text, put(alloc, &mut keeper, CITY, 4, 1, Links::None));
-    tell_kept(&mut text, put(alloc, &mut keeper, CITY, 6, 2, Links::None));
-    tell_kept(&mut text, put(alloc, &mut keeper, ROAD, 5, 9, Links::None));
-    tell_page(&mut text, &mut keeper, 4, 5);
-    tell_page(&mut text, &mut keeper, 0, 1);
-    tell_page(&mut text, &mut keeper, 9, 5);
+    tell_replaced(alloc, &mut text, &mut sure_keeper(alloc)?);
+    tell(&mut text, "counted:");
+    tell_counted(alloc, &mut text, &mut sure_keeper(alloc)?);
+    tell(&mut text, "linked:");
+    tell_linked(alloc, &mut text, &mut sure_keeper(alloc)?);
+    tell(&mut text, "fails at 2:");
+    tell_failing(alloc, &mut text, &mut failing_keeper(alloc)?);
     assert_eq!(rt;
         text.as_str(),
-        "1 kept 5 1 kept kept kept kept 6 9 , 4 , , "
+        "kept kept kept a kept d kept gone b c \
+         counted: 1 kept 5 1 kept kept kept kept 6 9 , 4 , , \
+         linked: kept kept 4 30 5 20 , 1 2 , 2 , , \
+         fails at 2: kept the keeper failed a kept e "
     );
-    Ok(())
-}
-
-#[test]
-fn links_come_back_in_order_and_find_their_rows(rt: HostRuntime) -> Result<(), Fail> {
-    let alloc = rt.alloc();
-    let mut text = String::new(alloc);
-    let mut keeper = SureKeeper::new(alloc, Vec::new(alloc), Vec::new(alloc))?;
-    tell_kept(
-        &mut text,
-        put(alloc, &mut keeper, ROAD, 2, b'r', Links::Falling),
-    );
-    tell_kept(
-        &mut text,
-        put(alloc, &mut keeper, ROAD, 1, b'r', Links::Rising),
-    );
-    tell_links(&mut text, &mut keeper, 2);
-    tell_holders(&mut text, &mut keeper, 20, 0);
-    tell_holders(&mut text, &mut keeper, 20, 1);
-    tell_holders(&mut text, &mut keeper, 30, 0);
-    assert_eq!(rt; text.as_str(), "kept kept 4 30 5 20 , 1 2 , 2 , , ");
-    Ok(())
-}
-
-#[test]
-fn a_chosen_commit_fails_and_changes_nothing(rt: HostRuntime) -> Result<(), Fail> {
-    let alloc = rt.alloc();
-    let mut text = String::new(alloc);
-    let fail = [2].to_vec(alloc)?;
-    let mut keeper = MemKeeper::new(alloc, Vec::new(alloc), Vec::new(alloc), fail)?;
-    tell_kept(
-        &mut text,
-        put(alloc, &mut keeper, CITY, 7, b'a', Links::None),
-    );
-    tell_kept(
-        &mut text,
-        put(alloc, &mut keeper, CITY, 7, b'd', Links::None),
-    );
-    tell_byte(&mut text, &mut keeper, CITY, 7);
-    tell_kept(
-        &mut text,
-        put(alloc, &mut keeper, CITY, 7, b'e', Links::None),
-    );
-    tell_byte(&mut text, &mut keeper, CITY, 7);
-    assert_eq!(rt; text.as_str(), "kept the keeper failed a kept e ");
     Ok(())
 }

@@ -1,6 +1,6 @@
 //! Files in memory and of the host.
 
-use crate::told::tell_file;
+use crate::told::{tell, tell_file};
 use ob_base::limits::MAX_MODULE_BYTES;
 use ob_base::{NoMemory, Word};
 use ob_io::{DiskFiles, MemFiles, SureFiles};
@@ -33,41 +33,50 @@ fn texts(alloc: Global) -> Result<Vec<(Word, Vec<u8>)>, NoMemory> {
     Ok(pairs)
 }
 
-#[test]
-fn files_in_memory_fail(rt: HostRuntime) -> Result<(), Fail> {
-    let alloc = rt.alloc();
-    let mut text = String::new(alloc);
+/// Files in memory, of which the second and the ninth read fail, and none at all.
+fn tell_memory(alloc: Global, text: &mut String) -> Result<(), NoMemory> {
     let mut files = MemFiles::new(alloc, texts(alloc)?, [2, 9].to_vec(alloc)?)?;
-    tell_file(&mut text, &mut files, "a");
-    tell_file(&mut text, &mut files, "a");
-    tell_file(&mut text, &mut files, "b");
-    tell_file(&mut text, &mut files, "most");
-    tell_file(&mut text, &mut files, "more");
+    tell_file(text, &mut files, "a");
+    tell_file(text, &mut files, "a");
+    tell_file(text, &mut files, "b");
+    tell_file(text, &mut files, "most");
+    tell_file(text, &mut files, "more");
     let mut files = SureFiles::new(alloc, Vec::new(alloc))?;
-    tell_file(&mut text, &mut files, "main");
-    assert_eq!(rt;
-        text.as_str(),
-        "3 the file could not be read there is no such file \
-         1048576 the file is too long there is no such file "
-    );
+    tell_file(text, &mut files, "main");
+    Ok(())
+}
+
+/// Writes a short file and one that is too long.
+fn write_files(rt: &HostRuntime) -> Result<(), Fail> {
+    fs::write(rt, "three", "abc")?;
+    let long = bytes_of(rt.alloc(), MAX_MODULE_BYTES + 1)?;
+    fs::write(rt, "long", long.as_slice())?;
+    Ok(())
+}
+
+/// Files of the host, those that aren't there too.
+fn tell_disk(rt: &HostRuntime, text: &mut String) -> Result<(), NoMemory> {
+    let mut files = DiskFiles::new(rt.alloc(), rt)?;
+    tell_file(text, &mut files, "three");
+    tell_file(text, &mut files, "long");
+    tell_file(text, &mut files, "four");
+    tell_file(text, &mut files, "three/four");
     Ok(())
 }
 
 #[test]
-fn files_of_the_host(rt: HostRuntime) -> Result<(), Fail> {
-    let alloc = rt.alloc();
-    fs::write(&rt, "three", "abc")?;
-    let long = bytes_of(alloc, MAX_MODULE_BYTES + 1)?;
-    fs::write(&rt, "long", long.as_slice())?;
-    let mut text = String::new(alloc);
-    let mut files = DiskFiles::new(alloc, &rt)?;
-    tell_file(&mut text, &mut files, "three");
-    tell_file(&mut text, &mut files, "long");
-    tell_file(&mut text, &mut files, "four");
-    tell_file(&mut text, &mut files, "three/four");
+fn files(rt: HostRuntime) -> Result<(), Fail> {
+    let mut text = String::new(rt.alloc());
+    tell_memory(rt.alloc(), &mut text)?;
+    tell(&mut text, "of the host:");
+    write_files(&rt)?;
+    tell_disk(&rt, &mut text)?;
     assert_eq!(rt;
         text.as_str(),
-        "3 the file is too long there is no such file the file could not be read "
+        "3 the file could not be read there is no such file \
+         1048576 the file is too long there is no such file \
+         of the host: \
+         3 the file is too long there is no such file the file could not be read "
     );
     Ok(())
 }

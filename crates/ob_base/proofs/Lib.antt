@@ -4,3 +4,5 @@ pub mod OrderLaws
 pub mod Risen
 pub mod TallyLaws
 pub mod Walks
+pub mod Rows
+pub mod CallerLemmas

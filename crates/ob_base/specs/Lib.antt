@@ -8,3 +8,5 @@ pub mod ValueOrder
 pub mod BrokenOrder
 pub mod PathText
 pub mod Names
+pub mod NameBytes
+pub mod Syntax

@@ -21,11 +21,7 @@ use Rattle.ob_schema.specs.Val.{behind, val}
 use Rattle.ob_schema.specs.declared.info.Delegation.{Delegation}
 use Rattle.ob_schema.specs.declared.info.FieldInfo.{FieldInfo}
 use Rattle.ob_schema.specs.declared.info.Origin.TheVariants as origin
-use Rattle.ob_tables.proofs.KnownFields.{tell_and}
-use Rattle.ob_tables.proofs.Settled.{Behind, Behind-at}
-use Rattle.ob_tables.proofs.Settling.{behind-set, behind-there, behind-unset, link-there}
-use Rattle.ob_tables.proofs.Valued.{sound-tied}
-use Rattle.ob_tables.proofs.Within.{AreSound as AreKnown, not_there, values_are}
+use Rattle.ob_tables.proofs.CallerLemmas.{AreSound as AreKnown, Behind, Behind-at, behind-set, behind-there, behind-unset, link-there, not_there, sound-tied, tell_and, values_are}
 use Rattle.ob_tables.specs.Settling.{row_named, values_of}
 
 -- what is known of sound tables

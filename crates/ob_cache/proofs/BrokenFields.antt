@@ -17,7 +17,7 @@ use Rattle.ob_schema.specs.Tables.{Tables}
 use Rattle.ob_schema.specs.Tied.{AtCell, IsCircled, IsLeastOf, IsTooDeep}
 use Rattle.ob_schema.specs.declared.info.FieldInfo.{FieldInfo}
 use Rattle.ob_schema.specs.declared.info.ModelInfo.{ModelInfo}
-use Rattle.ob_tables.proofs.KnownFields.{Any-at_all, known_if, there_is, told_and}
+use Rattle.ob_tables.proofs.CallerLemmas.{Any-at_all, known_if, there_is, told_and}
 
 module _ (models : List ModelInfo) (tables : Tables) (registry : IsRegistry models) where
   -- a field of which something is known

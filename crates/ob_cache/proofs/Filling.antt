@@ -28,8 +28,7 @@ use Rattle.ob_schema.specs.declared.info.ModelInfo.{ModelInfo}
 use Rattle.ob_tables.specs.Faults.{HasNoValue}
 use Rattle.ob_tables.specs.declared.fault.ScratchFault.{ScratchFault}
 use Rattle.ob_tables.specs.declared.fault.ScratchFault.TheVariants as scratch
-use Rattle.ob_tables.proofs.Within.{not_there}
-use Rattle.ob_tables.proofs.KnownFields.{told_and, there_is}
+use Rattle.ob_tables.proofs.CallerLemmas.{not_there, there_is, told_and}
 
 -- a cell that has a value lacks it for no reason but want of memory
 pub no-fault : (models : List ModelInfo) (tables : Tables) (cell : Cell) (f : ScratchFault) → IsSome (row_at tables cell.model cell.id) → IsOk (val models tables cell) → HasNoValue models tables cell f → f ≡ scratch.NoMemory

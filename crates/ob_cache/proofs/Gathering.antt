@@ -27,8 +27,7 @@ use Rattle.ob_io.specs.declared.store.KeptRow.{KeptRow}
 use Rattle.ob_schema.specs.Models.{HasModel, IsRegistry, model_at}
 use Rattle.ob_schema.specs.Tables.{PlainRow, Standing, Tables, ids_in, key_of, next_of, row_at}
 use Rattle.ob_schema.specs.declared.info.ModelInfo.{ModelInfo}
-use Rattle.ob_tables.proofs.RowIds.{there-ids}
-use Rattle.ob_tables.proofs.Shown.{exact_rows, rows_total}
+use Rattle.ob_tables.proofs.CallerLemmas.{exact_rows, rows_total, there-ids}
 
 -- ---- lists
 

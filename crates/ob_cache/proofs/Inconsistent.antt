@@ -13,7 +13,7 @@ use Rattle.ob_base.specs.declared.refusal.Broken.{Broken}
 use Rattle.ob_base.specs.declared.value.Value.{Value}
 use Rattle.ob_base.specs.declared.value.Value.TheVariants as value
 use Rattle.ob_cache.specs.Kept.{Kept, KeepsModel, kept_columns, kept_value}
-use Rattle.ob_cache.specs.Opening.{ArePlain, IsInconsistent, IsUnreadable, ShowsUnread, kept_for}
+use Rattle.ob_cache.specs.Opening.{ArePlain, IsInconsistent, IsUnreadable, ShowsOther, ShowsUnread, kept_for}
 use Rattle.ob_cache.specs.Reading.{IsOneOf, IsReadRow, ReadRow, entries, stored_of, tests_of}
 use Rattle.ob_cache.proofs.KeptForms.{IsColumn, columns-at, each-back, each_of, with_values, zip-map}
 use Rattle.ob_cache.proofs.OpenedTables.{of-one}
@@ -30,7 +30,7 @@ use Rattle.ob_schema.specs.Tables.{Tables, next_of, row_at}
 use Rattle.ob_schema.specs.Val.{val}
 use Rattle.ob_schema.specs.declared.info.FieldInfo.{FieldInfo}
 use Rattle.ob_schema.specs.declared.info.ModelInfo.{ModelInfo}
-use Rattle.ob_tables.proofs.KnownFields.{known_if, tell_and, there_is, told_and}
+use Rattle.ob_tables.proofs.CallerLemmas.{known_if, tell_and, there_is, told_and}
 
 -- ---- lists
 
@@ -43,7 +43,7 @@ one-left-or-right x (y ∷ xs) ys (inr later) = by (one-left-or-right x xs ys la
     by (inl left) = inl (inr left)
     by (inr right) = inr right
 
-one-of-flat : {X Y : Type 0} (f : X → List Y) (y : Y) (xs : List X) → IsOneOf y (flat_map f xs) → (x : X) × IsOneOf x xs × IsOneOf y (f x)
+pub one-of-flat : {X Y : Type 0} (f : X → List Y) (y : Y) (xs : List X) → IsOneOf y (flat_map f xs) → (x : X) × IsOneOf x xs × IsOneOf y (f x)
 one-of-flat f y [] one = absurd one
 one-of-flat {X = X} f y (x ∷ xs) one = by (one-left-or-right y (f x) (flat_map f xs) one) (λ later. one-of-flat f y xs later)
   where
@@ -119,13 +119,14 @@ module _ (models : List ModelInfo) (registry : IsRegistry models) (readable : (t
   module _ (before : Tables) (reads : List ReadRow) (each : AllByRecursion (λ r. IsReadRow models r.model (next_of before r.model) r × (r.model.0 ≤ max_models)) reads)
       (plain : Tables) (are : ArePlain models store plain) (sound : AreSound models plain) (told : AllByRecursion (λ r. kept_row_at store r.model r.row.id ≡ Some r.row) reads) where
     -- nor those of which a stored cell is another
-    pub other-inconsistent : (cell : Cell) (v : Value) → IsOneOf (cell, v) (flat_map tests_of reads) → val models plain cell ≢ Ok v → IsInconsistent models store cell
+    pub other-inconsistent : (cell : Cell) (v : Value) → IsOneOf (cell, v) (flat_map tests_of reads) → val models plain cell ≢ Ok v → IsInconsistent models store cell × ShowsOther models store cell
     other-inconsistent cell v among differs =
         let (r, is_read, tested) = one-of-flat tests_of (cell, v) reads among in
         let read = (of-one (λ r. IsReadRow models r.model (next_of before r.model) r × (r.model.0 ≤ max_models)) reads r each is_read).0 in
         at r read (of-one (λ r. kept_row_at store r.model r.row.id ≡ Some r.row) reads r told is_read) tested
       where
-        at : (r : ReadRow) → IsReadRow models r.model (next_of before r.model) r → kept_row_at store r.model r.row.id ≡ Some r.row → IsOneOf (cell, v) (tests_of r) → IsInconsistent models store cell
+        at : (r : ReadRow) → IsReadRow models r.model (next_of before r.model) r → kept_row_at store r.model r.row.id ≡ Some r.row → IsOneOf (cell, v) (tests_of r)
+            → IsInconsistent models store cell × ShowsOther models store cell
         at r read kept_is tested =
             let g = each_of r.info r.values in
             let back = each-back r.info r.values read.read_as.hold in
@@ -139,7 +140,20 @@ module _ (models : List ModelInfo) (registry : IsRegistry models) (readable : (t
             ap (lookup (λ (d : Column). d.0 == c.0)) entries_are ∙ found-column r.info.fields g c (kept_columns r.info) column (columns-at is_kept r.info) among ∙ ap Some (sym v_is) in
             let here : Cell = record { model = r.model; id = r.row.id; field = record { 0 = c.0 } } in
             let differs_here : val models plain here ≢ Ok v = subst (λ (d : Cell). val models plain d ≢ Ok v) cell_is differs in
-            subst (IsInconsistent models store) (sym cell_is) (record {
+            let shows : ShowsOther models store here = record {
+              tables = plain;
+              plain = are;
+              sound = sound;
+              info = r.info;
+              info_is = read.info_is;
+              kept = r.row;
+              kept_is = kept_is;
+              values = r.values;
+              read_as = read.read_as;
+              other = tell_and (kept_for r.info r.values (record { 0 = c.0 })) v (λ w. val models plain here ≢ Ok w) kept_is_v differs_here;
+              computed = tell_and (field_at models r.model (record { 0 = c.0 })) c.1 (λ field. is_computed_from field.origin ≡ true) field_is (computed-from c.1.origin c.1 column.passes other);
+            } in
+            let inconsistent : IsInconsistent models store here = record {
               none = λ tables known keeps.
                   (let same_t = same-tables models registry store tables (readable tables known) keeps one plain are in
                   let own = read-in models registry store tables (readable tables known) keeps r.model r.info read.info_is r.row.id r.row kept_is in
@@ -150,20 +164,9 @@ module _ (models : List ModelInfo) (registry : IsRegistry models) (readable : (t
                   ((readable plain sound).valued here (there_is (row_at plain r.model r.row.id) own.row (ap (λ (t : Tables). row_at t r.model r.row.id) (sym same_t) ∙ own.row_is))
                   (there_is (field_at models r.model (record { 0 = c.0 })) c.1 field_is))
                   (v_is ∙ value_is ∙ ap (λ (t : Tables). kept_value models t r.model r.row.id c) same_t)));
-              shown = inr (inr (record {
-                tables = plain;
-                plain = are;
-                sound = sound;
-                info = r.info;
-                info_is = read.info_is;
-                kept = r.row;
-                kept_is = kept_is;
-                values = r.values;
-                read_as = read.read_as;
-                other = tell_and (kept_for r.info r.values (record { 0 = c.0 })) v (λ w. val models plain here ≢ Ok w) kept_is_v differs_here;
-                computed = tell_and (field_at models r.model (record { 0 = c.0 })) c.1 (λ field. is_computed_from field.origin ≡ true) field_is (computed-from c.1.origin c.1 column.passes other);
-              }));
-            })
+              shown = inr (inr shows);
+            } in
+            subst (λ (d : Cell). IsInconsistent models store d × ShowsOther models store d) (sym cell_is) (inconsistent, shows)
           where
             at-column : (f h : Column → Value) (cols : List Column) (c : Column) → map f cols ≡ map h cols → IsOneOf c cols → f c ≡ h c
             at-column f h [] c same one = absurd one

@@ -15,8 +15,7 @@ use Rattle.ob_io.specs.declared.store.KeptRow.{KeptRow}
 use Rattle.ob_schema.specs.Models.{HasModel, model_at}
 use Rattle.ob_schema.specs.Tables.{Standing, key_of, row_at}
 use Rattle.ob_schema.specs.declared.info.ModelInfo.{ModelInfo}
-use Rattle.ob_tables.proofs.KnownFields.{known_if}
-use Rattle.ob_tables.proofs.Shown.{rows_total}
+use Rattle.ob_tables.proofs.CallerLemmas.{known_if, rows_total}
 
 module _ (old new : Standing) (same : old.models ≡ new.models) (changes : List Change) (to : ChangesTo old new changes) where
   pub kept-after : (store : Store) → Kept old.models old.tables store → Kept new.models new.tables (all_changed changes store)

@@ -24,8 +24,7 @@ use Rattle.ob_schema.specs.declared.info.FieldInfo.{FieldInfo}
 use Rattle.ob_schema.specs.declared.info.ModelInfo.{ModelInfo}
 use Rattle.ob_schema.specs.declared.info.Origin.{Origin}
 use Rattle.ob_schema.specs.declared.info.Origin.TheVariants as origin
-use Rattle.ob_tables.proofs.Columns.{find-columns, get-row_of, kept_as, row-has, keeps}
-use Rattle.ob_tables.proofs.GivenValues.{same_test}
+use Rattle.ob_tables.proofs.CallerLemmas.{find-columns, get-row_of, keeps, kept_as, row-has, same_test}
 use Rattle.ob_tables.specs.After.{given_for, row_of}
 
 -- plain kept fields are kept

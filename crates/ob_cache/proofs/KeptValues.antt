@@ -25,7 +25,7 @@ use Rattle.ob_schema.specs.Tables.{Standing, row_at}
 use Rattle.ob_schema.specs.Val.{val}
 use Rattle.ob_schema.specs.declared.info.FieldInfo.{FieldInfo}
 use Rattle.ob_schema.specs.declared.info.ModelInfo.{ModelInfo}
-use Rattle.ob_tables.proofs.KnownFields.{is_there, known_if}
+use Rattle.ob_tables.proofs.CallerLemmas.{is_there, known_if}
 
 -- the values so far, and those of the fields that are left, are all
 abbrev pub GivenTo : (Column → Value) → List FieldInfo → ℕ → List Value → Type 0

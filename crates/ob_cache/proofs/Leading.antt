@@ -16,7 +16,7 @@ use Rattle.ob_definition.specs.Keys.{is_many2many, is_many2one}
 use Rattle.ob_definition.specs.Types.{is_one2many, is_relation}
 use Rattle.ob_definition.specs.declared.field_type.FieldType.{FieldType}
 use Rattle.ob_definition.specs.declared.field_type.FieldType.TheVariants as type
-use Rattle.ob_io.proofs.RisingIds.{rising-from_sorted}
+use Rattle.ob_io.proofs.CallerLemmas.{rising-from_sorted}
 use Rattle.ob_schema.specs.Fields.{is_plain_from}
 use Rattle.ob_schema.specs.Links.{Leads, leading_to, leads_from, led_from, led_to}
 use Rattle.ob_schema.specs.Models.{FieldHas, IsField, IsOriginIn, IsPlainTo, IsRegistry, LeadsBack, field_at}
@@ -26,10 +26,7 @@ use Rattle.ob_schema.specs.declared.info.FieldInfo.{FieldInfo}
 use Rattle.ob_schema.specs.declared.info.ModelInfo.{ModelInfo}
 use Rattle.ob_schema.specs.declared.info.Origin.{Origin}
 use Rattle.ob_schema.specs.declared.info.Origin.TheVariants as origin
-use Rattle.ob_tables.proofs.KnownFields.{Field-at, known_if, there_is, told_and}
-use Rattle.ob_tables.proofs.NamedBack.{Stands, rows_in-there}
-use Rattle.ob_tables.proofs.Rising.{ids-rise}
-use Rattle.ob_tables.proofs.RowIds.{HasAt, at-names, ids-there, names-at, there-ids}
+use Rattle.ob_tables.proofs.CallerLemmas.{Field-at, HasAt, Stands, at-names, ids-rise, ids-there, known_if, names-at, rows_in-there, there-ids, there_is, told_and}
 
 no-is-not-yes : false ≡ true → ⊥
 no-is-not-yes is = cc

@@ -6,6 +6,7 @@ pub mod Pages
 pub mod Seen
 -- Facts and links.
 pub mod Telling
+pub mod Questions
 pub mod Rises
 pub mod Leading
 -- Values of cells.
@@ -33,6 +34,9 @@ pub mod MadeTables
 pub mod SameTables
 pub mod OpenedTables
 pub mod Inconsistent
+pub mod CellOrder
+pub mod StoredRising
+pub mod FirstShown
 pub mod PagedRows
 pub mod Opened
 pub mod Begun
@@ -42,3 +46,4 @@ pub mod Gathering
 pub mod KeptValues
 pub mod PutForms
 pub mod KeptAfter
+pub mod CallerLemmas

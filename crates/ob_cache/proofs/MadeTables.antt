@@ -35,8 +35,7 @@ use Rattle.ob_schema.specs.declared.info.FieldInfo.{FieldInfo}
 use Rattle.ob_schema.specs.declared.info.ModelInfo.{ModelInfo}
 use Rattle.ob_tables.specs.After.{after, edited, row_of, with_row}
 use Rattle.ob_tables.specs.Fitting.{AreFitValues, IsFitEdit, IsFitIn}
-use Rattle.ob_tables.proofs.KnownFields.{tell_and}
-use Rattle.ob_tables.proofs.Shown.{exact_rows, rows_total}
+use Rattle.ob_tables.proofs.CallerLemmas.{exact_rows, rows_total, tell_and}
 
 -- ---- rows
 

@@ -18,10 +18,10 @@ use Rattle.ob_cache.specs.Native.{HasNativeConstants, HaveNativeConstants}
 use Rattle.ob_expr.specs.declared.kind.Kind.{Kind}
 use Rattle.ob_expr.specs.declared.kind.Kind.TheVariants as kind
 use Rattle.ob_expr.specs.declared.row.Row.{Row}
-use Rattle.ob_syntax.specs.declared.sign.Operator.{Operator}
-use Rattle.ob_syntax.specs.declared.sign.Operator.TheVariants.{Or, And, Equal, NotEqual, Less, LessOrEqual, Greater, GreaterOrEqual, Add, Subtract, Multiply, Divide, Modulo}
-use Rattle.ob_syntax.specs.declared.syntax.Prefix.{Prefix}
-use Rattle.ob_syntax.specs.declared.syntax.Prefix.TheVariants.{Not, Minus}
+use Rattle.ob_base.specs.declared.syntax.Operator.{Operator}
+use Rattle.ob_base.specs.declared.syntax.Operator.TheVariants.{Or, And, Equal, NotEqual, Less, LessOrEqual, Greater, GreaterOrEqual, Add, Subtract, Multiply, Divide, Modulo}
+use Rattle.ob_base.specs.declared.syntax.Prefix.{Prefix}
+use Rattle.ob_base.specs.declared.syntax.Prefix.TheVariants.{Not, Minus}
 use Rattle.ob_expr.specs.declared.typed.Aggregate.{Aggregate}
 use Rattle.ob_expr.specs.declared.typed.Aggregate.TheVariants.{Count, Any, All, Sum, Extreme as AnExtreme}
 use Rattle.ob_expr.specs.declared.typed.Link.{Link}
@@ -30,8 +30,7 @@ use Rattle.ob_expr.specs.Computing.{Lack, overflow, too_long, bytes_of, chosen_v
 use Rattle.ob_expr.specs.Kinds.{empty_value}
 use Rattle.ob_expr.specs.Meaning.{cell_in, row_at, ids_of, follow, value_at, at_end, path_value, meaning, values_of}
 use Rattle.ob_expr.specs.TypedTree.{TypedTree, TypedTrees, no_trees, one_more, row_id, integer, a_text, truth, unset, path, prefix, binary, chosen, choice, joined, digits, over, kind_of}
-use Rattle.ob_expr.proofs.Outcomes.{then_ok, valued}
-use Rattle.ob_expr.proofs.Picked.{is_same, AllHave, chosen-has, set-have, extreme-has, each-has}
+use Rattle.ob_expr.proofs.CallerLemmas.{AllHave, chosen-has, each-has, extreme-has, is_same, set-have, then_ok, valued}
 
 -- its number fits 64 bits, its text is UTF-8, and its list isn't too long to be counted
 pub record IsProper (v : Value) : Type 0 where

@@ -35,7 +35,7 @@ use Rattle.ob_expr.specs.Computing.{Lack, overflow, too_long, zero_divisor, unre
 use Rattle.ob_expr.specs.Meaning.{follow, meaning, row_of, value_at}
 use Rattle.ob_expr.specs.Reads.{IsAmong}
 use Rattle.ob_expr.specs.TypedTree.{typed_tree_of}
-use Rattle.ob_expr.proofs.Outcomes.{then_ok}
+use Rattle.ob_expr.proofs.CallerLemmas.{then_ok}
 use Rattle.ob_schema.specs.Broken.{AreSound}
 use Rattle.ob_schema.specs.Built.{numbered}
 use Rattle.ob_schema.specs.Fields.{is_own, is_plain_from, is_plain_kept}
@@ -48,12 +48,7 @@ use Rattle.ob_schema.specs.declared.info.FieldInfo.{FieldInfo}
 use Rattle.ob_schema.specs.declared.info.ModelInfo.{ModelInfo}
 use Rattle.ob_schema.specs.declared.info.Origin.{Origin}
 use Rattle.ob_schema.specs.declared.info.Origin.TheVariants as origin
-use Rattle.ob_tables.proofs.Columns.{keeps, row-has}
-use Rattle.ob_tables.proofs.KnownFields.{known_if, told_and, there_is}
-use Rattle.ob_tables.proofs.Listing.{naming-rises}
-use Rattle.ob_tables.proofs.NamedBack.{naming-there}
-use Rattle.ob_tables.proofs.Rising.{id_cmp}
-use Rattle.ob_tables.proofs.Stable.{held_by, value_absent, value_there, value_unknown}
+use Rattle.ob_tables.proofs.CallerLemmas.{held_by, id_cmp, keeps, known_if, naming-rises, naming-there, row-has, there_is, told_and, value_absent, value_there, value_unknown}
 
 -- ---- values of a type
 

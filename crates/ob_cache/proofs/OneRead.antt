@@ -14,7 +14,7 @@ use Rattle.ob_io.specs.declared.store.KeptRow.{KeptRow}
 use Rattle.ob_schema.specs.Models.{HasModel, model_at}
 use Rattle.ob_schema.specs.declared.info.FieldInfo.{FieldInfo}
 use Rattle.ob_schema.specs.declared.info.ModelInfo.{ModelInfo}
-use Rattle.ob_tables.proofs.KnownFields.{is_there, known_if}
+use Rattle.ob_tables.proofs.CallerLemmas.{is_there, known_if}
 use Rattle.ob_tables.specs.declared.edit.Edit.TheVariants as edit
 
 module _ (models : List ModelInfo) (model : ModelNo) (next : ℕ) (row : KeptRow) (fields : List FieldInfo) (values : List Value) where

@@ -1,6 +1,6 @@
 -- What a store is opened as, by the rows that were read of it: sound tables with its rows, or a cell that shows that there are none.
-use Rattle.std.proofs.Common.{◌≡◌, ◌<◌, ◌≤◌, ◌^◌, ◌++◌, ℕ, Bool, true, false, cond, List, [], ◌∷◌, map, Option, Some, None, IsSome, Ok, sym, ap, subst, ◌∙◌, arith}
-use Rattle.std.specs.Prelude.{All, IfSome, IsOk}
+use Rattle.std.proofs.Common.{◌≡◌, ◌<◌, ◌≤◌, ◌^◌, ◌++◌, inl, inr, ℕ, Bool, true, false, cond, List, [], ◌∷◌, map, Option, Some, None, IsSome, Ok, refl, sym, ap, subst, ◌∙◌, arith}
+use Rattle.std.specs.Prelude.{⊤, All, IfSome, IsOk}
 use Rattle.std.specs.List.{AllByRecursion, cons_option, filter_map, flat_map}
 use Rattle.std.proofs.lemmas.List.Elements.{All-from_recursion, recursion_from_All}
 use Rattle.ob_base.specs.Limits.{max_models}
@@ -11,7 +11,7 @@ use Rattle.ob_base.specs.declared.refusal.Broken.{Broken}
 use Rattle.ob_base.specs.declared.value.Value.{Value}
 use Rattle.ob_cache.specs.Kept.{Kept, kept_columns}
 use Rattle.ob_cache.specs.Native.{IsNativeRegistry}
-use Rattle.ob_cache.specs.Opening.{IsInconsistent, StopsOpening}
+use Rattle.ob_cache.specs.Opening.{IsFirstInconsistent, StopsOpening}
 use Rattle.ob_cache.specs.Reading.{AreTold, DiffersAmong, IsOneOf, IsReadRow, ReadRow, ReadsModels, StopsReading, edit_of, entries, stored_of, tests_of}
 use Rattle.ob_cache.specs.Rooms.{AreReadable}
 use Rattle.ob_cache.specs.Standing.{FitNextIds, max_next_id}
@@ -23,12 +23,13 @@ use Rattle.ob_cache.proofs.KeptForms.{IsColumn, columns-at, each-back, each_of, 
 use Rattle.ob_cache.proofs.MadeTables.{edit-fit, next-after}
 use Rattle.ob_cache.proofs.NativeValues.{native-values}
 use Rattle.ob_cache.proofs.OpenedTables.{are-plain, keeps-made}
-use Rattle.ob_cache.proofs.PagedRows.{all-appended}
+use Rattle.ob_cache.proofs.FirstShown.{broken-first, other-first, unread-first}
+use Rattle.ob_cache.proofs.PagedRows.{all-appended, one-right}
 use Rattle.ob_cache.proofs.SameTables.{HaveOneBody}
 use Rattle.ob_cache.proofs.SoundForms.{field-of}
 use Rattle.ob_definition.specs.Values.{IsNative}
 use Rattle.ob_io.specs.Store.{Store}
-use Rattle.ob_schema.specs.Broken.{AreSound, IsBroken}
+use Rattle.ob_schema.specs.Broken.{AreSound, IsFirstBroken}
 use Rattle.ob_schema.specs.Fields.{Column, Holds, is_kept, is_plain_kept}
 use Rattle.ob_schema.specs.Models.{IsRegistry, field_at, is_computed_from, model_at}
 use Rattle.ob_schema.specs.Tables.{Fits, Standing, Tables, next_of, row_at}
@@ -38,7 +39,7 @@ use Rattle.ob_schema.specs.declared.info.ModelInfo.{ModelInfo}
 use Rattle.ob_tables.specs.After.{after}
 use Rattle.ob_tables.specs.Fitting.{IsFitEdit}
 use Rattle.ob_tables.specs.declared.edit.Edit.{Edit}
-use Rattle.ob_tables.proofs.KnownFields.{there_is}
+use Rattle.ob_tables.proofs.CallerLemmas.{there_is}
 
 -- a law of tables: those that are sound can be read
 abbrev pub AllReadable : List ModelInfo → Type 0
@@ -77,11 +78,12 @@ tests-there models next r read =
 
 -- reading stops where no sound tables have the rows
 pub reading-stops : (models : List ModelInfo) → IsRegistry models → AllReadable models → HaveOneBody → (kept : Option Store) (rose : Type 0) (fault : OpenFault)
-    → StopsReading models kept rose fault → StopsOpening models kept rose fault
+    → StopsReading models kept rose (λ _. ⊤) fault → StopsOpening models kept rose fault
 reading-stops models registry readable one kept rose open_fault.Keeper stops = stops
 reading-stops models registry readable one kept rose open_fault.NoMemory stops = tt
 reading-stops models registry readable one None rose (open_fault.Inconsistent cell) stops = tt
-reading-stops models registry readable one (Some store) rose (open_fault.Inconsistent cell) stops = unread-inconsistent models registry readable one store cell stops
+reading-stops models registry readable one (Some store) rose (open_fault.Inconsistent cell) stops =
+    record { inconsistent = unread-inconsistent models registry readable one store cell stops.shows; first = inl (unread-first models registry store cell stops) }
 
 module _ (models : List ModelInfo) (kept : Option Store) (before : Tables) (none rows : ReadRows) (no_edits : none.edits ≡ []) (no_tests : none.stored ≡ []) (read : ReadsModels models kept max_models before none rows) where
   pub edits-are : rows.edits ≡ map edit_of read.reads
@@ -128,24 +130,29 @@ module _ (models : List ModelInfo) (kept : Option Store) (before : Tables) (none
 
   module _ (registry : IsRegistry models) (readable : AllReadable models) (one : HaveOneBody) where
     -- where they break something, no sound tables have the rows
-    pub broken-stops : Fits models opened → (broken : Broken) → IsBroken models opened broken → IfSome kept (λ store. IsInconsistent models store broken.cell)
+    pub broken-stops : Fits models opened → (broken : Broken) → IsFirstBroken models opened broken → IfSome kept (λ store. IsFirstInconsistent models store broken.cell)
     broken-stops fits broken breaks = by kept read.told
       where
-        by : (o : Option Store) → IfSome o (AreTold models max_models before read.reads) → IfSome o (λ store. IsInconsistent models store broken.cell)
+        by : (o : Option Store) → IfSome o (AreTold models max_models before read.reads) → IfSome o (λ store. IsFirstInconsistent models store broken.cell)
         by None told = tt
-        by (Some store) told = broken-inconsistent models registry readable one store opened (are-plain models registry one before read.reads store read.each read.empty told fits) broken breaks
+        by (Some store) told =
+            let are = are-plain models registry one before read.reads store read.each read.empty told fits in
+            record { inconsistent = broken-inconsistent models registry readable one store opened are broken breaks.there; first = inr (inl (broken-first models registry store one opened are broken breaks)) }
 
     -- nor where a stored cell is another
     pub differs-stops : AreSound models opened → (rose : Type 0) (fault : OpenFault) → DiffersAmong (record { models = models; tables = opened }) rows.stored fault → StopsOpening models kept rose fault
     differs-stops sound rose open_fault.Keeper differs = absurd differs
     differs-stops sound rose open_fault.NoMemory differs = tt
-    differs-stops sound rose (open_fault.Inconsistent cell) (v, among, differs) = by kept read.told
+    differs-stops sound rose (open_fault.Inconsistent cell) (front, v, rest, split, right, differs) = by kept read.told
       where
-        by : (o : Option Store) → IfSome o (AreTold models max_models before read.reads) → IfSome o (λ store. IsInconsistent models store cell)
+        by : (o : Option Store) → IfSome o (AreTold models max_models before read.reads) → IfSome o (λ store. IsFirstInconsistent models store cell)
         by None told = tt
         by (Some store) told =
-            other-inconsistent models registry readable one store before read.reads read.each opened (are-plain models registry one before read.reads store read.each read.empty told sound.fits) sound told.row cell v
-            (subst (λ (l : List (Cell × Value)). IsOneOf (cell, v) l) tests-are among) differs
+            let are = are-plain models registry one before read.reads store read.each read.empty told sound.fits in
+            let parts : flat_map tests_of read.reads ≡ front ++ (cell, v) ∷ rest = sym tests-are ∙ split in
+            let both = other-inconsistent models registry readable one store before read.reads read.each opened are sound told.row cell v
+            (subst (IsOneOf (cell, v)) (sym parts) (one-right (cell, v) front ((cell, v) ∷ rest) (inl refl))) differs in
+            record { inconsistent = both.0; first = inr (inr (other-first models registry store one opened are before read.reads read.each read.empty told cell v front rest parts right both.1)) }
 
     -- else the store keeps them
     pub all-kept : AreSound models opened → All (λ s. val models opened s.0 ≡ Ok s.1) rows.stored → IfSome kept (Kept models opened)

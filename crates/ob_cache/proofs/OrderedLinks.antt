@@ -25,9 +25,7 @@ use Rattle.ob_definition.specs.declared.field_type.FieldType.TheVariants as type
 use Rattle.ob_io.specs.Store.{Fits63, IsRowFit, in_order, link_cmp}
 use Rattle.ob_io.specs.declared.store.KeptRow.{KeptRow}
 use Rattle.ob_io.specs.declared.store.Link.{Link}
-use Rattle.ob_io.proofs.RisingIds.{id_cmp, sorted-from_rising}
-use Rattle.ob_io.proofs.Shown.{exact_links, links_total}
-use Rattle.ob_io.proofs.SortedEntries.{is_sorted-from_keys}
+use Rattle.ob_io.proofs.CallerLemmas.{exact_links, id_cmp, is_sorted-from_keys, links_total, sorted-from_rising}
 use Rattle.ob_schema.specs.Fields.{Column, Holds, is_plain_kept}
 use Rattle.ob_schema.specs.Plain.{targets_of}
 use Rattle.ob_schema.specs.declared.info.FieldInfo.{FieldInfo}

@@ -19,15 +19,12 @@ use Rattle.ob_base.specs.Ids.{row_key_cmp}
 use Rattle.ob_base.specs.declared.id.ModelNo.{ModelNo}
 use Rattle.ob_base.specs.declared.id.RecId.{RecId}
 use Rattle.ob_base.specs.declared.id.RowKey.{RowKey}
-use Rattle.ob_cache.specs.Reading.{IsOneOf, rows_of}
+use Rattle.ob_cache.specs.Reading.{EachBefore, IsOneOf, rows_of}
 use Rattle.ob_cache.proofs.OpenedTables.{of-each, of-one}
 use Rattle.ob_io.specs.Store.{RowsNamed, Store, row_at, rows_after}
 use Rattle.ob_io.specs.declared.store.KeptRow.{KeptRow}
-use Rattle.ob_io.proofs.RisingIds.{sorted-unmap}
-use Rattle.ob_io.proofs.Shown.{exact_rows, rows_total}
-use Rattle.ob_io.proofs.SortedEntries.{keys-from_is_sorted}
-use Rattle.ob_tables.proofs.NamedBack.{entry_found, Stands}
-use Rattle.ob_tables.proofs.KnownFields.{known_if}
+use Rattle.ob_io.proofs.CallerLemmas.{exact_rows, keys-from_is_sorted, rows_total, sorted-unmap}
+use Rattle.ob_tables.proofs.CallerLemmas.{Stands, entry_found, known_if}
 
 -- an entry of a store
 abbrev Entry : Type 0
@@ -163,6 +160,20 @@ after-false model after e low = by (e.0.model.0 == model.0)
     by true = not-above after.0 e.0.id.0 low
     by false = refl
 
+-- an entry of the model, named as its row
+abbrev IsOwn : ModelNo → Entry → Type 0
+IsOwn model e = (e.0.model.0 ≡ model.0) × (e.1.id ≡ e.0.id)
+
+rising-entries : (model : ModelNo) (l : List Entry) → AllByRecursion (IsOwn model) l → IsStrictlySortedBy entry_cmp l → EachBefore (λ a b. a.id.0 < b.id.0) (map (λ (e : Entry). e.1) l)
+unfolding IsStrictlySortedBy
+rising-entries model [] all sorted = tt
+rising-entries model (e ∷ l) all sorted = (each l all.1 sorted.0, rising-entries model l all.1 sorted.1)
+  where
+    each : (others : List Entry) → AllByRecursion (IsOwn model) others → AllByRecursion (λ x. entry_cmp e x ≡ Less) others → AllByRecursion (λ r. e.1.id.0 < r.id.0) (map (λ (x : Entry). x.1) others)
+    each [] known less = tt
+    each (x ∷ others) known less =
+        (subst (λ (id : RecId). e.1.id.0 < id.0) (sym known.0.1) (subst (λ (id : RecId). id.0 < x.0.id.0) (sym all.0.1) (same-model e.0 x.0 (all.0.0 ∙ sym known.0.0) less.0)), each others known.1 less.1)
+
 -- ---- a store
 
 module _ (store : Store) (named : RowsNamed store) where
@@ -249,6 +260,23 @@ module _ (store : Store) (named : RowsNamed store) where
         let id_is : row.id ≡ e.0.id = ap (λ (k : KeptRow). k.id) is ∙ entry-named e kept.0 in
         (λ i. row_at store (model_is i) (id_is i)) ∙ found e kept.0 ∙ ap Some (sym is)
 
+    -- and has an id above the one from which they are told
+    pub rows-after-above : (row : KeptRow) → IsOneOf row (rows_after store model after) → after.0 < row.id.0
+    rows-after-above row one =
+        let (e, among, is) = one-unmapped (λ (e : Entry). e.1) row (filter (is_after model after) (finite.entries store.rows)) one in
+        let kept = one-filtered (is_after model after) e (finite.entries store.rows) among in
+        let id_is : e.0.id ≡ row.id = sym (ap (λ (k : KeptRow). k.id) is ∙ entry-named e kept.0) in
+        subst (λ (id : RecId). after.0 < id.0) id_is (after-parts model after e kept.1).1
+
+    -- they rise
+    rows-after-rising : EachBefore (λ a b. a.id.0 < b.id.0) (rows_after store model after)
+    rows-after-rising =
+        rising-entries model (filter (is_after model after) (finite.entries store.rows)) (of-each (IsOwn model) (filter (is_after model after) (finite.entries store.rows)) own)
+        (IsStrictlySortedBy-filter entry_cmp (is_after model after) (finite.entries store.rows) entries-sorted)
+      where
+        own : (e : Entry) → IsOneOf e (filter (is_after model after) (finite.entries store.rows)) → IsOwn model e
+        own e among = let kept = one-filtered (is_after model after) e (finite.entries store.rows) among in ((after-parts model after e kept.1).0, entry-named e kept.0)
+
   find-one : (q : RowKey) (xs : List Entry) (row : KeptRow) → find row_key_cmp q xs ≡ Some row → IsOneOf (q, row) xs
   find-one q [] row is = absurd cc
   find-one q (x ∷ xs) row is = by (is_eq (row_key_cmp q x.0)) refl is (λ later. find-one q xs row later)
@@ -261,6 +289,14 @@ module _ (store : Store) (named : RowsNamed store) where
       by false same at rest = inr (rest at)
 
   module _ (model : ModelNo) where
+    -- a row of the model with an id above 0 is one of those above it
+    pub row-above : (id : RecId) (row : KeptRow) → row_at store model id ≡ Some row → 0 < id.0 → IsOneOf row (rows_after store model (record { 0 = 0 }))
+    row-above id row there low =
+        let key : RowKey = record { model = model; id = id } in
+        let one = find-one key (finite.entries store.rows) row (sym (finite.get-entries store.rows key) ∙ there) in
+        one-mapped (λ (e : Entry). e.1) (key, row) (filter (is_after model (record { 0 = 0 })) (finite.entries store.rows))
+        (one-kept (is_after model (record { 0 = 0 })) (key, row) (finite.entries store.rows) one (after-true model (record { 0 = 0 }) (key, row) refl low))
+
     -- each row of the model is one of them
     pub row-among : (id : RecId) (row : KeptRow) → row_at store model id ≡ Some row → IsOneOf row (rows_of store model)
     row-among id row there = by id.0 refl
@@ -272,12 +308,7 @@ module _ (store : Store) (named : RowsNamed store) where
         by zero is =
             let at : row_at store model (record { 0 = 0 }) ≡ Some row = ap (λ (n : ℕ). row_at store model (record { 0 = n })) (sym is) ∙ there in
             subst (λ (o : Option KeptRow). IsOneOf row (option_map_or (λ r. r ∷ []) o [] ++ rows_after store model (record { 0 = 0 }))) (sym at) (inl refl)
-        by (suc n) is =
-            let key : RowKey = record { model = model; id = id } in
-            let one = find-one key (finite.entries store.rows) row (sym (finite.get-entries store.rows key) ∙ there) in
-            one-right row (option_map_or (λ r. r ∷ []) (row_at store model (record { 0 = 0 })) []) (rows_after store model (record { 0 = 0 }))
-            (one-mapped (λ (e : Entry). e.1) (key, row) (filter (is_after model (record { 0 = 0 })) (finite.entries store.rows))
-            (one-kept (is_after model (record { 0 = 0 })) (key, row) (finite.entries store.rows) one (after-true model (record { 0 = 0 }) (key, row) refl (pos id.0 n is))))
+        by (suc n) is = one-right row (option_map_or (λ r. r ∷ []) (row_at store model (record { 0 = 0 })) []) (rows_after store model (record { 0 = 0 })) (row-above id row there (pos id.0 n is))
           where
             pos : (a n : ℕ) → a ≡ suc n → 0 < a
             pos a n is = omega arith
@@ -291,3 +322,16 @@ module _ (store : Store) (named : RowsNamed store) where
         first : (o : Option KeptRow) → row_at store model (record { 0 = 0 }) ≡ o → AllByRecursion (λ row. row_at store model row.id ≡ Some row) (option_map_or (λ r. r ∷ []) o [])
         first None is = tt
         first (Some row) is = (ap (row_at store model) (known_if (row_at store model (record { 0 = 0 })) row (λ r. r.id ≡ record { 0 = 0 }) is (named model (record { 0 = 0 }))) ∙ is, tt)
+
+    -- in their order
+    pub rows-rising : EachBefore (λ a b. a.id.0 < b.id.0) (rows_of store model)
+    rows-rising = first (row_at store model (record { 0 = 0 })) refl
+      where
+        first : (o : Option KeptRow) → row_at store model (record { 0 = 0 }) ≡ o → EachBefore (λ a b. a.id.0 < b.id.0) (option_map_or (λ r. r ∷ []) o [] ++ rows_after store model (record { 0 = 0 }))
+        first None is = rows-after-rising model (record { 0 = 0 })
+        first (Some row) is =
+            let id_is = known_if (row_at store model (record { 0 = 0 })) row (λ r. r.id ≡ record { 0 = 0 }) is (named model (record { 0 = 0 })) in (
+              of-each (λ r. row.id.0 < r.id.0) (rows_after store model (record { 0 = 0 }))
+                  (λ r one. subst (λ (id : RecId). id.0 < r.id.0) (sym id_is) (rows-after-above model (record { 0 = 0 }) r one)),
+              rows-after-rising model (record { 0 = 0 }),
+            )

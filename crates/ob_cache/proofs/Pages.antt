@@ -1,6 +1,6 @@
 -- Pages of ids.
-use Rattle.std.proofs.Common.{◌≡◌, ◌⊎◌, ◌≤◌, ◌<◌, ◌-◌, ◌^◌, inl, inr, ℕ, true, List, [], ◌∷◌, map, filter, take, length, is_some, IsSome, refl, ap, subst, sym, arith}
-use Rattle.std.specs.Prelude.{All, nat_lt}
+use Rattle.std.proofs.Common.{◌≡◌, ◌⊎◌, ◌≤◌, ◌<◌, ◌-◌, ◌^◌, inl, inr, ℕ, true, List, [], ◌∷◌, map, filter, take, length, Option, Some, None, is_some, IsSome, refl, ap, subst, sym, arith}
+use Rattle.std.specs.Prelude.{All, IsSomeAnd, nat_lt, option_and_then}
 use Rattle.std.proofs.lemmas.List.{length-take}
 use Rattle.std.proofs.lemmas.List.Elements.{All-cons, All-filter, All-map, All-nil, All-take, All-weaker, filter_passes}
 use Rattle.std.proofs.lemmas.Bool.Decides.{nat_tests}
@@ -9,11 +9,15 @@ use Rattle.ob_base.specs.declared.id.FieldNo.{FieldNo}
 use Rattle.ob_base.specs.declared.id.ModelNo.{ModelNo}
 use Rattle.ob_base.specs.declared.id.RecId.{RecId}
 use Rattle.ob_cache.specs.Stages.{IsPageAbove}
+use Rattle.ob_schema.specs.Built.{numbered}
+use Rattle.ob_schema.specs.Models.{FieldHas, HasModel, fields_of, model_at}
 use Rattle.ob_schema.specs.Plain.{names, naming}
 use Rattle.ob_schema.specs.Tables.{PlainRow, Tables, ids_in, kept_in, row_at, rows_in}
+use Rattle.ob_schema.specs.declared.info.FieldInfo.{FieldInfo}
+use Rattle.ob_schema.specs.declared.info.ModelInfo.{ModelInfo}
 use Rattle.ob_tables.specs.Fitting.{IsFitId}
 use Rattle.ob_tables.specs.Paging.{first_above}
-use Rattle.ob_tables.proofs.NamedBack.{Stands, rows_in-there}
+use Rattle.ob_tables.proofs.CallerLemmas.{Stands, rows_in-there}
 
 less : (a b : ℕ) → nat_lt a b ≡ true → a < b
 less a b h = grind (arith, nat_tests)
@@ -55,3 +59,11 @@ page-fits after most all ids is fit rising =
           (All-weaker (λ id. is_above id ≡ true) (λ id. after.0 < id.0) (λ id h. less after.0 id.0 h) (filter is_above all) (filter_passes is_above all)));
       rising = rising;
     }
+
+-- a field that has a property is one of a model
+pub model-there : (models : List ModelInfo) (model : ModelNo) (field : FieldNo) (P : FieldInfo → Type 0) → FieldHas models P model field → HasModel models model
+model-there models model field P has = by (model_at models model) has
+  where
+    by : (o : Option ModelInfo) → IsSomeAnd (option_and_then (λ info. numbered (fields_of info) field.0) o) P → IsSome o
+    by None has = absurd has
+    by (Some info) has = refl

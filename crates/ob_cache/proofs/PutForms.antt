@@ -21,7 +21,7 @@ use Rattle.ob_schema.specs.Fields.{kept_fields}
 use Rattle.ob_schema.specs.Models.{IsRegistry, kept_at, model_at}
 use Rattle.ob_schema.specs.Tables.{PlainRow, Standing, key_of, row_at}
 use Rattle.ob_schema.specs.declared.info.ModelInfo.{ModelInfo}
-use Rattle.ob_tables.proofs.KnownFields.{is_there}
+use Rattle.ob_tables.proofs.CallerLemmas.{is_there}
 
 module _ (s : Standing) (registry : IsRegistry s.models) (known : AreReadable s.models s.tables) (model : ModelNo) (info : ModelInfo) (is : model_at s.models model ≡ Some info) (id : RecId) (there : IsSome (row_at s.tables model id)) where
   abbrev row : PlainRow

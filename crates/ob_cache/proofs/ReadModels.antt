@@ -1,6 +1,6 @@
 -- Models whose rows are read, one behind the other.
 use Rattle.std.proofs.Common.{◌≡◌, ◌<◌, ◌≤◌, ◌+◌, ◌^◌, ◌⊎◌, ◌++◌, inl, inr, ℕ, zero, suc, Bool, true, false, cond, List, [], ◌∷◌, map, Option, Some, None, option_map, unwrap_or, is_some, IsSome, refl, sym, ap, subst, ◌∙◌, arith}
-use Rattle.std.specs.Prelude.{IfSome}
+use Rattle.std.specs.Prelude.{⊤, IfSome, IsSomeAnd}
 use Rattle.std.specs.FinMap as finite
 use Rattle.std.specs.FinMap.Entries.{find}
 use Rattle.std.specs.List.{AllByRecursion, enumerate_from}
@@ -9,21 +9,28 @@ use Rattle.std.specs.Cmp.{nat_cmp_total, tied_itself}
 use Rattle.std.proofs.lemmas.Bool.{cases_eq}
 use Rattle.std.proofs.lemmas.Map.Lookups.{exact_unsigned}
 use Rattle.std.proofs.lemmas.Map.Views.{tells_apart}
+use Rattle.std.proofs.lemmas.Option.{same_Some}
 use Rattle.ob_base.specs.Ids.{row_key_cmp}
+use Rattle.ob_base.specs.declared.id.Cell.{Cell}
 use Rattle.ob_base.specs.declared.id.ModelNo.{ModelNo}
 use Rattle.ob_base.specs.declared.id.RecId.{RecId}
-use Rattle.ob_cache.specs.Reading.{AreTold, IsOneOf, IsReadRow, ReadRow, ReadsModels, ReadsRows, TellsAll, TellsNext, rows_of}
+use Rattle.ob_cache.specs.Opening.{IsReadAs, IsUnreadable, ShowsUnread}
+use Rattle.ob_cache.specs.Reading.{AreTold, EachBefore, IsBefore, IsFirstUnread, IsOneOf, IsReadRow, IsRowBefore, ReadRow, ReadsModels, ReadsRows, StopsReading, TellsAll, TellsNext, rows_of}
+use Rattle.ob_cache.specs.Rooms.{IsOf}
+use Rattle.ob_cache.specs.declared.fault.OpenFault.{OpenFault}
+use Rattle.ob_cache.specs.declared.fault.OpenFault.TheVariants as open_fault
 use Rattle.ob_cache.specs.declared.kept_rows.ReadRows.{ReadRows}
+use Rattle.ob_cache.proofs.CellOrder.{one-left, rising-appended}
 use Rattle.ob_cache.proofs.OpenedTables.{of-one}
-use Rattle.ob_cache.proofs.PagedRows.{all-appended, one-right, one-unmapped, row-among, rows-there}
-use Rattle.ob_cache.proofs.ReadPages.{adds-join, adds-none}
+use Rattle.ob_cache.proofs.PagedRows.{all-appended, one-right, one-unmapped, row-among, rows-rising, rows-there}
+use Rattle.ob_cache.proofs.ReadPages.{adds-join, adds-none, none-shown, not-unreadable}
 use Rattle.ob_io.specs.Store.{Fits63, RowsNamed, Store, next_of as kept_next_of, row_at as kept_row_at}
 use Rattle.ob_io.specs.declared.store.KeptRow.{KeptRow}
 use Rattle.ob_schema.specs.Models.{HasModel, model_at}
 use Rattle.ob_schema.specs.Tables.{PlainRow, Tables, empty_tables, key_of, next_of, row_at}
 use Rattle.ob_schema.specs.declared.info.ModelInfo.{ModelInfo}
 use Rattle.ob_tables.specs.After.{with_next_id}
-use Rattle.ob_tables.proofs.KnownFields.{known_if}
+use Rattle.ob_tables.proofs.CallerLemmas.{known_if, told_and}
 
 -- ---- what there is
 
@@ -35,11 +42,6 @@ there-as f (Some x) m b is there = sym (ap is_some is) ∙ there
 none-there : {X : Type 0} (o : Option X) → is_some o ≡ false → o ≡ None
 none-there None is = refl
 none-there (Some x) is = absurd cc
-
-one-left : {X : Type 0} (x : X) (xs ys : List X) → IsOneOf x xs → IsOneOf x (xs ++ ys)
-one-left x [] ys one = absurd one
-one-left x (y ∷ xs) ys (inl is) = inl is
-one-left x (y ∷ xs) ys (inr later) = inr (one-left x xs ys later)
 
 -- ---- next ids
 
@@ -130,11 +132,32 @@ module _ (models : List ModelInfo) (place : ℕ) (tables : Tables) (model : Mode
     rows-kept [] each there = tt
     rows-kept (r ∷ some) each there = (ap (λ (m : ModelNo). kept_row_at store m r.row.id) each.0.model_is ∙ there.0, rows-kept some each.1 there.1)
 
+    -- those of models before stand before them
+    rising-more : EachBefore IsBefore before → AreUpTo models place tables before → EachBefore IsBefore (before ++ more)
+    rising-more rising up = rising-appended IsBefore before more rising (own more each (subst (EachBefore (λ a b. a.id.0 < b.id.0)) (sym rows_are) (rows-rising store named model))) across
+      where
+        later : (a : ReadRow) (others : List ReadRow) → a.model ≡ model → AllByRecursion (IsReadRow models model next) others → AllByRecursion (λ row. a.row.id.0 < row.id.0) (map (λ r. r.row) others) → AllByRecursion (IsBefore a) others
+        later a [] is each low = tt
+        later a (b ∷ others) is each low = (inr (ap (λ (m : ModelNo). m.0) (is ∙ sym each.0.model_is), low.0), later a others is each.1 low.1)
+
+        own : (some : List ReadRow) → AllByRecursion (IsReadRow models model next) some → EachBefore (λ a b. a.id.0 < b.id.0) (map (λ r. r.row) some) → EachBefore IsBefore some
+        own [] each low = tt
+        own (r ∷ some) each low = (later r some each.0.model_is each.1 low.0, own some each.1 low.1)
+
+        below : (m n k : ℕ) → m ≤ k → n ≡ k + 1 → m < n
+        below m n k up is = omega arith
+
+        across : (a b : ReadRow) → IsOneOf a before → IsOneOf b more → IsBefore a b
+        across a b one other =
+            inl (below a.model.0 b.model.0 place (of-one (λ r. IsReadRow models r.model (next_of tables r.model) r × (r.model.0 ≤ place)) before a up one).1
+            (ap (λ (m : ModelNo). m.0) (of-one (IsReadRow models model next) more b each other).model_is ∙ number))
+
     model-is : (m : ModelNo) → m.0 ≡ place + 1 → m ≡ model
     model-is m at = ap (λ (n : ℕ). record { 0 = n }) (at ∙ sym number)
 
-    pub told-more : AreTold models (place + 1) (given tables model next) (before ++ more) store
-    told-more = record {
+    pub told-more : AreUpTo models place tables before → AreTold models (place + 1) (given tables model next) (before ++ more) store
+    told-more up = record {
+      rising = rising-more told.rising up;
       row = all-appended (λ r. kept_row_at store r.model r.row.id ≡ Some r.row) before more told.row
           (rows-kept more each (subst (AllByRecursion (λ row. kept_row_at store model row.id ≡ Some row)) (sym rows_are) (rows-there store named model)));
       all = all;
@@ -188,7 +211,7 @@ module _ (models : List ModelInfo) (kept : Option Store) where
 
       told : (o : Option Store) → IfSome o (AreTold models 0 (empty_tables models) [])
       told None = tt
-      told (Some store) = record { row = tt; all = λ model id row has low there. absurd (no-model model.0 low has); next = λ model has low. absurd (no-model model.0 low has) }
+      told (Some store) = record { rising = tt; row = tt; all = λ model id row has low there. absurd (no-model model.0 low has); next = λ model has low. absurd (no-model model.0 low has) }
 
   -- a model that is there
   pub models-more : (place : ℕ) (tables : Tables) (model : ModelNo) (next : ℕ) (a b c : ReadRows) → model.0 ≡ place + 1 → 1 ≤ next → Fits63 next → TellsNext kept model next
@@ -207,7 +230,7 @@ module _ (models : List ModelInfo) (kept : Option Store) where
       told : (o : Option Store) → TellsNext o model next → IfSome o (AreTold models place tables first.reads) → TellsAll o model (map (λ r. r.row) second.reads)
           → IfSome o (AreTold models (place + 1) (with_next_id model next tables) (first.reads ++ second.reads))
       told None tells before own = tt
-      told (Some store) tells before own = told-more models place tables model number next store own.0 first.reads second.reads second.each own.1 tells before
+      told (Some store) tells before own = told-more models place tables model number next store own.0 first.reads second.reads second.each own.1 tells before first.each
 
   -- and a number without one
   pub models-passed : (place : ℕ) (tables : Tables) (model : ModelNo) (a b : ReadRows) → model.0 ≡ place + 1 → is_some (model_at models model) ≡ false
@@ -232,4 +255,52 @@ module _ (models : List ModelInfo) (kept : Option Store) where
 
       told : (o : Option Store) → IfSome o (AreTold models place tables read.reads) → IfSome o (AreTold models (place + 1) tables read.reads)
       told None before = tt
-      told (Some store) before = record { row = before.row; all = λ m id row has low there. before.all m id row has (below m has low) there; next = λ m has low. before.next m has (below m has low) }
+      told (Some store) before = record { rising = before.rising; row = before.row; all = λ m id row has low there. before.all m id row has (below m has low) there; next = λ m has low. before.next m has (below m has low) }
+
+-- ---- what can't be read
+
+module _ (models : List ModelInfo) (store : Store) (place : ℕ) (tables : Tables) (reads : List ReadRow) (up : AreUpTo models place tables reads) (told : AreTold models place tables reads store) (low : (model : ModelNo) → 1 ≤ next_of tables model) where
+  -- no row of the models that were read shows that it can't be
+  none-read : (cell : Cell) → cell.model.0 ≤ place → ShowsUnread models store cell → ⊥
+  none-read cell within shows =
+      let info = told_and (model_at models cell.model) (λ i. IsSomeAnd (kept_row_at store cell.model cell.id) (IsUnreadable store cell.model i cell.id) ⊎ ((cell.id.0 ≡ 0) × (kept_next_of store cell.model ≡ 0))) shows.1 in
+      by info.0 info.1
+    where
+      past : (k n : ℕ) → k ≡ n → 1 ≤ n → k ≡ 0 → ⊥
+      past k n same high next_is = omega arith
+
+      by : (info : ModelInfo) → model_at models cell.model ≡ Some info → ⊥
+      by info is =
+          let has : HasModel models cell.model = ap is_some is in
+          let next_is = told.next cell.model has within in
+          none-shown models store cell.model info is cell.id cell.field (λ none at. past (kept_next_of store cell.model) (next_of tables cell.model) next_is (low cell.model) none)
+          (λ row there unreadable.
+          (let (r, among, model_is, id_is) = told.all cell.model cell.id row has within there in
+          let read = (of-one (λ r. IsReadRow models r.model (next_of tables r.model) r × (r.model.0 ≤ place)) reads r up among).0 in
+          let row_is : r.row ≡ row = same_Some r.row row (sym (of-one (λ r. kept_row_at store r.model r.row.id ≡ Some r.row) reads r told.row among) ∙ (λ i. kept_row_at store (model_is i) (id_is i)) ∙ there) in
+          let info_is : r.info ≡ info = same_Some r.info info (sym read.info_is ∙ ap (model_at models) model_is ∙ is) in
+          not-unreadable models store cell.model info is (next_of tables cell.model) (sym next_is) cell.id row (ap (λ (k : KeptRow). k.id) (sym row_is) ∙ id_is)
+          (subst (λ (k : KeptRow). k.id.0 < next_of tables cell.model) row_is (subst (λ (m : ModelNo). r.row.id.0 < next_of tables m) model_is read.below), (r.values, subst (λ (i : ModelInfo). IsReadAs i row r.values) info_is (subst (λ (k : KeptRow). IsReadAs r.info k r.values) row_is read.read_as)))
+          unreadable)) shows
+
+-- where a model's rows aren't read, the first that can't be is the first of all
+pub models-stop : (models : List ModelInfo) (before now : Option Store) (rose risen : Type 0) (place : ℕ) (tables : Tables) (model : ModelNo) (fault : OpenFault) (a b : ReadRows) → model.0 ≡ place + 1 → now ≡ before → (risen → rose)
+    → ReadsModels models before place tables a b → StopsReading models now risen (IsOf model) fault → StopsReading models before rose (λ _. ⊤) fault
+models-stop models before now rose risen place tables model open_fault.Keeper a b number same more read stops = more stops
+models-stop models before now rose risen place tables model open_fault.NoMemory a b number same more read stops = tt
+models-stop models before now rose risen place tables model (open_fault.Inconsistent cell) a b number same more read stops =
+    by before read.told (subst (λ (o : Option Store). IfSome o (λ store. IsFirstUnread models store (IsOf model) cell)) same stops)
+  where
+    by : (o : Option Store) → IfSome o (AreTold models place tables read.reads) → IfSome o (λ store. IsFirstUnread models store (IsOf model) cell) → IfSome o (λ store. IsFirstUnread models store (λ _. ⊤) cell)
+    by None told first = tt
+    by (Some store) told first = record { among = tt; shows = first.shows; none_before = none }
+      where
+        under : (m n k : ℕ) → m < n → n ≡ k + 1 → m ≤ k
+        under m n k low is = omega arith
+
+        number_is : cell.model.0 ≡ place + 1
+        number_is = ap (λ (m : ModelNo). m.0) first.among ∙ number
+
+        none : (other : Cell) → ⊤ → ShowsUnread models store other → IsRowBefore other cell → ⊥
+        none other _ shows (inl less) = none-read models store place tables read.reads read.each told read.low other (under other.model.0 cell.model.0 place less number_is) shows
+        none other _ shows (inr less) = first.none_before other (ap (λ (n : ℕ). record { 0 = n }) less.0 ∙ first.among) shows (inr less)

@@ -8,10 +8,8 @@ use Rattle.std.proofs.lemmas.List.Kept.{IsStrictlySortedBy-filter}
 use Rattle.std.proofs.lemmas.Option.{same_Some}
 use Rattle.ob_base.specs.Rising.{IsRising}
 use Rattle.ob_base.specs.declared.id.RecId.{RecId}
-use Rattle.ob_io.proofs.RisingIds.{below-next, id_cmp, rising-from_sorted, sorted-from_rising}
-use Rattle.ob_tables.proofs.Listing.{at-item}
-use Rattle.ob_tables.proofs.Places.{place-below}
-use Rattle.ob_tables.proofs.RowIds.{HasAt}
+use Rattle.ob_io.proofs.CallerLemmas.{below-next, id_cmp, rising-from_sorted, sorted-from_rising}
+use Rattle.ob_tables.proofs.CallerLemmas.{HasAt, at-item, place-below}
 
 some-is-not-none : {X : Type 0} (x : X) → None ≡ Some x → ⊥
 some-is-not-none x is = cc

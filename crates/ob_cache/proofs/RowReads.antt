@@ -14,7 +14,7 @@ use Rattle.ob_cache.proofs.KeptForms.{each-back, each_of, links-are}
 use Rattle.ob_cache.specs.Kept.{links_of}
 use Rattle.ob_cache.specs.Opening.{IsReadAs, plain_row}
 use Rattle.ob_cache.specs.Reading.{IsTold, entries, links_for}
-use Rattle.ob_codec.proofs.RowLaws.{one_row_lem}
+use Rattle.ob_codec.proofs.CallerLemmas.{one_row_lem}
 use Rattle.ob_codec.specs.RowForm.{HoldAll, row_form}
 use Rattle.ob_io.specs.declared.store.KeptRow.{KeptRow}
 use Rattle.ob_io.specs.declared.store.Link.{Link}

@@ -22,7 +22,7 @@ use Rattle.ob_schema.specs.declared.info.FieldInfo.{FieldInfo}
 use Rattle.ob_schema.specs.declared.info.ModelInfo.{ModelInfo}
 use Rattle.ob_schema.specs.declared.info.Origin.{Origin}
 use Rattle.ob_schema.specs.declared.info.Origin.TheVariants as origin
-use Rattle.ob_tables.proofs.KnownFields.{known_at, told_and}
+use Rattle.ob_tables.proofs.CallerLemmas.{known_at, told_and}
 use Rattle.ob_tables.specs.Fitting.{IsFitId}
 use Rattle.ob_base.specs.declared.id.RecId.{RecId}
 

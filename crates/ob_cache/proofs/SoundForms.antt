@@ -39,11 +39,7 @@ use Rattle.ob_schema.specs.declared.info.FieldInfo.{FieldInfo}
 use Rattle.ob_schema.specs.declared.info.ModelInfo.{ModelInfo}
 use Rattle.ob_schema.specs.declared.info.Origin.{Origin}
 use Rattle.ob_schema.specs.declared.info.Origin.TheVariants as origin
-use Rattle.ob_tables.proofs.Along.{plain_is}
-use Rattle.ob_tables.proofs.Columns.{keeps, row-has}
-use Rattle.ob_tables.proofs.KnownFields.{Field-at, is_there, known_at, known_if, tell_and, there_is, told_and}
-use Rattle.ob_tables.proofs.RowIds.{at-names}
-use Rattle.ob_tables.proofs.Sources.{plain-there}
+use Rattle.ob_tables.proofs.CallerLemmas.{Field-at, at-names, is_there, keeps, known_at, known_if, plain-there, plain_is, row-has, tell_and, there_is, told_and}
 
 -- ---- fields of a model
 

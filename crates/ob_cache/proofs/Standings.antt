@@ -32,7 +32,7 @@ standing-over s models e = ap (λ (m : List ModelInfo). record { models = m; tab
 -- what is broken in staged tables is why they aren't settled
 pub unsettled : (stages : Stages) (s : Standing) (fault : ApplyFault) → s.models ≡ stages.models → s.tables ≡ stages.staged → ShowsUnsound s fault → ShowsUnsettled stages (settle_fault_of fault)
 unsettled stages s (apply_fault.Broken broken) models tables shown =
-    subst (λ (m : List ModelInfo). IsBroken m stages.staged broken) models (subst (λ (t : Tables). IsBroken s.models t broken) tables shown)
+    subst (λ (m : List ModelInfo). IsBroken m stages.staged broken) models (subst (λ (t : Tables). IsBroken s.models t broken) tables shown.there)
 unsettled stages s apply_fault.NoMemory models tables shown = tt
 
 -- the same of what is held

@@ -20,7 +20,7 @@ use Rattle.ob_definition.specs.Values.{HasType, initial_value}
 use Rattle.ob_definition.specs.declared.field_type.Choice.{Choice}
 use Rattle.ob_definition.specs.declared.field_type.FieldType.{FieldType}
 use Rattle.ob_definition.specs.declared.field_type.FieldType.TheVariants as type
-use Rattle.ob_io.proofs.RisingIds.{rising-from_sorted}
+use Rattle.ob_io.proofs.CallerLemmas.{rising-from_sorted}
 use Rattle.ob_schema.specs.Built.{numbered}
 use Rattle.ob_schema.specs.Fields.{IsGivable, is_plain_from, is_plain_kept}
 use Rattle.ob_schema.specs.Models.{HasKeysOf, IsDelegatedIn, IsOriginIn, IsRegistry, field_at, fields_of, is_computed_from, model_at}
@@ -32,10 +32,7 @@ use Rattle.ob_schema.specs.declared.info.FieldInfo.{FieldInfo}
 use Rattle.ob_schema.specs.declared.info.ModelInfo.{ModelInfo}
 use Rattle.ob_schema.specs.declared.info.Origin.{Origin}
 use Rattle.ob_schema.specs.declared.info.Origin.TheVariants as origin
-use Rattle.ob_tables.proofs.Columns.{keeps, row-has}
-use Rattle.ob_tables.proofs.GivenValues.{keeps-fields}
-use Rattle.ob_tables.proofs.KnownFields.{Field-at, known_at, known_if, told_and}
-use Rattle.ob_tables.proofs.Listing.{naming-rises}
+use Rattle.ob_tables.proofs.CallerLemmas.{Field-at, keeps, keeps-fields, known_at, known_if, naming-rises, row-has, told_and}
 
 one2many-is : (t : FieldType) → is_one2many t ≡ true → t ≡ type.One2many
 one2many-is type.Boolean is = absurd cc

@@ -1,9 +1,11 @@
--- What a cell shows of a store that no sound tables have the rows of.
+-- What a cell shows of a store that no sound tables have the rows of, and which cell is told.
 use Rattle.std.specs.Prelude.{◌≡◌, ◌≢◌, ◌≤◌, ◌⊎◌, ◌==◌, ℕ, List, ⊤, zip, Option, Some, None, IfSome, IsSomeAnd, if◌then◌else◌, true, Ok}
 use Rattle.std.specs.List.{filter_map}
 use Rattle.std.specs.Map.{lookup}
 use Rattle.std.specs.Ordering.{nat_cmp}
 use Rattle.std.specs.FinMap as finite
+use Rattle.std.specs.declared.cmp.Ordering.TheVariants.{Less}
+use Rattle.ob_base.specs.BrokenOrder.{cell_order}
 use Rattle.ob_base.specs.declared.id.Cell.{Cell}
 use Rattle.ob_base.specs.declared.id.FieldNo.{FieldNo}
 use Rattle.ob_base.specs.declared.id.ModelNo.{ModelNo}
@@ -49,6 +51,11 @@ pub record IsReadAs (info : ModelInfo) (kept : KeptRow) (values : List Value) : 
 abbrev pub IsUnreadable : Store → ModelNo → ModelInfo → RecId → KeptRow → Type 0
 IsUnreadable store model info id kept = (kept_next_of store model ≤ id.0) ⊎ ((values : List Value) → IsReadAs info kept values → ⊥)
 
+-- the first of the cells that show something: by model, then id, then field
+pub record IsFirstTo (Shows : Cell → Type 0) (cell : Cell) : Type 0 where
+  pub shows : Shows cell
+  pub none_before : (other : Cell) → Shows other → cell_order other cell ≡ Less → ⊥
+
 module _ (models : List ModelInfo) (store : Store) where
   -- the rows of a model that are kept are those of the tables, by their plain values alone; and so is the next id
   pub record HasRowsOf (tables : Tables) (model : ModelNo) (info : ModelInfo) : Type 0 where
@@ -89,10 +96,15 @@ module _ (models : List ModelInfo) (store : Store) where
     pub none : (tables : Tables) → AreSound models tables → Kept models tables store → ⊥
     pub shown : ShowsUnread cell ⊎ (ShowsBroken cell ⊎ ShowsOther cell)
 
--- why a store isn't opened: the keeper failed, its rows are those of no sound tables, or memory is wanting
+  -- it is the first to show it: of the rows that can't be read; where all can, of what their values break; where they break nothing, of the stored cells
+  pub record IsFirstInconsistent (cell : Cell) : Type 0 where
+    pub inconsistent : IsInconsistent cell
+    pub first : IsFirstTo ShowsUnread cell ⊎ (IsFirstTo ShowsBroken cell ⊎ IsFirstTo ShowsOther cell)
+
+-- why a store isn't opened: the keeper failed, its rows are those of no sound tables, which the first cell shows, or memory is wanting
 abbrev pub StopsOpening : List ModelInfo → Option Store → Type 0 → OpenFault → Type 0
 StopsOpening models kept rose fault.Keeper = rose
-StopsOpening models kept rose (fault.Inconsistent cell) = IfSome kept (λ store. IsInconsistent models store cell)
+StopsOpening models kept rose (fault.Inconsistent cell) = IfSome kept (λ store. IsFirstInconsistent models store cell)
 StopsOpening models kept rose fault.NoMemory = ⊤
 
 -- a cell that is told to show it is one of the models'

@@ -61,6 +61,15 @@ edit_of r = edit.Make r.model r.row.id (filter_map given_of (entries r.info.fiel
 abbrev pub tests_of : ReadRow → List (Cell × Value)
 tests_of r = filter_map (stored_of r.model r.row.id) (entries r.info.fields r.values)
 
+-- one stands before another: by model, then id
+abbrev pub IsBefore : ReadRow → ReadRow → Type 0
+IsBefore a b = (a.model.0 < b.model.0) ⊎ ((a.model.0 ≡ b.model.0) × (a.row.id.0 < b.row.id.0))
+
+-- each of a list stands before all behind it
+abbrev pub EachBefore : {X : Type 0} → (X → X → Type 0) → List X → Type 0
+EachBefore Before [] = ⊤
+EachBefore Before (x ∷ xs) = AllByRecursion (Before x) xs × EachBefore Before xs
+
 -- rows add the edits that make them, and what is tested of them
 pub record AddsRows (reads : List ReadRow) (old new : ReadRows) : Type 0 where
   pub edits : new.edits ≡ old.edits ++ map edit_of reads
@@ -100,8 +109,9 @@ TellsUpTo kept model after rows = IfSome kept (λ store. rows ++ rows_after stor
 abbrev pub TellsNext : Option Store → ModelNo → ℕ → Type 0
 TellsNext kept model next = IfSome kept (λ store. next ≡ kept_next_of store model)
 
--- of each model up to a number the rows that were read are those that are kept, and the next id is the kept one
+-- of each model up to a number the rows that were read are those that are kept, in their order, and the next id is the kept one
 pub record AreTold (models : List ModelInfo) (place : ℕ) (tables : Tables) (reads : List ReadRow) (store : Store) : Type 0 where
+  pub rising : EachBefore IsBefore reads
   pub row : AllByRecursion (λ r. kept_row_at store r.model r.row.id ≡ Some r.row) reads
   pub all : (model : ModelNo) (id : RecId) (row : KeptRow) → HasModel models model → model.0 ≤ place → kept_row_at store model id ≡ Some row → (r : ReadRow) × IsOneOf r reads × (r.model ≡ model) × (r.row.id ≡ id)
   pub next : (model : ModelNo) → HasModel models model → model.0 ≤ place → kept_next_of store model ≡ next_of tables model
@@ -116,7 +126,11 @@ pub record ReadsModels (models : List ModelInfo) (kept : Option Store) (place : 
   pub fits : (model : ModelNo) → next_of tables model < 2 ^ 63
   pub told : IfSome kept (AreTold models place tables reads)
 
--- a row of a model with this next id can't be read
+-- a row of a model with this next id can be read
+abbrev pub CanBeRead : ℕ → ModelInfo → KeptRow → Type 0
+CanBeRead next info kept = (kept.id.0 < next) × ((values : List Value) × IsReadAs info kept values)
+
+-- it can't
 abbrev pub CannotBeRead : ℕ → ModelInfo → KeptRow → Type 0
 CannotBeRead next info kept = (next ≤ kept.id.0) ⊎ ((values : List Value) → IsReadAs info kept values → ⊥)
 
@@ -132,18 +146,39 @@ IsUnreadAt models next info kept model (open_fault.Inconsistent cell) =
 IsUnreadAt models next info kept model open_fault.Keeper = ⊥
 IsUnreadAt models next info kept model open_fault.NoMemory = ⊤
 
--- the same of one of some rows
+-- the same of one of some rows, where all before it can be read
 abbrev pub IsUnreadAmong : List ModelInfo → ℕ → ModelInfo → List KeptRow → ModelNo → OpenFault → Type 0
-IsUnreadAmong models next info rows model fault = (row : KeptRow) × IsOneOf row rows × IsUnreadAt models next info row model fault
+IsUnreadAmong models next info rows model fault =
+    (front : List KeptRow) × (row : KeptRow) × (rest : List KeptRow) × (rows ≡ front ++ row ∷ rest) × AllByRecursion (CanBeRead next info) front × IsUnreadAt models next info row model fault
 
--- why rows aren't read: the keeper failed, a row can't be read, or memory is wanting
-abbrev pub StopsReading : List ModelInfo → Option Store → Type 0 → OpenFault → Type 0
-StopsReading models kept rose open_fault.Keeper = rose
-StopsReading models kept rose (open_fault.Inconsistent cell) = IfSome kept (λ store. ShowsUnread models store cell)
-StopsReading models kept rose open_fault.NoMemory = ⊤
+-- the cells of rows of a model whose ids are above 0
+pub record IsAboveNone (model : ModelNo) (cell : Cell) : Type 0 where
+  pub model_is : cell.model ≡ model
+  pub above : 0 < cell.id.0
 
--- a computed cell is kept with another value than its own from scratch
+-- the row of a cell stands before that of another
+abbrev pub IsRowBefore : Cell → Cell → Type 0
+IsRowBefore a b = (a.model.0 < b.model.0) ⊎ ((a.model.0 ≡ b.model.0) × (a.id.0 < b.id.0))
+
+-- a cell shows that a row can't be read, and no row before it among some does
+pub record IsFirstUnread (models : List ModelInfo) (store : Store) (Among : Cell → Type 0) (cell : Cell) : Type 0 where
+  pub among : Among cell
+  pub shows : ShowsUnread models store cell
+  pub none_before : (other : Cell) → Among other → ShowsUnread models store other → IsRowBefore other cell → ⊥
+
+-- why the rows of some cells aren't read: the keeper failed, this is the first that can't be read, or memory is wanting
+abbrev pub StopsReading : List ModelInfo → Option Store → Type 0 → (Cell → Type 0) → OpenFault → Type 0
+StopsReading models kept rose Among open_fault.Keeper = rose
+StopsReading models kept rose Among (open_fault.Inconsistent cell) = IfSome kept (λ store. IsFirstUnread models store Among cell)
+StopsReading models kept rose Among open_fault.NoMemory = ⊤
+
+-- what is kept for a cell is its value from scratch
+abbrev pub IsRight : Standing → Cell × Value → Type 0
+IsRight standing s = val standing.models standing.tables s.0 ≡ Ok s.1
+
+-- a computed cell is kept with another value than its own from scratch, and none before it
 abbrev pub DiffersAmong : Standing → List (Cell × Value) → OpenFault → Type 0
-DiffersAmong standing stored (open_fault.Inconsistent cell) = (v : Value) × IsOneOf (cell, v) stored × (val standing.models standing.tables cell ≢ Ok v)
+DiffersAmong standing stored (open_fault.Inconsistent cell) =
+    (front : List (Cell × Value)) × (v : Value) × (rest : List (Cell × Value)) × (stored ≡ front ++ (cell, v) ∷ rest) × AllByRecursion (IsRight standing) front × (val standing.models standing.tables cell ≢ Ok v)
 DiffersAmong standing stored open_fault.Keeper = ⊥
 DiffersAmong standing stored open_fault.NoMemory = ⊤

@@ -11,8 +11,6 @@ use Rattle.ob_cache.specs.Stages.{Stages}
 use Rattle.ob_cache.specs.Standing.{FitNextIds}
 use Rattle.ob_cache.specs.declared.fault.OpenFault.{OpenFault}
 use Rattle.ob_cache.specs.declared.fault.OpenFault.TheVariants as open_fault
-use Rattle.ob_cache.specs.declared.fault.ReadFault.{ReadFault}
-use Rattle.ob_cache.specs.declared.fault.ReadFault.TheVariants as read_fault
 use Rattle.ob_cache.specs.declared.fault.SettleFault.{SettleFault}
 use Rattle.ob_cache.specs.declared.fault.SettleFault.TheVariants as settle_fault
 use Rattle.ob_cache.specs.declared.stages.Phase.{Phase}
@@ -20,7 +18,7 @@ use Rattle.ob_cache.specs.declared.stages.Phase.TheVariants as phase
 use Rattle.ob_io.specs.declared.keeper.KeepFault.{KeepFault}
 use Rattle.ob_io.specs.declared.keeper.KeepFault.TheVariants as keep_fault
 use Rattle.ob_definition.specs.Values.{IsNative}
-use Rattle.ob_schema.specs.Broken.{AreSound, IsBroken}
+use Rattle.ob_schema.specs.Broken.{AreSound, IsBroken, IsFirstBroken}
 use Rattle.ob_schema.specs.Fields.{Holds}
 use Rattle.ob_schema.specs.Models.{HasField, field_at, is_computed_from}
 use Rattle.ob_schema.specs.Tables.{Standing, Tables, row_at}
@@ -85,9 +83,9 @@ abbrev pub IsValueIn : Standing → Cell → Option Value → Type 0
 IsValueIn standing cell (Some v) = val standing.models standing.tables cell ≡ Ok v
 IsValueIn standing cell None = row_at standing.tables cell.model cell.id ≡ None
 
--- why tables aren't whole: they break something; or memory is wanting
+-- why tables aren't whole: this is the first that they break; or memory is wanting
 abbrev pub ShowsUnsound : Standing → ApplyFault → Type 0
-ShowsUnsound standing (apply_fault.Broken broken) = IsBroken standing.models standing.tables broken
+ShowsUnsound standing (apply_fault.Broken broken) = IsFirstBroken standing.models standing.tables broken
 ShowsUnsound standing apply_fault.NoMemory = ⊤
 
 -- the cell of what is broken is one of the models'
@@ -133,9 +131,3 @@ pub record AreHeldOver (models : List ModelInfo) (flushed : Standing) (settled s
   pub settled_over : IfSome settled (λ s. s.models ≡ models)
   pub staged_over : IfSome staged (λ s. s.models ≡ models)
   pub at_rest : p ≡ phase.Settled → staged ≡ None
-
--- why a cell isn't read while nothing is staged: its row isn't there; or memory is wanting
-abbrev pub IsUnreadAtRest : Stages → Cell → ReadFault → Type 0
-IsUnreadAtRest held cell read_fault.Missing = held.phase ≡ phase.Settled → row_at held.staged cell.model cell.id ≡ None
-IsUnreadAtRest held cell read_fault.Keeper = ⊥
-IsUnreadAtRest held cell read_fault.NoMemory = ⊤

@@ -13,10 +13,11 @@ use Rattle.ob_cache.specs.declared.fault.SettleFault.{SettleFault}
 use Rattle.ob_cache.specs.declared.fault.SettleFault.TheVariants as settle_fault
 use Rattle.ob_cache.specs.declared.stages.Phase.{Phase}
 use Rattle.ob_cache.specs.declared.stages.Phase.TheVariants as phase
+use Rattle.ob_definition.specs.Types.{is_relation}
 use Rattle.ob_expr.specs.Computing.{Lack}
 use Rattle.ob_io.specs.Store.{Store}
 use Rattle.ob_schema.specs.Broken.{AreSound, IsBroken}
-use Rattle.ob_schema.specs.Fields.{is_kept}
+use Rattle.ob_schema.specs.Fields.{is_kept, is_plain_kept}
 use Rattle.ob_schema.specs.Models.{FieldHas, HasField, field_at, is_computed_from, is_given_from}
 use Rattle.ob_schema.specs.Plain.{naming}
 use Rattle.ob_schema.specs.Tables.{Fits, Tables, ids_in, row_at}
@@ -80,6 +81,10 @@ IsPlainCell models cell = FieldHas models (λ info. is_given_from info.origin �
 abbrev pub IsStoredCell : List ModelInfo → Cell → Type 0
 IsStoredCell models cell = FieldHas models (λ info. (is_computed_from info.origin ≡ true) × (is_kept info ≡ true)) cell.model cell.field
 
+-- a relation whose values rows keep
+abbrev pub IsKeptRelation : FieldInfo → Type 0
+IsKeptRelation info = (is_plain_kept info ≡ true) × (is_relation info.field_type ≡ true)
+
 -- while edits are staged only such cells may be read
 abbrev pub IsReadable : List ModelInfo → Phase → Cell → Type 0
 IsReadable models p cell = p ≡ phase.Staged → IsPlainCell models cell ⊎ IsStoredCell models cell
@@ -101,11 +106,15 @@ seen_in stages info = if is_computed_from info.origin then stages.settled else s
 abbrev pub seen : Stages → Cell → Option (Result Value Lack)
 seen stages cell = option_map (λ info. val stages.models (seen_in stages info) cell) (field_at stages.models cell.model cell.field)
 
--- why a cell isn't read: its row isn't there; the keeper failed; or memory is wanting
+-- why a cell isn't read over some tables: its row isn't there; the keeper failed; or memory is wanting
+abbrev pub IsUnreadIn : Tables → Type 0 → Cell → ReadFault → Type 0
+IsUnreadIn tables rose cell read_fault.Missing = row_at tables cell.model cell.id ≡ None
+IsUnreadIn tables rose cell read_fault.Keeper = rose
+IsUnreadIn tables rose cell read_fault.NoMemory = ⊤
+
+-- the same with the edits
 abbrev pub IsUnread : Stages → Type 0 → Cell → ReadFault → Type 0
-IsUnread stages rose cell read_fault.Missing = row_at stages.staged cell.model cell.id ≡ None
-IsUnread stages rose cell read_fault.Keeper = rose
-IsUnread stages rose cell read_fault.NoMemory = ⊤
+IsUnread stages rose cell fault = IsUnreadIn stages.staged rose cell fault
 
 -- why edits aren't settled: they break something; the keeper failed; or memory is wanting
 abbrev pub StaysUnsettled : Stages → Type 0 → SettleFault → Type 0

@@ -5,18 +5,19 @@
 //! How rows and values are held may change behind it at will (`held`); what a call answers may
 //! not.
 
-ghost use Rattle.std.specs.Prelude.{◌≡◌, ◌≤◌, ℕ, All, IfErr, IfOk, IsErrOf, IsSome, IsSomeAnd, MatchResult, Ok, OnErr, OnOk, Some};
+ghost use Rattle.std.specs.Prelude.{◌≡◌, ◌≤◌, ℕ, All, IfErr, IfOk, IsErrOf, IsSome, IsSomeAnd, MatchResult, Ok, OnErr, OnOk, Some, is_some};
 ghost use Rattle.ob_base.specs.Tally.{ticked_times};
 ghost use Rattle.ob_base.specs.declared.id.ModelNo.{ModelNo};
 ghost use Rattle.ob_cache.specs.Kept.{Kept, OthersStay};
 ghost use Rattle.ob_cache.specs.Opening.{ShowsField, StopsOpening};
-ghost use Rattle.ob_cache.specs.Stages.{IsPageAbove, IsReadable, IsShown, IsUnread, IsUsable, NamesField, StaysUnsettled, flushed_of, forgotten, holders_of, page_of, seen, settled_of, with_edits};
+ghost use Rattle.ob_cache.specs.Stages.{IsKeptRelation, IsPageAbove, IsReadable, IsShown, IsUnread, IsUnreadIn, IsUsable, NamesField, StaysUnsettled, flushed_of, forgotten, holders_of, page_of, seen, settled_of, with_edits};
 ghost use Rattle.ob_cache.specs.Standing.{IsAtRest, IsSpoiled, KeepsBounds, NextIdsUpTo, OfStages, RestsAt, Stands, Stays, max_next_id};
 ghost use Rattle.ob_cache.specs.declared.stages.Phase.TheVariants as phase;
 ghost use Rattle.ob_codec.specs.Held.{HasFieldType};
 ghost use Rattle.ob_io.specs.Cause.{HasCause, Rose};
-ghost use Rattle.ob_schema.specs.Models.{HasField, HasModel, field_at};
-ghost use Rattle.ob_schema.specs.Tables.{Tables, next_of};
+ghost use Rattle.ob_schema.specs.Models.{FieldHas, HasField, HasModel, field_at};
+ghost use Rattle.ob_schema.specs.Tables.{Tables, next_of, row_at};
+ghost use Rattle.ob_schema.specs.Val.{val};
 ghost use Rattle.ob_tables.specs.Changes.{MakesBelow};
 ghost use Rattle.ob_tables.specs.Fitting.{IsFitEdit, IsFitId};
 
@@ -100,6 +101,34 @@ impl<'k, K: Keeper> Engine<'k, K> {
         self.held.read(cell)
     }
 
+    /// The value of a cell of any field as it was settled last, whatever is staged.
+    pub fn read_settled(&mut self, cell: Cell) -> Result<Value, ReadFault>
+        requires usable { IsUsable self.old.held.phase }
+        requires field { HasField self.old.held.models cell.model cell.field }
+        ensures value { IfOk result (λ value. OfStages (K.kept self.old.keeper.now) self.old.held (λ at. val at.models at.settled cell ≡ Ok value)) }
+        ensures typed { IfOk result (HasFieldType (field_at self.old.held.models cell.model cell.field)) }
+        ensures fit { IfOk result (λ _. IsFitId cell.id) }
+        ensures fault { IfErr result (λ fault. OfStages (K.kept self.old.keeper.now) self.old.held (λ at.
+            IsUnreadIn at.settled (Rose (K.faults self.old.keeper.now) (K.faults self.new.keeper.now)) cell fault)) }
+        ensures cause { HasCause (K.faults self.old.keeper.now) (K.faults self.new.keeper.now) (IsErrOf result ReadFault.Keeper) }
+        ensures same { Stays (K.kept self.old.keeper.now) self.old.held (K.kept self.new.keeper.now) self.new.held }
+        ensures lender { self.new.keeper.ghost_name ≡ self.old.keeper.ghost_name }
+    {
+        self.held.read_settled(cell)
+    }
+
+    /// Whether a model's row is there, with the edits so far.
+    pub fn has_row(&mut self, model: ModelNo, id: RecId) -> Result<bool, KeepFault>
+        requires usable { IsUsable self.old.held.phase }
+        requires model { HasModel self.old.held.models model }
+        ensures there { IfOk result (λ there. OfStages (K.kept self.old.keeper.now) self.old.held (λ at. there ≡ is_some (row_at at.staged model id))) }
+        ensures cause { HasCause (K.faults self.old.keeper.now) (K.faults self.new.keeper.now) (IsErrOf result KeepFault.Failed) }
+        ensures same { Stays (K.kept self.old.keeper.now) self.old.held (K.kept self.new.keeper.now) self.new.held }
+        ensures lender { self.new.keeper.ghost_name ≡ self.old.keeper.ghost_name }
+    {
+        Ok(self.held.has_row(model, id))
+    }
+
     /// The id that a model's next row takes.
     pub fn next_id(&mut self, model: ModelNo) -> Result<u64, KeepFault>
         requires usable { IsUsable self.old.held.phase }
@@ -127,7 +156,7 @@ impl<'k, K: Keeper> Engine<'k, K> {
     }
 
     /// The first ids above one, at most so many, rising, of a model's rows that name a row by
-    /// a plain kept relation; by another field none do.
+    /// a plain kept relation.
     pub fn holders(
         &mut self,
         model: ModelNo,
@@ -137,7 +166,7 @@ impl<'k, K: Keeper> Engine<'k, K> {
         most: u32,
     ) -> Result<RefList, KeepFault>
         requires usable { IsUsable self.old.held.phase }
-        requires model { HasModel self.old.held.models model }
+        requires field { FieldHas self.old.held.models IsKeptRelation model field }
         ensures ids { IfOk result (λ ids. OfStages (K.kept self.old.keeper.now) self.old.held (λ at. ids ≡ holders_of at model field target after most)) }
         ensures fits { IfOk result (IsPageAbove after most) }
         ensures cause { HasCause (K.faults self.old.keeper.now) (K.faults self.new.keeper.now) (IsErrOf result KeepFault.Failed) }

@@ -1,5 +1,6 @@
-//! What the engine tells of rows and their cells, for domains and rules: while nothing is
-//! staged that is what the tables hold which were settled last.
+//! What the engine tells of rows and their cells, for domains and rules: what the tables hold
+//! that were settled last, whatever is staged. So a call that stages edits may ask for the rows
+//! as they were before.
 
 ghost use Rattle.std.specs.Prelude.{◌≡◌, ◌≤◌};
 ghost use Rattle.ob_cache.specs.Standing.{Stays};
@@ -25,10 +26,10 @@ impl<'k, K: Keeper> Facts for Engine<'k, K> {
     ghost has_failed = { λ old new. FailsFacts (TellsFacts (K.kept old.keeper.now) old.held) (Rose (K.faults old.keeper.now) (K.faults new.keeper.now)) };
 
     fn known(&mut self, model: ModelNo, id: RecId) -> Result<bool, ReadFault> {
-        Ok(self.held().has_row(model, id))
+        Ok(self.held().had_row(model, id))
     }
 
     fn value(&mut self, cell: Cell) -> Result<Value, ReadFault> {
-        self.held().read_at_rest(cell)
+        self.held().read_settled(cell)
     }
 }

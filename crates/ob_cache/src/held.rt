@@ -3,8 +3,8 @@
 
 ghost use Rattle.std.specs.Prelude.{◌≡◌, All, IfErr, IfOk, IfSome, IsErrOf, IsSome, IsSomeAnd, None, Ok, OnErr, OnOk, Some, is_some, true};
 ghost use Rattle.ob_cache.specs.Changing.{ChangesTo};
-ghost use Rattle.ob_cache.specs.Rooms.{AreOfSpoiled, IsUnreadAtRest, IsValueIn, ShowsUnsettled, settle_fault_of};
-ghost use Rattle.ob_cache.specs.Stages.{IsPageAbove, IsReadable, IsShown, IsUnread, IsUsable, NamesField, flushed_of, forgotten, holders_of, page_of, resting, seen, settled_of, spoiled, with_edits};
+ghost use Rattle.ob_cache.specs.Rooms.{AreOfSpoiled, IsValueIn, ShowsUnsettled, settle_fault_of};
+ghost use Rattle.ob_cache.specs.Stages.{IsPageAbove, IsReadable, IsShown, IsUnread, IsUnreadIn, IsUsable, NamesField, flushed_of, forgotten, holders_of, page_of, resting, seen, settled_of, spoiled, with_edits};
 ghost use Rattle.ob_cache.specs.Standing.{FitNextIds, NextIdsUpTo, max_next_id};
 ghost use Rattle.ob_cache.specs.Telling.{sides_of};
 ghost use Rattle.ob_cache.specs.declared.stages.Phase.TheVariants as phase;
@@ -13,6 +13,7 @@ ghost use Rattle.ob_schema.specs.Broken.{AreSound};
 ghost use Rattle.ob_schema.specs.Links.{Leads, leading_to, led_to, tables_on};
 ghost use Rattle.ob_schema.specs.Models.{FieldHas, HasModel, field_at, is_given_from};
 ghost use Rattle.ob_schema.specs.Tables.{Fits, next_of, row_at};
+ghost use Rattle.ob_schema.specs.Val.{val};
 ghost use Rattle.ob_tables.specs.Fitting.{IsFitEdit, IsFitId};
 
 use crate::fault::{ReadFault, SettleFault};
@@ -143,20 +144,30 @@ impl<'k> Held<'k> {
         }
     }
 
-    /// The value of a cell, while nothing is staged.
-    pub(crate) fn read_at_rest(&self, cell: Cell) -> Result<Value, ReadFault>
+    /// The value of a cell as it was settled last, whatever is staged.
+    pub(crate) fn read_settled(&self, cell: Cell) -> Result<Value, ReadFault>
         requires field { IsSome (field_at self.now.models cell.model cell.field) }
-        ensures value { IfOk result (λ value. (self.now.phase ≡ phase.Settled) × (seen self.now cell ≡ Some (Ok value))) }
+        ensures value { IfOk result (λ value. val self.now.models self.now.settled cell ≡ Ok value) }
         ensures typed { IfOk result (HasFieldType (field_at self.now.models cell.model cell.field)) }
-        ensures fault { IfErr result (IsUnreadAtRest self.now cell) }
+        ensures fit { IfOk result (λ _. IsFitId cell.id) }
+        ensures fault { IfErr result (IsUnreadIn self.now.settled ⊥ cell) }
+        // No keeper is asked.
+        ensures unasked { IsErrOf result ReadFault.Keeper → ⊥ }
     {
-        if self.phase != Phase::Settled {
-            return Err(ReadFault::Missing);
+        match self.last_settled(cell)? {
+            Some(value) => Ok(value),
+            None => Err(ReadFault::Missing),
         }
-        self.read(cell)
     }
 
-    /// Whether a row is there.
+    /// Whether a row was there when edits were settled last.
+    pub(crate) fn had_row(&self, model: ModelNo, id: RecId) -> bool
+        ensures { result ≡ is_some (row_at self.now.settled model id) }
+    {
+        self.settled().tables().has_row(model, id)
+    }
+
+    /// Whether a row is there, with the edits so far.
     pub(crate) fn has_row(&self, model: ModelNo, id: RecId) -> bool
         ensures { result ≡ is_some (row_at self.now.staged model id) }
     {

@@ -15,7 +15,7 @@ use ob_base::{Cell, FieldNo, ModelNo, NoMemory, RecId, Sequence, Value};
 use ob_codec::{RowFault, row_bytes, row_of};
 use ob_io::{KeptRow, Link};
 use ob_schema::{FieldInfo, Schema};
-use ob_tables::Edit;
+use ob_tables::{Edit, targets_of};
 use std::alloc::Global;
 
 /// Rows that were read.
@@ -207,15 +207,4 @@ fn add_links(links: &mut Sequence<Link>, field: FieldNo, value: &Value) -> Resul
         })?;
     }
     Ok(())
-}
-
-/// The rows that a value names.
-fn targets_of(value: &Value) -> &[RecId]
-    ensures { result.now ≡ targets_of value.now }
-{
-    match value {
-        Value::Ref(id) => std::slice::from_ref(id),
-        Value::Refs(ids) => ids.as_slice(),
-        _ => &[],
-    }
 }

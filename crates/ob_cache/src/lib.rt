@@ -4,7 +4,8 @@
 //!
 //! Rooms: `engine` (the calls and their contract), `stages` (where an engine is between two
 //! settles), `fault` (why a call gives no answer), `facts` and `links` (what the engine tells domains,
-//! rules and whoever asks what edits affect). Behind them, and to be changed at will:
+//! rules and whoever asks what edits affect), `laws` (what questions behind one another are). Behind
+//! them, and to be changed at will:
 //! `held` (the tables at three moments), `whole` (sound tables with the values of their
 //! computed cells), `opening` (the rows of a keeper as tables), `kept_rows` (a row and its
 //! kept form) and `flushing` (what tables change in a keeper).
@@ -16,6 +17,7 @@ mod fault;
 mod flushing;
 mod held;
 mod kept_rows;
+mod laws;
 mod links;
 mod native;
 mod opening;

@@ -1,10 +1,11 @@
 //! The rows of a keeper as tables: all are read, a model after the other, in pages.
 
-ghost use Rattle.std.specs.Prelude.{◌≡◌, ◌↔◌, ◌≤◌, All, IfErr, IfOk, IfSome, IsSome, IsTrue, Ok, OnOk};
+ghost use Rattle.std.specs.Prelude.{◌≡◌, ◌↔◌, ◌≤◌, All, IfErr, IfOk, IfSome, IsSome, IsTrue, Ok, OnOk, ⊤};
 ghost use Rattle.ob_base.specs.Limits.{max_models};
 ghost use Rattle.ob_cache.specs.Kept.{Kept};
 ghost use Rattle.ob_cache.specs.Opening.{ShowsField, StopsOpening};
-ghost use Rattle.ob_cache.specs.Reading.{DiffersAmong, IsUnreadAmong, ReadsModels, ReadsRows, StopsReading, TellsAfter, TellsAll, TellsNext};
+ghost use Rattle.ob_cache.specs.Reading.{DiffersAmong, IsAboveNone, IsUnreadAmong, ReadsModels, ReadsRows, StopsReading, TellsAfter, TellsAll, TellsNext};
+ghost use Rattle.ob_cache.specs.Rooms.{IsOf};
 ghost use Rattle.ob_cache.specs.Standing.{FitNextIds};
 ghost use Rattle.ob_io.specs.Cause.{Rose};
 ghost use Rattle.ob_io.specs.Store.{Fits63};
@@ -70,7 +71,7 @@ fn read_models<'a, K: Keeper>(
 ) -> Result<Tables<'a>, OpenFault>
     ensures models { IfOk result (λ tables. tables.models ≡ schema.now) }
     ensures read { IfOk result (λ tables. ReadsModels schema.now (K.kept keeper.old) max_models tables.tables rows.old rows.new) }
-    ensures fault { IfErr result (StopsReading schema.now (K.kept keeper.old) (Rose (K.faults keeper.old) (K.faults keeper.new))) }
+    ensures fault { IfErr result (StopsReading schema.now (K.kept keeper.old) (Rose (K.faults keeper.old) (K.faults keeper.new)) (λ _. ⊤)) }
     ensures field { IfErr result (ShowsField schema.now) }
     ensures same { K.kept keeper.new ≡ K.kept keeper.old }
     ensures count { K.faults keeper.old ≤ K.faults keeper.new }
@@ -99,7 +100,7 @@ fn read_model<K: Keeper>(
     ensures next { IfOk result (TellsNext (K.kept keeper.old) model) }
     ensures low { IfOk result (λ next. 1 ≤ next) }
     ensures fits { IfOk result Fits63 }
-    ensures fault { IfErr result (StopsReading schema.now (K.kept keeper.old) (Rose (K.faults keeper.old) (K.faults keeper.new))) }
+    ensures fault { IfErr result (StopsReading schema.now (K.kept keeper.old) (Rose (K.faults keeper.old) (K.faults keeper.new)) (IsOf model)) }
     ensures field { IfErr result (ShowsField schema.now) }
     ensures same { K.kept keeper.new ≡ K.kept keeper.old }
     ensures count { K.faults keeper.old ≤ K.faults keeper.new }
@@ -127,7 +128,7 @@ fn read_pages<K: Keeper>(
     requires model { HasModel schema.now model }
     requires next { TellsNext (K.kept keeper.old) model next }
     ensures read { OnOk result (ReadsRows schema.now model next (TellsAfter (K.kept keeper.old) model (record { 0 = 0 })) rows.old rows.new) }
-    ensures fault { IfErr result (StopsReading schema.now (K.kept keeper.old) (Rose (K.faults keeper.old) (K.faults keeper.new))) }
+    ensures fault { IfErr result (StopsReading schema.now (K.kept keeper.old) (Rose (K.faults keeper.old) (K.faults keeper.new)) (IsAboveNone model)) }
     ensures field { IfErr result (ShowsField schema.now) }
     ensures same { K.kept keeper.new ≡ K.kept keeper.old }
     ensures count { K.faults keeper.old ≤ K.faults keeper.new }

@@ -7,7 +7,6 @@ ghost use Rattle.ob_base.specs.BrokenOrder.{cell_order};
 ghost use Rattle.ob_cache.specs.Native.{IsNativeRegistry};
 ghost use Rattle.ob_cache.specs.Rooms.{AreReadable, AreRight, AreValues, HaveValues, IsIn, IsOf, IsValueIn, KeepsAll, NamesBrokenField, ShowsUnsound};
 ghost use Rattle.ob_codec.specs.Held.{HasFieldType};
-ghost use Rattle.ob_definition.specs.Values.{initial_value};
 ghost use Rattle.ob_schema.specs.Broken.{AreSound};
 ghost use Rattle.ob_schema.specs.Models.{HasModel, IsRegistry, field_at, is_computed_from, is_delegated_from};
 ghost use Rattle.ob_schema.specs.declared.info.Origin.TheVariants as origin;
@@ -15,11 +14,12 @@ ghost use Rattle.ob_schema.specs.Tables.{ids_in, row_at};
 ghost use Rattle.ob_schema.specs.Val.{val};
 
 use ob_base::limits::MAX_MODELS;
-use ob_base::{Cell, FieldNo, ModelNo, NoMemory, RecId, RefList, Value, cell_cmp};
-use ob_definition::FieldType;
+use ob_base::{Cell, FieldNo, ModelNo, NoMemory, RecId, Value, cell_cmp};
 use ob_expr::reads_along_paths;
 use ob_schema::{Delegation, FieldInfo, Origin, Schema};
-use ob_tables::{ApplyFault, ScratchFault, Tables, Values, ids_are_of_rows, sound_values};
+use ob_tables::{
+    ApplyFault, ScratchFault, Tables, Values, ids_are_of_rows, initial_value, sound_values,
+};
 use std::alloc::Global;
 use std::collections::BTreeMap;
 use std::marker::Model;
@@ -167,18 +167,6 @@ impl<'a> Whole<'a> {
             Origin::Computed(_) => self.computed(cell),
             _ => self.tables.plain(cell),
         }
-    }
-}
-
-/// What a field of a type has without a value of its own.
-fn initial_value(alloc: Global, field_type: FieldType) -> Value
-    ensures { result ≡ initial_value field_type }
-{
-    match field_type {
-        FieldType::Boolean => Value::Bool(false),
-        FieldType::Integer => Value::Int(0),
-        FieldType::One2many | FieldType::Many2many => Value::Refs(RefList::new(alloc)),
-        _ => Value::Nil,
     }
 }
 

@@ -11,3 +11,4 @@ pub mod ReadsBack
 pub mod RisingIds
 pub mod RowLaws
 pub mod ValueLaws
+pub mod CallerLemmas

@@ -10,11 +10,12 @@ use Rattle.ob_codec.specs.declared.input.Command.{Command}
 use Rattle.ob_codec.specs.declared.input.Command.TheVariants as command
 use Rattle.ob_codec.specs.declared.input.Input.{Input}
 use Rattle.ob_codec.specs.declared.input.Input.TheVariants as input
-use Rattle.ob_definition.specs.Values.{HasType, IsValueOf}
+use Rattle.ob_definition.specs.Values.{IsValueOf}
 use Rattle.ob_definition.specs.declared.field_type.Choice.{Choice}
 use Rattle.ob_definition.specs.declared.field_type.FieldType.{FieldType}
 use Rattle.ob_definition.specs.declared.field_type.FieldType.TheVariants as type
 use Rattle.ob_schema.specs.declared.info.FieldInfo.{FieldInfo}
+pub use Rattle.ob_schema.specs.Fields.{HasFieldType}
 use Rattle.serde_json.specs.View.{view}
 
 -- its ids are of 1 to 4,294,967,295, and a many2many has 65,536 of them at most
@@ -23,10 +24,6 @@ HasLimits type.Many2one (value.Ref id) = IsId id
 HasLimits type.One2many (value.Refs ids) = All IsId ids
 HasLimits type.Many2many (value.Refs ids) = All IsId ids × (length ids ≤ max_targets)
 HasLimits _ _ = ⊤
-
--- a value of the field's type
-abbrev pub HasFieldType : Option FieldInfo → Value → Type 0
-HasFieldType field v = IfSome field (λ info. HasType info.field_type info.selection v)
 
 -- a plain value is one of the type within its limits; what commands do is judged when they are carried out
 abbrev pub IsHeldAs : FieldType → List Choice → Input → Type 0

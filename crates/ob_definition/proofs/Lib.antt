@@ -23,3 +23,4 @@ pub mod LinkSteps
 pub mod HiddenFields
 pub mod MadeSteps
 pub mod CopiedChecks
+pub mod CallerLemmas

@@ -2,7 +2,7 @@
 use Rattle.std.specs.Prelude.{ℕ, ◌&&◌, ◌||◌, ◌==◌, nat_le, List, length, Bool}
 use Rattle.std.specs.List.{list_all}
 use Rattle.ob_base.specs.Limits.{max_name_bytes}
-use Rattle.ob_syntax.specs.Lexemes.{begins_with_letter, is_name_byte}
+use Rattle.ob_base.specs.NameBytes.{begins_with_letter, is_name_byte}
 
 -- a letter first, then bytes that pass the test, within the limit of a name
 abbrev pub is_named_by : (ℕ → Bool) → List ℕ → Bool

@@ -5,8 +5,7 @@ ghost use Rattle.std.specs.Prelude.{◌≡◌, IfSome, IsNone};
 ghost use Rattle.ob_definition.specs.declared.fault.SchemaFault.TheVariants.{NoMemory as no_memory};
 ghost use Rattle.ob_definition.specs.Ranking.{rank};
 
-use ob_base::{NoMemory, Word};
-use ob_syntax::ExprFault;
+use ob_base::{ExprFault, NoMemory, Word};
 use thiserror::Error;
 
 /// Where a definition is faulty: the entry's place in the list, from 0, and the field, which

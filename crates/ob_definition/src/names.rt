@@ -3,7 +3,7 @@
 
 ghost use Rattle.std.specs.Prelude.{◌≡◌, ◌||◌, ◌==◌};
 ghost use Rattle.std.specs.List.{list_all};
-ghost use Rattle.ob_syntax.specs.Lexemes.{begins_with_letter, is_letter, is_name_byte};
+ghost use Rattle.ob_base.specs.NameBytes.{begins_with_letter, is_letter, is_name_byte};
 ghost use Rattle.ob_definition.specs.Names.{is_field_name, is_model_name};
 
 /// The length in bytes of a name.

@@ -5,7 +5,7 @@ ghost use Rattle.std.specs.Prelude.{◌≡◌};
 ghost use Rattle.ob_definition.specs.Findings.{fault_at, fault_variant};
 
 use crate::fault::{SchemaFault, Spot};
-use ob_syntax::ExprFault;
+use ob_base::ExprFault;
 
 /// What is wrong at a spot: a fault without its spot.
 #[derive(Debug, Drop)]

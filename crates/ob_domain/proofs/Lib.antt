@@ -20,4 +20,6 @@ pub mod Asking
 pub mod Below
 pub mod Ids
 pub mod Matching
+pub mod Named
+pub mod Agreeing
 pub mod Tested

@@ -11,3 +11,4 @@ pub mod Stands
 pub mod Over
 pub mod Passing
 pub mod Holding
+pub mod Naming

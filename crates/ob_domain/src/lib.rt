@@ -7,9 +7,10 @@
 //! has the operators by their texts, `criterion` what each makes of its operand, `operand`
 //! the values that operands stand for; `term` and `domain` are what was read; `holding` goes
 //! through it, `asked` asks the facts, `passes` tests a value, `tree` asks where rows stand in
-//! a tree, `pattern` matches texts; `fault` and `place` say why a list isn't read. An operator
-//! that is added gets its text in `operator`, its operand in `criterion` and its meaning in
-//! `passes`. The definitions that contracts cite stand in specs/.
+//! a tree, `pattern` matches texts; `naming` finds the fields that it names; `fault` and `place`
+//! say why a list isn't read. An operator that is added gets its text in `operator`, its operand
+//! in `criterion` and its meaning in `passes`. The definitions that contracts cite stand in
+//! specs/.
 #![tactic(auto)]
 
 mod aim;
@@ -18,6 +19,7 @@ mod criterion;
 mod domain;
 mod fault;
 mod holding;
+mod naming;
 mod operand;
 mod operator;
 mod passes;
@@ -30,6 +32,7 @@ mod tree;
 pub use domain::Domain;
 pub use fault::{DomainFault, HoldFault};
 pub use holding::holds;
+pub use naming::domains_go_by_fields;
 pub use reading::{one_domain, read};
 
 /// A value in JSON.

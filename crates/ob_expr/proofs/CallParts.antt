@@ -7,13 +7,13 @@ use Rattle.ob_expr.specs.declared.function.Function.{Function}
 use Rattle.ob_expr.specs.declared.function.Function.TheVariants as function
 use Rattle.ob_expr.specs.declared.kind.Found.{Found}
 use Rattle.ob_expr.specs.declared.kind.Kind.TheVariants as kind
-use Rattle.ob_syntax.specs.declared.syntax.Expr.{Expr, Call}
+use Rattle.ob_base.specs.declared.syntax.Expr.{Expr, Call}
 use Rattle.ob_expr.specs.declared.typed.Aggregate.{Aggregate}
 use Rattle.ob_expr.specs.declared.typed.Typed.{Typed, Joined}
 use Rattle.ob_expr.specs.Chain.{and_then, each}
 use Rattle.ob_expr.specs.Checking.{by_function, called, of_kind, targets_of, part_of, part_over, part_gathered, parts_of}
 use Rattle.ob_expr.specs.Functions.{function_of, over_targets}
-use Rattle.ob_syntax.specs.Grammar.{CallsKeepTheirOrder, tree_of}
+use Rattle.ob_base.specs.Syntax.{CallsKeepTheirOrder, tree_of}
 use Rattle.ob_expr.specs.Parts.{given_of}
 use Rattle.ob_expr.specs.Route.{Route}
 use Rattle.ob_expr.specs.TypedTree.{TypedTree, one_more, joined, all_of, typed_tree_of}

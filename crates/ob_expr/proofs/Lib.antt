@@ -15,3 +15,4 @@ pub mod TypedRows
 pub mod Routes
 pub mod Accepted
 pub mod CallParts
+pub mod CallerLemmas

@@ -20,10 +20,10 @@ use Rattle.ob_expr.specs.Kinds.{empty_value}
 use Rattle.ob_expr.specs.Meaning.{at_end, cell_in, follow, ids_of, meaning, path_value, row_at, value_at, values_of}
 use Rattle.ob_expr.specs.Reads.{EachInTurn, IsAlong, MayRead, MayReadAll, MayReadPath}
 use Rattle.ob_expr.specs.TypedTree.{TypedTree, TypedTrees, no_trees, one_more, row_id, integer, a_text, truth, unset, path, prefix, binary, chosen, choice, joined, digits, over, kind_of}
-use Rattle.ob_syntax.specs.declared.sign.Operator.{Operator}
-use Rattle.ob_syntax.specs.declared.sign.Operator.TheVariants.{Or, And, Equal, NotEqual, Less, LessOrEqual, Greater, GreaterOrEqual, Add, Subtract, Multiply, Divide, Modulo}
-use Rattle.ob_syntax.specs.declared.syntax.Prefix.{Prefix}
-use Rattle.ob_syntax.specs.declared.syntax.Prefix.TheVariants.{Not, Minus}
+use Rattle.ob_base.specs.declared.syntax.Operator.{Operator}
+use Rattle.ob_base.specs.declared.syntax.Operator.TheVariants.{Or, And, Equal, NotEqual, Less, LessOrEqual, Greater, GreaterOrEqual, Add, Subtract, Multiply, Divide, Modulo}
+use Rattle.ob_base.specs.declared.syntax.Prefix.{Prefix}
+use Rattle.ob_base.specs.declared.syntax.Prefix.TheVariants.{Not, Minus}
 use Rattle.ob_expr.proofs.Along.{comes_to}
 
 module _ (P : Cell → Type 0) where

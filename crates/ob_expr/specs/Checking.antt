@@ -10,16 +10,16 @@ use Rattle.ob_expr.specs.declared.function.Function.TheVariants as function
 use Rattle.ob_expr.specs.declared.kind.Found.{Found}
 use Rattle.ob_expr.specs.declared.kind.Kind.{Kind}
 use Rattle.ob_expr.specs.declared.kind.Kind.TheVariants as kind
-use Rattle.ob_syntax.specs.declared.sign.Operator.{Operator}
-use Rattle.ob_syntax.specs.declared.sign.Operator.TheVariants.{Equal, NotEqual}
-use Rattle.ob_syntax.specs.declared.syntax.Prefix.{Prefix}
+use Rattle.ob_base.specs.declared.syntax.Operator.{Operator}
+use Rattle.ob_base.specs.declared.syntax.Operator.TheVariants.{Equal, NotEqual}
+use Rattle.ob_base.specs.declared.syntax.Prefix.{Prefix}
 use Rattle.ob_expr.specs.declared.typed.Aggregate.{Aggregate}
 use Rattle.ob_expr.specs.declared.typed.Aggregate.TheVariants.{Count}
 use Rattle.ob_expr.specs.declared.typed.Link.{Link}
 use Rattle.ob_expr.specs.Chain.{and_then, each}
 use Rattle.ob_expr.specs.Functions.{function_of}
-use Rattle.ob_syntax.specs.Grammar.{Tree, Arguments, no_arguments, argument, offset_of_tree}
-use Rattle.ob_syntax.specs.Grammar.{integer as an_integer, a_text as some_text, truth as a_truth, unset as an_unset, path as a_path, prefix as a_prefix, binary as a_binary, call as a_call}
+use Rattle.ob_base.specs.Syntax.{Tree, Arguments, no_arguments, argument, offset_of_tree}
+use Rattle.ob_base.specs.Syntax.{integer as an_integer, a_text as some_text, truth as a_truth, unset as an_unset, path as a_path, prefix as a_prefix, binary as a_binary, call as a_call}
 use Rattle.ob_expr.specs.Kinds.{can_be_unset, same_kind}
 use Rattle.ob_expr.specs.Route.{Route, through, behind}
 use Rattle.ob_expr.specs.TypedTree.{TypedTree, all_of, EachPath, row_id, integer, a_text, truth, unset, path, prefix, binary, chosen, choice, joined, digits, over, kind_of, prefix_kind, takes, gathers}

@@ -3,9 +3,9 @@ use Rattle.std.specs.Prelude.{◌≡◌, ◌≢◌, List, map, Option, Result, O
 use Rattle.std.specs.Global.{Global}
 use Rattle.ob_expr.specs.declared.checker.TypeFault.{TypeFault}
 use Rattle.ob_expr.specs.declared.checker.TypeFault.TheVariants.{NoMemory}
-use Rattle.ob_syntax.specs.declared.syntax.Expr.{Expr}
+use Rattle.ob_base.specs.declared.syntax.Expr.{Expr}
 use Rattle.ob_expr.specs.declared.typed.Typed.{Typed}
-use Rattle.ob_syntax.specs.Grammar.{given_before, Arguments, no_arguments, tree_of}
+use Rattle.ob_base.specs.Syntax.{given_before, Arguments, no_arguments, tree_of}
 use Rattle.ob_expr.specs.Told.{part_tree}
 use Rattle.ob_expr.specs.TypedTree.{TypedTree, typed_tree_of}
 

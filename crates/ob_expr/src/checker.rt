@@ -9,14 +9,13 @@ ghost use Rattle.ob_expr.specs.Checking.{AreFound, beside, both, called, counted
 ghost use Rattle.ob_expr.specs.Parts.{TellsParts, TellsTree, given_of};
 ghost use Rattle.ob_expr.specs.Told.{TellsPair, TellsPart, part_tree};
 ghost use Rattle.ob_expr.specs.TypedTree.{IsWellKinded, typed_tree_of};
-ghost use Rattle.ob_syntax.specs.Grammar.{tree_of};
+ghost use Rattle.ob_base.specs.Syntax.{tree_of};
 
 use crate::function::{Function, function_of, over_targets};
 use crate::kind::{Found, Kind, Scope};
 use crate::operand::{prefix_kind, takes};
 use crate::typed::{Aggregate, Extreme, Link, Path, Typed};
-use ob_base::{FieldNo, ModelNo, NoMemory, Word};
-use ob_syntax::{Expr, Operator, Prefix, call_order};
+use ob_base::{Expr, FieldNo, ModelNo, NoMemory, Operator, Prefix, Word, call_order};
 use std::alloc::{AllocFailed, Global};
 use thiserror::Error;
 

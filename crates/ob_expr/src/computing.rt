@@ -13,8 +13,7 @@ use crate::fault::EvalFault;
 use crate::kind::Kind;
 use crate::typed::{Aggregate, Extreme};
 use ob_base::limits::MAX_TEXT_BYTES;
-use ob_base::{RefList, Value, Word, value_cmp};
-use ob_syntax::{Operator, Prefix};
+use ob_base::{Operator, Prefix, RefList, Value, Word, value_cmp};
 use std::alloc::Global;
 
 /// An integer of 64 bits, or an overflow.

@@ -24,6 +24,5 @@ pub use checker::{TypeFault, check};
 pub use evaluator::{Fresh, Reads, eval, reads_along_paths, values_from_cells, values_of_kinds};
 pub use fault::EvalFault;
 pub use kind::{Found, Kind, Scope};
-pub use ob_syntax::{Expr, ExprFault, one_tree, parse};
 pub use paths::Renumbering;
 pub use typed::{Aggregate, Extreme, Link, Path, Typed};

@@ -5,7 +5,7 @@ ghost use Rattle.std.specs.Prelude.{◌≡◌};
 ghost use Rattle.ob_expr.specs.TypedTree.{operator_kind, prefix_kind, takes};
 
 use crate::kind::Kind;
-use ob_syntax::{Operator, Prefix};
+use ob_base::{Operator, Prefix};
 
 /// The kind of a prefix's operand, and of what it makes.
 pub(crate) fn prefix_kind(prefix: Prefix) -> Kind

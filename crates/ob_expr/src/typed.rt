@@ -7,8 +7,7 @@ ghost use Rattle.ob_expr.specs.TypedTree.{aggregate_kind, gathers, kind_of, type
 
 use crate::kind::Kind;
 use crate::operand::{operator_kind, prefix_kind};
-use ob_base::{FieldNo, ModelNo, Word};
-use ob_syntax::{Operator, Prefix};
+use ob_base::{FieldNo, ModelNo, Operator, Prefix, Word};
 use std::marker::Model;
 
 /// A step of a path that leads to the rows of a model.

@@ -7,7 +7,7 @@ use Rattle.ob_http.specs.Lines.{are_empty_lines}
 use Rattle.ob_http.specs.Head.{head_of}
 use Rattle.ob_http.specs.Item.{Item, fault, ended, cut, IsItem, TellsItem, goes_on, is_interim_due}
 use Rattle.ob_http.specs.Reply.{interim_bytes}
-use Rattle.ob_http.specs.Written.{Wrote, WroteFront}
+use Rattle.ob_http.specs.Written.{Wrote, WrotePart}
 use Rattle.ob_http.specs.Connection.{Connection, coming_bytes, Sent, ReadsOn, Receives, FailsReading, FailsWriting, AsksInterim, WritesInterim}
 use Rattle.ob_http.specs.Front.{EndsBefore}
 use Rattle.ob_http.specs.declared.inlet.Inlet.{Inlet}
@@ -134,7 +134,7 @@ stops_after {before} {mid} {part} now more reads bytes_are stopped =
       rest = s.rest;
       is_item = s.is_item;
       due = s.due;
-      written = subst (λ w. WroteFront w now.written interim_bytes) reads.written s.written;
+      written = subst (λ w. WrotePart w now.written interim_bytes) reads.written s.written;
     })
 
 -- reading writes nothing

@@ -18,3 +18,4 @@ pub mod HeadLines
 pub mod Cuts
 pub mod Messages
 pub mod Asked
+pub mod OneItem

@@ -6,7 +6,7 @@ use Rattle.ob_base.specs.Limits.{max_head_bytes}
 use Rattle.ob_http.specs.Head.{Head, head_of, Asks}
 use Rattle.ob_http.specs.Item.{post, fault, cut, IsItem, TellsItem}
 use Rattle.ob_http.specs.Reply.{interim_bytes}
-use Rattle.ob_http.specs.Written.{Wrote, WroteFront}
+use Rattle.ob_http.specs.Written.{Wrote, WrotePart}
 use Rattle.ob_http.specs.Connection.{ReadAhead, Connection, connection_of, coming_bytes, more_taken, Sent, ReadsOn, Receives, FailsReading, FailsWriting, AsksInterim, WritesInterim}
 use Rattle.ob_http.specs.Front.{BeginsWithHead}
 use Rattle.ob_http.specs.declared.inlet.Inlet.{Inlet}
@@ -139,7 +139,7 @@ due_behind before {size} message begins few asked due bytes is =
 
 -- the interim line was due, and writing it failed
 pub stops_in_interim : (before now : Connection) {size : HeadSize} (part : List ℕ) (message : Message) (begins : BeginsWithHead before.ahead.bytes size) → length before.ahead.bytes ≤ max_head_bytes
-    → Asks (take size.size before.ahead.bytes) begins.head (Ok message) → message.interim ≡ true → WroteFront before.written now.written interim_bytes
+    → Asks (take size.size before.ahead.bytes) begins.head (Ok message) → message.interim ≡ true → WrotePart before.written now.written interim_bytes
     → IfSome (coming_bytes before) (λ bytes. FailsReading before now part ⊎ FailsWriting before now bytes)
 stops_in_interim before now {size} part message begins few asked due wrote =
     if_coming (coming_bytes before) _ (λ bytes is.

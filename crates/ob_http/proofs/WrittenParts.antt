@@ -1,9 +1,9 @@
--- What stands written to a connection after one part and then another, or a front of it.
-use Rattle.std.proofs.Common.{◌≡◌, ℕ, ◌+◌, ◌-◌, List, [], ◌∷◌, length, Result, Ok, Err, OnErr, ◌++◌, take, drop, Option, Some, None, option_map, refl, sym, ap, ◌∙◌, append_assoc}
+-- What stands written to a connection after one part and then another, or a front of it that lacks something.
+use Rattle.std.proofs.Common.{◌≡◌, ◌≢◌, ℕ, ◌+◌, ◌-◌, ◌<◌, List, [], ◌∷◌, length, Result, Ok, Err, OnErr, ◌++◌, take, drop, Option, Some, None, option_map, refl, sym, ap, ◌∙◌, append_assoc, arith, length-drop}
 use Rattle.std.proofs.lemmas.List.{take-append-drop, take_rest, append-nil}
 use Rattle.std.proofs.Math.Seq.{take-add}
 use Rattle.ob_io.specs.Connections.{extend_last}
-use Rattle.ob_http.specs.Written.{Wrote, WroteFront}
+use Rattle.ob_http.specs.Written.{Wrote, WrotePart}
 
 -- two parts after one another are one
 pub extend_twice : (a b : List ℕ) (written : List (List ℕ)) → extend_last b (extend_last a written) ≡ extend_last (a ++ b) written
@@ -32,18 +32,24 @@ wrote_nothing (Some written) = ap Some (sym (extend_nothing written))
 pub wrote_both : (before mid now : Option (List (List ℕ))) (a b : List ℕ) → Wrote before mid a → Wrote mid now b → Wrote before now (a ++ b)
 wrote_both before mid now a b first second = second ∙ ap (option_map (extend_last b)) first ∙ parts_joined before a b
 
+-- what begins with something isn't empty
+some_more : (a b : List ℕ) → a ≢ [] → a ++ b ≢ []
+some_more [] b some = absurd (some refl)
+some_more (x ∷ a) b some = λ e. cc
+
 -- a front of a part is a front of more
-pub front_of_more : (before now : Option (List (List ℕ))) (a b : List ℕ) → WroteFront before now a → WroteFront before now (a ++ b)
-front_of_more before now a b w = (w.0, w.1 ++ b, ap (λ x. x ++ b) w.2 ∙ append_assoc w.0 w.1 b, w.3)
+pub front_of_more : (before now : Option (List (List ℕ))) (a b : List ℕ) → WrotePart before now a → WrotePart before now (a ++ b)
+front_of_more before now a b w = (w.0, (w.1.0 ++ b, some_more w.1.0 b w.1.1, ap (λ x. x ++ b) w.1.2 ∙ append_assoc w.0 w.1.0 b), w.2)
 
 -- after a whole part a front of the next
-pub front_after : (before mid now : Option (List (List ℕ))) (a b : List ℕ) → Wrote before mid a → WroteFront mid now b → WroteFront before now (a ++ b)
+pub front_after : (before mid now : Option (List (List ℕ))) (a b : List ℕ) → Wrote before mid a → WrotePart mid now b → WrotePart before now (a ++ b)
 front_after before mid now a b whole w =
-    (a ++ w.0, w.1, ap (λ x. a ++ x) w.2 ∙ sym (append_assoc a w.0 w.1), wrote_both before mid now a w.0 whole w.3)
+    (a ++ w.0, (w.1.0, w.1.1, ap (λ x. a ++ x) w.1.2 ∙ sym (append_assoc a w.0 w.1.0)), wrote_both before mid now a w.0 whole w.2)
 
--- what a loop over pieces has written is a front
-pub front_so_far : (before now : Option (List (List ℕ))) (done : ℕ) (bytes : List ℕ) → Wrote before now (take done bytes) → WroteFront before now bytes
-front_so_far before now done bytes so_far = (take done bytes, drop done bytes, sym (take-append-drop done bytes), so_far)
+-- what a loop over pieces has written before its end is a front, and lacks what is left
+pub front_so_far : (before now : Option (List (List ℕ))) (done : ℕ) (bytes : List ℕ) → done < length bytes → Wrote before now (take done bytes) → WrotePart before now bytes
+front_so_far before now done bytes below so_far =
+    (take done bytes, (drop done bytes, λ none. absurd (omega (arith, below, length-drop done bytes, ap length none)), sym (take-append-drop done bytes)), so_far)
 
 -- what holds holds at an error
 pub at_any_error : {T E P : Type 0} (r : Result T E) → P → OnErr r P

@@ -3,7 +3,7 @@ use Rattle.std.specs.Prelude.{◌≡◌, ℕ, ◌+◌, ◌-◌, ◌^◌, min, Li
 use Rattle.ob_http.specs.declared.inlet.Inlet.{Inlet}
 use Rattle.ob_http.specs.Item.{Item, IsItem, TellsItem, goes_on, is_end, is_interim_due}
 use Rattle.ob_http.specs.Reply.{interim_bytes}
-use Rattle.ob_http.specs.Written.{Wrote, WroteFront}
+use Rattle.ob_http.specs.Written.{Wrote, WrotePart}
 
 -- the bytes that were read beyond a message, and how many were read so far, up to the greatest u64
 pub record ReadAhead : Type 0 where
@@ -63,7 +63,7 @@ pub record FailsWriting (before now : Connection) (bytes : List ℕ) : Type 0 wh
   pub rest : List ℕ
   pub is_item : IsItem bytes item rest
   pub due : is_interim_due item ≡ true
-  pub written : WroteFront before.written now.written interim_bytes
+  pub written : WrotePart before.written now.written interim_bytes
 
 -- the interim line is due before the reply to what these bytes begin with
 pub record AsksInterim (bytes : List ℕ) : Type 0 where

@@ -5,14 +5,15 @@
 //!
 //! Rooms: `inlet` (what comes in), `held` (what was read ahead), `lines` (where a head ends),
 //! `head` (the checks of a head), `fields` (what its fields say), `length` (the numbers that
-//! they give), `text` (parts of texts), `request` (the next message) and `reply` (the bytes of
-//! replies).
+//! they give), `text` (parts of texts), `request` (the next message), `reply` (the bytes of
+//! replies) and `laws` (what is known of the items).
 #![tactic(auto)]
 
 mod fields;
 mod head;
 mod held;
 mod inlet;
+mod laws;
 mod length;
 mod lines;
 mod reply;
@@ -21,5 +22,6 @@ mod text;
 
 pub use held::Held;
 pub use inlet::{HttpFault, Inlet};
+pub use laws::{interim_line_stays_due, item_of_its_bytes, one_item};
 pub use reply::write_reply;
 pub use request::next_request;

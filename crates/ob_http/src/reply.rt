@@ -6,14 +6,15 @@ ghost use Rattle.http.specs.StatusCode.{IsStatusCode};
 ghost use Rattle.ob_io.specs.Cause.{HasCause};
 ghost use Rattle.ob_http.specs.Reply.{IsReplyStatus, phrase_of, status_line, length_lines, further_lines, reply_head, reply_bytes, interim_bytes};
 ghost use Rattle.ob_http.specs.Reply as spec;
-ghost use Rattle.ob_http.specs.Written.{Wrote, WroteFront};
+ghost use Rattle.ob_http.specs.Written.{Wrote, WrotePart};
 
 use http::StatusCode;
 use itoa::Buffer;
 use ob_io::{Door, Failed};
 
 /// Writes a reply to the current connection, or as much of it as was taken before a write
-/// failed. A reply of another status than 200 has no body and ends the connection.
+/// failed, which is not all of it. A reply of another status than 200 has no body and ends
+/// the connection.
 pub fn write_reply<D: Door>(
     door: &mut D,
     status: u16,
@@ -25,7 +26,7 @@ pub fn write_reply<D: Door>(
     ensures ok { OnOk result
         (Wrote (D.written door.old) (D.written door.new) (reply_bytes status body.now keep)) }
     ensures err { OnErr result
-        (WroteFront (D.written door.old) (D.written door.new) (reply_bytes status body.now keep)) }
+        (WrotePart (D.written door.old) (D.written door.new) (reply_bytes status body.now keep)) }
     ensures others { (D.coming door.new ≡ D.coming door.old) × (D.left door.new ≡ D.left door.old) }
     ensures cause { HasCause (D.faults door.old) (D.faults door.new) (IsErr result) }
     ensures count { D.next_faults door.new ≡ D.next_faults door.old }
@@ -38,7 +39,7 @@ pub fn write_reply<D: Door>(
 pub(crate) fn write_interim<D: Door>(door: &mut D) -> Result<(), Failed>
     ensures ok { OnOk result (Wrote (D.written door.old) (D.written door.new) interim_bytes) }
     ensures err { OnErr result
-        (WroteFront (D.written door.old) (D.written door.new) interim_bytes) }
+        (WrotePart (D.written door.old) (D.written door.new) interim_bytes) }
     ensures others { (D.coming door.new ≡ D.coming door.old) × (D.left door.new ≡ D.left door.old) }
     ensures cause { HasCause (D.faults door.old) (D.faults door.new) (IsErr result) }
     ensures count { D.next_faults door.new ≡ D.next_faults door.old }
@@ -52,7 +53,7 @@ fn write_head<D: Door>(door: &mut D, status: u16, size: usize, keep: bool) -> Re
     ensures ok { OnOk result
         (Wrote (D.written door.old) (D.written door.new) (reply_head status size keep)) }
     ensures err { OnErr result
-        (WroteFront (D.written door.old) (D.written door.new) (reply_head status size keep)) }
+        (WrotePart (D.written door.old) (D.written door.new) (reply_head status size keep)) }
     ensures others { (D.coming door.new ≡ D.coming door.old) × (D.left door.new ≡ D.left door.old) }
     ensures cause { HasCause (D.faults door.old) (D.faults door.new) (IsErr result) }
     ensures count { D.next_faults door.new ≡ D.next_faults door.old }
@@ -68,7 +69,7 @@ fn write_status_line<D: Door>(door: &mut D, status: u16) -> Result<(), Failed>
     ensures ok { OnOk result
         (Wrote (D.written door.old) (D.written door.new) (status_line status)) }
     ensures err { OnErr result
-        (WroteFront (D.written door.old) (D.written door.new) (status_line status)) }
+        (WrotePart (D.written door.old) (D.written door.new) (status_line status)) }
     ensures others { (D.coming door.new ≡ D.coming door.old) × (D.left door.new ≡ D.left door.old) }
     ensures cause { HasCause (D.faults door.old) (D.faults door.new) (IsErr result) }
     ensures count { D.next_faults door.new ≡ D.next_faults door.old }
@@ -84,7 +85,7 @@ fn write_length_lines<D: Door>(door: &mut D, size: usize) -> Result<(), Failed>
     ensures ok { OnOk result
         (Wrote (D.written door.old) (D.written door.new) (length_lines size)) }
     ensures err { OnErr result
-        (WroteFront (D.written door.old) (D.written door.new) (length_lines size)) }
+        (WrotePart (D.written door.old) (D.written door.new) (length_lines size)) }
     ensures others { (D.coming door.new ≡ D.coming door.old) × (D.left door.new ≡ D.left door.old) }
     ensures cause { HasCause (D.faults door.old) (D.faults door.new) (IsErr result) }
     ensures count { D.next_faults door.new ≡ D.next_faults door.old }
@@ -99,7 +100,7 @@ fn write_further_lines<D: Door>(door: &mut D, status: u16, keep: bool) -> Result
     ensures ok { OnOk result
         (Wrote (D.written door.old) (D.written door.new) (further_lines status keep)) }
     ensures err { OnErr result
-        (WroteFront (D.written door.old) (D.written door.new) (further_lines status keep)) }
+        (WrotePart (D.written door.old) (D.written door.new) (further_lines status keep)) }
     ensures others { (D.coming door.new ≡ D.coming door.old) × (D.left door.new ≡ D.left door.old) }
     ensures cause { HasCause (D.faults door.old) (D.faults door.new) (IsErr result) }
     ensures count { D.next_faults door.new ≡ D.next_faults door.old }
@@ -146,7 +147,7 @@ fn write_three<D: Door>(
 ) -> Result<(), Failed>
     ensures ok { OnOk result (Wrote (D.written door.old) (D.written door.new)
         (first.now ++ second.now ++ third.now)) }
-    ensures err { OnErr result (WroteFront (D.written door.old) (D.written door.new)
+    ensures err { OnErr result (WrotePart (D.written door.old) (D.written door.new)
         (first.now ++ second.now ++ third.now)) }
     ensures others { (D.coming door.new ≡ D.coming door.old) × (D.left door.new ≡ D.left door.old) }
     ensures cause { HasCause (D.faults door.old) (D.faults door.new) (IsErr result) }
@@ -157,10 +158,10 @@ fn write_three<D: Door>(
     write_all(door, third)
 }
 
-/// Writes all bytes, or as many as the connection took before it failed.
+/// Writes all bytes, or as many as the connection took before it failed, which are not all.
 fn write_all<D: Door>(door: &mut D, bytes: &[u8]) -> Result<(), Failed>
     ensures ok { OnOk result (Wrote (D.written door.old) (D.written door.new) bytes.now) }
-    ensures err { OnErr result (WroteFront (D.written door.old) (D.written door.new) bytes.now) }
+    ensures err { OnErr result (WrotePart (D.written door.old) (D.written door.new) bytes.now) }
     ensures others { (D.coming door.new ≡ D.coming door.old) × (D.left door.new ≡ D.left door.old) }
     ensures cause { HasCause (D.faults door.old) (D.faults door.new) (IsErr result) }
     ensures count { D.next_faults door.new ≡ D.next_faults door.old }

@@ -6,7 +6,7 @@ ghost use Rattle.ob_io.specs.Cause.{Rose, HasCause};
 ghost use Rattle.ob_http.specs.Connection.{connection_of};
 ghost use Rattle.ob_http.specs.Taking.{TakesNext};
 ghost use Rattle.ob_http.specs.Reply.{interim_bytes};
-ghost use Rattle.ob_http.specs.Written.{Wrote, WroteFront};
+ghost use Rattle.ob_http.specs.Written.{Wrote, WrotePart};
 ghost use Rattle.ob_http.specs.Front.{BeginsWithHead};
 
 use crate::head::asks;
@@ -67,7 +67,7 @@ fn write_due<D: Door>(door: &mut D, due: bool) -> Result<(), Failed>
     ensures ok { OnOk result (Wrote (D.written door.old) (D.written door.new)
         (if due then interim_bytes else [])) }
     ensures err { OnErr result (IsTrue due
-        × WroteFront (D.written door.old) (D.written door.new) interim_bytes) }
+        × WrotePart (D.written door.old) (D.written door.new) interim_bytes) }
     ensures others { (D.coming door.new ≡ D.coming door.old) × (D.left door.new ≡ D.left door.old) }
     ensures cause { HasCause (D.faults door.old) (D.faults door.new) (IsErr result) }
     ensures count { D.next_faults door.new ≡ D.next_faults door.old }

@@ -9,3 +9,4 @@ pub mod Shown
 pub mod SortedEntries
 pub mod StoreFit
 pub mod DoorParts
+pub mod CallerLemmas

@@ -9,5 +9,6 @@ pub mod Memory
 pub mod MemoryDoor
 pub mod MemoryFiles
 pub mod Host
+pub mod Pace
 pub mod Slots
 pub mod Kept

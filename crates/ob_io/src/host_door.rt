@@ -1,6 +1,6 @@
 //! The door of the real thing: connections over TCP, on loopback. How often an accept is
-//! tried, how long a connection may stall and how much of a shut one is read may be changed
-//! here.
+//! tried, how long a connection may stall, and how much of a shut one is read and for how long
+//! may be changed here; how slowly one may send, in `pace`.
 
 ghost use Rattle.std.specs.Prelude.{◌≡◌, ◌≤◌, ◌<◌, true, length, None, Ok, IfOk, OnErr, IsErr, is_err};
 ghost use Rattle.ob_io.specs.Cause.{HasCause};
@@ -9,11 +9,12 @@ ghost use Rattle.ob_io.specs.Faults.{count_after};
 
 use crate::door::Door;
 use crate::fault::{Failed, counted};
-use std::io;
+use crate::pace::Pace;
 use std::io::{Read, Write};
 use std::marker::Model;
 use std::net::{Ipv4Addr, Net, Shutdown, SocketAddr, TcpListener, TcpStream};
-use std::time::Duration;
+use std::time::{Duration, Instant};
+use std::{io, rt};
 
 /// How often one `next` tries to accept a connection.
 const TRIES: u32 = 8;
@@ -21,8 +22,11 @@ const TRIES: u32 = 8;
 /// How many seconds a read or a write may wait for the peer.
 const PATIENCE: u64 = 5;
 
-/// How many seconds a read of a connection that is being closed may wait.
+/// How many seconds one read of a connection that is being closed may wait.
 const LAST_PATIENCE: u64 = 1;
+
+/// How many seconds all reads of a connection that is being closed may take.
+const LAST_SECONDS: u64 = 5;
 
 /// How many reads of what still comes are made before a connection is closed.
 const LAST_READS: u32 = 1_024;
@@ -31,18 +35,21 @@ const LAST_READS: u32 = 1_024;
 const READ_SIZE: usize = 8_192;
 
 /// A door at a port of loopback. Each error of the host is counted, a wait of more than five
-/// seconds too; an error of a read or a write ends its connection.
+/// seconds too, and a connection that sends too slowly; an error of a read or a write ends its
+/// connection.
 #[derive(Drop)]
-pub struct TcpDoor<R: Net<Listener = TcpListener, Stream = TcpStream> + Drop> {
-    place: Option<(R, SocketAddr)>,
+pub struct TcpDoor<R: Net<Listener = TcpListener, Stream = TcpStream> + rt::Clock + Drop> {
+    rt: Option<R>,
+    address: Option<SocketAddr>,
     listener: Option<TcpListener>,
     stream: Option<TcpStream>,
+    pace: Pace,
     waiting: Option<TcpStream>,
     next_faults: u64,
     faults: u64,
 }
 
-impl<R: Net<Listener = TcpListener, Stream = TcpStream> + Drop> Model for TcpDoor<R> {
+impl<R: Net<Listener = TcpListener, Stream = TcpStream> + rt::Clock + Drop> Model for TcpDoor<R> {
     ghost use Rattle.ob_io.specs.Host.{HostConnections};
 
     ghost Value = { HostConnections };
@@ -50,34 +57,47 @@ impl<R: Net<Listener = TcpListener, Stream = TcpStream> + Drop> Model for TcpDoo
     ghost view = { λ d. record { next_faults = d.next_faults; faults = d.faults } };
 }
 
-impl<R: Net<Listener = TcpListener, Stream = TcpStream> + Drop> TcpDoor<R> {
+impl<R: Net<Listener = TcpListener, Stream = TcpStream> + rt::Clock + Drop> TcpDoor<R> {
     /// A door at this port of 127.0.0.1, which is bound at the first `next`. Port 0 is one
     /// that the host picks.
     pub fn new(rt: R, port: u16) -> TcpDoor<R>
         ensures { result ≡ record { next_faults = 0; faults = 0 } }
     {
         TcpDoor {
-            place: Some((rt, SocketAddr::from((Ipv4Addr::LOCALHOST, port)))),
+            rt: Some(rt),
+            address: Some(SocketAddr::from((Ipv4Addr::LOCALHOST, port))),
             listener: None,
             stream: None,
+            pace: Pace::new(),
             waiting: None,
             next_faults: 0,
             faults: 0,
         }
     }
 
-    /// A door with this one connection. It takes no memory.
+    /// A door with this one connection, whose reads no clock times. It takes no memory.
     pub fn over(stream: TcpStream) -> TcpDoor<R>
         ensures { result ≡ record { next_faults = 0; faults = 0 } }
     {
         TcpDoor {
-            place: None,
+            rt: None,
+            address: None,
             listener: None,
             stream: None,
+            pace: Pace::new(),
             waiting: Some(stream),
             next_faults: 0,
             faults: 0,
         }
+    }
+
+    /// A door with this one connection, whose reads this clock times. It takes no memory.
+    pub fn timed(rt: R, stream: TcpStream) -> TcpDoor<R>
+        ensures { result ≡ record { next_faults = 0; faults = 0 } }
+    {
+        let mut door = TcpDoor::over(stream);
+        door.rt = Some(rt);
+        door
     }
 
     /// Binds the port, where that wasn't done.
@@ -88,10 +108,10 @@ impl<R: Net<Listener = TcpListener, Stream = TcpStream> + Drop> TcpDoor<R> {
         if self.listener.is_some() {
             return Ok(());
         }
-        let Some((rt, address)) = &self.place else {
+        let (Some(rt), Some(address)) = (&self.rt, self.address) else {
             return Ok(());
         };
-        match TcpListener::bind(rt, *address) {
+        match TcpListener::bind(rt, address) {
             Ok(listener) => {
                 self.listener = Some(listener);
                 Ok(())
@@ -106,7 +126,28 @@ impl<R: Net<Listener = TcpListener, Stream = TcpStream> + Drop> TcpDoor<R> {
         ensures same { self.new ≡ self.old }
     {
         self.stream = Some(stream);
+        self.pace = Pace::new();
         Ok(true)
+    }
+
+    /// Reads from the current connection. An error of the host is counted, and a connection
+    /// that sends too slowly.
+    fn read_paced(&mut self, bytes: &mut [u8]) -> Result<usize, Failed>
+        ensures fits { IfOk result (λ n. n ≤ length bytes.old) }
+        ensures counted { self.new ≡ record self.old { faults = count_after (is_err result) self.old.faults } }
+        ensures cause { HasCause self.old.faults self.new.faults (IsErr result) }
+    {
+        let Some(stream) = &mut self.stream else {
+            return Ok(0);
+        };
+        let began = moment(&self.rt);
+        let count = counted(stream.read(bytes), &mut self.faults)?;
+        let took = time_since(began, &self.rt).unwrap_or(Duration::ZERO);
+        if self.pace.falls_short(count, took) {
+            self.faults = self.faults.saturating_add(1);
+            return Err(Failed);
+        }
+        Ok(count)
     }
 
     /// Counts an error of `next`.
@@ -120,7 +161,7 @@ impl<R: Net<Listener = TcpListener, Stream = TcpStream> + Drop> TcpDoor<R> {
     }
 }
 
-impl<R: Net<Listener = TcpListener, Stream = TcpStream> + Drop> Door for TcpDoor<R> {
+impl<R: Net<Listener = TcpListener, Stream = TcpStream> + rt::Clock + Drop> Door for TcpDoor<R> {
     ghost coming = { λ _. None };
 
     ghost left = { λ _. None };
@@ -160,12 +201,9 @@ impl<R: Net<Listener = TcpListener, Stream = TcpStream> + Drop> Door for TcpDoor
         ensures counted { self.new ≡ record self.old { faults = count_after (is_err result) self.old.faults } }
         ensures cause { HasCause self.old.faults self.new.faults (IsErr result) }
     {
-        let Some(stream) = &mut self.stream else {
-            return Ok(0);
-        };
         let mut bytes = [0u8; READ_SIZE];
         let limit = room.len().min(READ_SIZE);
-        match counted(stream.read(&mut bytes[..limit]), &mut self.faults) {
+        match self.read_paced(&mut bytes[..limit]) {
             Ok(count) => {
                 room[..count].copy_from_slice(&bytes[..count]);
                 Ok(count)
@@ -198,7 +236,7 @@ impl<R: Net<Listener = TcpListener, Stream = TcpStream> + Drop> Door for TcpDoor
         ensures { self.new ≡ self.old }
     {
         if let Some(stream) = self.stream.take() {
-            close(stream);
+            close(stream, &self.rt);
         }
     }
 }
@@ -227,18 +265,38 @@ fn prepared(stream: TcpStream) -> io::Result<TcpStream> {
     Ok(stream)
 }
 
+/// The moment of the clock, where there is one and it can be read.
+fn moment<R: rt::Clock>(clock: &Option<R>) -> Option<Instant> {
+    Instant::now(clock.as_ref()?).ok()
+}
+
+/// How much time went by since a moment of the clock, where that can be told.
+fn time_since<R: rt::Clock>(began: Option<Instant>, clock: &Option<R>) -> Option<Duration> {
+    Some(moment(clock)?.duration_since(began?))
+}
+
 /// Closes a connection so that the peer gets the last reply: one that is closed while bytes
 /// still come is reset, and what was written to it may be lost. So writing ends first, and
-/// what still comes is read, up to a bound.
-fn close(mut stream: TcpStream) {
-    let hurry = Some(Duration::from_secs(LAST_PATIENCE));
-    if stream.shutdown(Shutdown::Write).is_err() || stream.set_read_timeout(hurry).is_err() {
-        return;
+/// what still comes is read, up to a bound of reads and of time.
+fn close<R: rt::Clock>(stream: TcpStream, clock: &Option<R>) {
+    if stream.shutdown(Shutdown::Write).is_ok() {
+        read_out(stream, clock);
     }
+}
+
+/// Reads what still comes, up to a bound of reads and of time. A read that no clock times
+/// counts as the longest.
+fn read_out<R: rt::Clock>(mut stream: TcpStream, clock: &Option<R>) {
+    let longest = Duration::from_secs(LAST_PATIENCE);
+    let mut left = Duration::from_secs(LAST_SECONDS);
     let mut bytes = [0u8; READ_SIZE];
     for _ in 0..LAST_READS {
-        if !matches!(stream.read(&mut bytes), Ok(1..)) {
+        let began = moment(clock);
+        if stream.set_read_timeout(Some(left.min(longest))).is_err()
+            || !matches!(stream.read(&mut bytes), Ok(1..))
+        {
             return;
         }
+        left = left.saturating_sub(time_since(began, clock).unwrap_or(longest));
     }
 }

@@ -7,8 +7,9 @@
 //! and `store` the rows that a keeper keeps. The forms: `memory_source`, `memory_sink`,
 //! `memory_files`, `memory_door` and `memory_clock` hold in memory what they give or take,
 //! Mem.. with failures at the calls that a `plan` names, Sure.. without; `host_source`,
-//! `host_sink`, `host_files`, `host_door` and `host_clock` are the real ones. A form may be
-//! added; a trait changes for all.
+//! `host_sink`, `host_files`, `host_door` and `host_clock` are the real ones, and `pace` says
+//! how slowly a connection of the real door may send. A form may be added; a trait changes for
+//! all.
 #![tactic(auto)]
 
 mod clock;
@@ -27,6 +28,7 @@ mod memory_files;
 mod memory_keeper;
 mod memory_sink;
 mod memory_source;
+mod pace;
 mod plan;
 mod row_copy;
 mod sink;

@@ -298,7 +298,8 @@ impl Door for MemDoor {
         ensures reads { IfOk result (λ n. Reads (Some self.old.streams.left) (Some self.new.streams.left) room.old room.new n) }
         ensures failed { OnErr result ((self.new.streams ≡ self.old.streams) × (room.new ≡ room.old)) }
         ensures same { self.new.streams ≡ record self.old.streams { left = self.new.streams.left } }
-        ensures counted { self.new.plan ≡ after_call (is_err result) self.old.plan }
+        ensures counted { (self.new.plan ≡ after_call (is_err result) self.old.plan)
+            × (self.new.faults ≡ count_after (is_err result) self.old.faults) }
         ensures next_count { self.new.next_faults ≡ self.old.next_faults }
         ensures cause { HasCause (connection_faults self.old) (connection_faults self.new) (IsErr result) }
     {
@@ -313,6 +314,16 @@ impl Door for MemDoor {
         ensures room { IfOk result (λ n. self.new.streams.room ≡ room_after self.old.streams n) }
         ensures failed { OnErr result ((self.new.streams.written ≡ self.old.streams.written) × (self.new.streams.room ≡ self.old.streams.room)) }
         ensures same { (self.new.streams.coming ≡ self.old.streams.coming) × (self.new.streams.left ≡ self.old.streams.left) × (self.new.streams.cut ≡ self.old.streams.cut) }
+
+        // A write that the plan fails counts with the plan's faults, another with the streams'.
+        ensures planned { FailsNext self.old.plan →
+            (self.new.plan ≡ after_call true self.old.plan)
+            × (self.new.faults ≡ count_after true self.old.faults)
+            × (self.new.streams.faults ≡ self.old.streams.faults) }
+        ensures unplanned { ¬ (FailsNext self.old.plan) →
+            (self.new.plan ≡ after_call false self.old.plan)
+            × (self.new.faults ≡ self.old.faults)
+            × (self.new.streams.faults ≡ count_after (is_err result) self.old.streams.faults) }
         ensures next_count { self.new.next_faults ≡ self.old.next_faults }
         ensures cause { HasCause (connection_faults self.old) (connection_faults self.new) (IsErr result) }
     {

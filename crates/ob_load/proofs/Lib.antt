@@ -2,6 +2,7 @@ pub mod Adding
 pub mod Circles
 pub mod Documents
 pub mod Entries
+pub mod HeldTexts
 pub mod Loads
 pub mod ModuleTexts
 pub mod Numbered
@@ -10,6 +11,7 @@ pub mod Owners
 pub mod Passing
 pub mod Pigeon
 pub mod Reached
+pub mod ReadTexts
 pub mod ReadingSteps
 pub mod Readings
 pub mod Taking

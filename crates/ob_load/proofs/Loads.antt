@@ -1,6 +1,6 @@
 -- What is loaded, or what stands against it first.
 use Rattle.std.proofs.Common.{◌≡◌, ◌≢◌, inl, inr, ℕ, ◌<◌, List, [], length, Option, None, Some, Ok, Err, refl, sym, ap, subst, ◌∙◌}
-use Rattle.std.specs.Prelude.{IfSome, option_map, slice_get}
+use Rattle.std.specs.Prelude.{option_map, slice_get}
 use Rattle.std.proofs.lemmas.Option.{same_Some}
 use Rattle.ob_base.specs.declared.place.PathStep.{PathStep}
 use Rattle.ob_definition.specs.Ranking.{rank}
@@ -18,9 +18,9 @@ use Rattle.ob_load.specs.declared.fault.LoadFault.TheVariants as load
 use Rattle.ob_load.specs.declared.fault.ModuleFault.{ModuleFault}
 use Rattle.ob_load.specs.declared.fault.ModuleFault.TheVariants as fault
 use Rattle.ob_load.specs.Rooms.{Refuses, ToldAbsent}
-use Rattle.ob_load.specs.Texts.{text_in}
+use Rattle.ob_load.specs.Texts.{AgreesWith, FileTexts, text_in}
 use Rattle.ob_load.proofs.Owners.{owner-is}
-use Rattle.ob_load.proofs.Told.{if_some, refused-is, told-refused}
+use Rattle.ob_load.proofs.Told.{refused-is, told-refused}
 
 -- what isn't none is something
 found : (o : Option (Module × ℕ)) → o ≢ None → (m : Module) × (n : ℕ) × (o ≡ Some (m, n))
@@ -68,56 +68,60 @@ module _ (text : List ℕ → Option (List ℕ)) (names : List (List ℕ)) (modu
         → faulty ≡ record { name = owner.name; place = model_place entry (rank why).field; fault = fault.Schema why } → IsFirstFault text names faulty
     models-first why owner entry faulty first owned told = inr (inr (why, record { taken = taken; are_taken = taken-of; first = first; owner = owner; entry = entry; owned = owned; told = told }))
 
--- a fault of reading is the first
-pub reading-told : (texts : Option (List ℕ → Option (List ℕ))) (folder : List ℕ) (names : List (List ℕ)) (faulty : FaultyModule)
-    → IfSome texts (λ t. ReadsTo (text_in t folder) [] (wanted names) (Err faulty)) → IfSome texts (λ t. IsFirstFault (text_in t folder) names faulty)
-reading-told texts folder names faulty read = if_some texts (λ t. ReadsTo (text_in t folder) [] (wanted names) (Err faulty)) (λ t. IsFirstFault (text_in t folder) names faulty) (λ t failed. inl failed) read
+-- for texts that the files may hold
+module _ (told : Option FileTexts) (folder : List ℕ) (names : List (List ℕ)) where
+  abbrev pub Faulty : FaultyModule → Type 0
+  Faulty faulty = (texts : FileTexts) × AgreesWith told texts × IsFirstFault (text_in texts folder) names faulty
 
--- whatever files tell
-module _ (texts : Option (List ℕ → Option (List ℕ))) (folder : List ℕ) (names : List (List ℕ)) (modules : List Module)
-    (read : IfSome texts (λ t. ReadsTo (text_in t folder) [] (wanted names) (Ok modules))) where
-  -- the first circle, where texts are told
-  pub cycle-told : (name : List ℕ) (faulty : FaultyModule) → IsFirstCyclic modules name → faulty ≡ whole name fault.Cycle → IfSome texts (λ t. IsFirstFault (text_in t folder) names faulty)
-  cycle-told name faulty cyclic is = if_some texts (λ t. ReadsTo (text_in t folder) [] (wanted names) (Ok modules)) (λ t. IsFirstFault (text_in t folder) names faulty)
-      (λ t read. cycle-first (text_in t folder) names modules read name faulty cyclic is) read
+  abbrev pub Loads : Schema → Type 0
+  Loads schema = (texts : FileTexts) × AgreesWith told texts × IsLoaded (text_in texts folder) names schema
 
+  -- a fault of reading is the first
+  pub reading-told : (faulty : FaultyModule) → (texts : FileTexts) × AgreesWith told texts × ReadsTo (text_in texts folder) [] (wanted names) (Err faulty) → Faulty faulty
+  reading-told faulty (texts, agree, failed) = (texts, agree, inl failed)
+
+module _ (told : Option FileTexts) (folder : List ℕ) (names : List (List ℕ)) (modules : List Module)
+    (read : (texts : FileTexts) × AgreesWith told texts × ReadsTo (text_in texts folder) [] (wanted names) (Ok modules)) where
   -- a circle that is refused is the first
-  pub cycle-refused : (number : ℕ) (name : List ℕ) (told : LoadFault) (faulty : FaultyModule) → (m : Module) × (slice_get modules number ≡ Some m) × IsFirstCyclic modules m.name
-      → option_map (λ (m : Module). m.name) (slice_get modules number) ≡ Some name → Refuses (whole name fault.Cycle) told → told ≡ load.Module faulty → IfSome texts (λ t. IsFirstFault (text_in t folder) names faulty)
-  cycle-refused number name told faulty (m, at, first) named refuses is =
-      cycle-told m.name faulty first (refused-is (whole name fault.Cycle) faulty told refuses is ∙ ap (λ (n : List ℕ). whole n fault.Cycle) (name-of modules number m name at named))
+  pub cycle-refused : (number : ℕ) (name : List ℕ) (why : LoadFault) (faulty : FaultyModule) → (m : Module) × (slice_get modules number ≡ Some m) × IsFirstCyclic modules m.name
+      → option_map (λ (m : Module). m.name) (slice_get modules number) ≡ Some name → Refuses (whole name fault.Cycle) why → why ≡ load.Module faulty → Faulty told folder names faulty
+  cycle-refused number name why faulty (m, at, first) named refuses is =
+      let same = refused-is (whole name fault.Cycle) faulty why refuses is ∙ ap (λ (n : List ℕ). whole n fault.Cycle) (name-of modules number m name at named) in
+      (read.0, read.1, cycle-first (text_in read.0 folder) names modules read.2 m.name faulty first same)
 
   module _ (acyclic : (name : List ℕ) → IsCyclic modules name → ⊥) (taken : List Module) (order : Takes modules [] (wanted names) taken) (models : List ModelDef) (all : models ≡ all_models taken) where
     -- the registry of all models is what is loaded
-    pub loaded-from : (schema : Schema) → IsBuilt models schema → IsFaultless models → IfSome texts (λ t. IsLoaded (text_in t folder) names schema)
-    loaded-from schema built faultless = if_some texts (λ t. ReadsTo (text_in t folder) [] (wanted names) (Ok modules)) (λ t. IsLoaded (text_in t folder) names schema)
-        (λ t read. record {
-          taken = taken;
-          are_taken = taken-of (text_in t folder) names modules read acyclic taken order;
-          built = subst (λ (defs : List ModelDef). IsBuilt defs schema) all built;
-          faultless = subst IsFaultless all faultless;
-        }) read
+    pub loaded-from : (schema : Schema) → IsBuilt models schema → IsFaultless models → Loads told folder names schema
+    loaded-from schema built faultless = (
+      read.0,
+      read.1,
+      record {
+        taken = taken;
+        are_taken = taken-of (text_in read.0 folder) names modules read.2 acyclic taken order;
+        built = subst (λ (defs : List ModelDef). IsBuilt defs schema) all built;
+        faultless = subst IsFaultless all faultless;
+      },
+    )
 
     -- an entry of the models is one of all
     pub entry-low : (n : ℕ) → n < length models → n < length (all_models taken)
     entry-low n low = subst (λ (defs : List ModelDef). n < length defs) all low
 
     -- the first fault of models is told
-    pub models-told : (why : SchemaFault) (told : LoadFault) (faulty : FaultyModule) → IsFirst models why → (rank why).entry < length models
+    pub models-told : (why : SchemaFault) (refusal : LoadFault) (faulty : FaultyModule) → IsFirst models why → (rank why).entry < length models
         → ((owner : Module) (entry : ℕ) → owner_of taken (rank why).entry ≡ Some (owner, entry)
-        → Refuses (record { name = owner.name; place = model_place entry (rank why).field; fault = fault.Schema why }) told)
-        → told ≡ load.Module faulty → IfSome texts (λ t. IsFirstFault (text_in t folder) names faulty)
-    models-told why told faulty first low refuses is =
+        → Refuses (record { name = owner.name; place = model_place entry (rank why).field; fault = fault.Schema why }) refusal)
+        → refusal ≡ load.Module faulty → Faulty told folder names faulty
+    models-told why refusal faulty first low refuses is =
         let own = owner-found taken (rank why).entry (entry-low (rank why).entry low) in
-        let same = refused-is (record { name = own.0.name; place = model_place own.1 (rank why).field; fault = fault.Schema why }) faulty told (refuses own.0 own.1 own.2) is in
-        if_some texts (λ t. ReadsTo (text_in t folder) [] (wanted names) (Ok modules)) (λ t. IsFirstFault (text_in t folder) names faulty)
-        (λ t read. models-first (text_in t folder) names modules read acyclic taken order why own.0 own.1 faulty (subst (λ (defs : List ModelDef). IsFirst defs why) all first) own.2 same) read
+        let same = refused-is (record { name = own.0.name; place = model_place own.1 (rank why).field; fault = fault.Schema why }) faulty refusal (refuses own.0 own.1 own.2) is in
+        (read.0, read.1, models-first (text_in read.0 folder) names modules read.2 acyclic taken order why own.0 own.1 faulty (subst (λ (defs : List ModelDef). IsFirst defs why) all first) own.2 same)
 
     -- a fault of models is never told as an absent text
-    pub models-there : (rose : Type 0) (why : SchemaFault) (told : LoadFault) → (rank why).entry < length models
+    pub models-there : (rose : Type 0) (why : SchemaFault) (refusal : LoadFault) → (rank why).entry < length models
         → ((owner : Module) (entry : ℕ) → owner_of taken (rank why).entry ≡ Some (owner, entry)
-        → Refuses (record { name = owner.name; place = model_place entry (rank why).field; fault = fault.Schema why }) told) → ToldAbsent texts rose told
-    models-there rose why told low refuses =
+        → Refuses (record { name = owner.name; place = model_place entry (rank why).field; fault = fault.Schema why }) refusal) → ToldAbsent told rose refusal
+    models-there rose why refusal low refuses =
         let own = owner-found taken (rank why).entry (entry-low (rank why).entry low) in
-        told-refused texts rose (record { name = own.0.name; place = model_place own.1 (rank why).field; fault = fault.Schema why }) told (refuses own.0 own.1 own.2)
+        told-refused told rose (record { name = own.0.name; place = model_place own.1 (rank why).field; fault = fault.Schema why }) refusal (refuses own.0 own.1 own.2)
         (λ same. let e : ◌≡◌ {A = ModuleFault} (fault.Schema why) fault.Absent = same in cc)

@@ -1,30 +1,16 @@
 -- Which faults are told.
-use Rattle.std.proofs.Common.{◌≡◌, ◌≢◌, ℕ, List, Option, None, Some, Result, Err, refl, sym, ap, subst, ◌∙◌}
-use Rattle.std.specs.Prelude.{IfSome}
+use Rattle.std.proofs.Common.{◌≡◌, ◌≢◌, ℕ, List, Option, Result, Err, refl, sym, ap, subst, ◌∙◌}
 use Rattle.ob_load.specs.declared.fault.FaultyModule.{FaultyModule}
 use Rattle.ob_load.specs.declared.fault.LoadFault.{LoadFault}
 use Rattle.ob_load.specs.declared.fault.LoadFault.TheVariants as load
 use Rattle.ob_load.specs.declared.fault.ModuleFault.TheVariants as fault
 use Rattle.ob_load.specs.Rooms.{Refuses, ToldAbsent}
+use Rattle.ob_load.specs.Texts.{AgreesWith, FileTexts}
 
--- what holds of all texts that files may tell
-pub if_all : {T : Type 0} (o : Option T) (Q : T → Type 0) → ((t : T) → Q t) → IfSome o Q
-if_all None Q all = tt
-if_all (Some t) Q all = all t
-
-pub if_some : {T : Type 0} (o : Option T) (P Q : T → Type 0) → ((t : T) → P t → Q t) → IfSome o P → IfSome o Q
-if_some None P Q to is = tt
-if_some (Some t) P Q to is = to t is
-
-pub if_some_both : {T : Type 0} (o : Option T) (P Q R : T → Type 0) → ((t : T) → P t → Q t → R t) → IfSome o P → IfSome o Q → IfSome o R
-if_some_both None P Q R to p q = tt
-if_some_both (Some t) P Q R to p q = to t p q
-
--- what files tell of a name, of the same files and the same name
-pub told-same : (P : (List ℕ → Option (List ℕ)) → List ℕ → Type 0) (own texts : Option (List ℕ → Option (List ℕ))) (called name : List ℕ) → own ≡ texts → called ≡ name
-    → IfSome own (λ t. P t called) → IfSome texts (λ t. P t name)
-told-same P own texts called name same named told =
-    subst (λ (o : Option (List ℕ → Option (List ℕ))). IfSome o (λ t. P t name)) same (subst (λ (n : List ℕ). IfSome own (λ t. P t n)) named told)
+-- what holds of texts that files may hold, of the same files and the same name
+pub told-same : (P : FileTexts → List ℕ → Type 0) (own told : Option FileTexts) (called name : List ℕ) → own ≡ told → called ≡ name
+    → (texts : FileTexts) × AgreesWith own texts × P texts called → (texts : FileTexts) × AgreesWith told texts × P texts name
+told-same P own told called name same named (texts, agree, is) = (texts, subst (λ (o : Option FileTexts). AgreesWith o texts) same agree, subst (P texts) named is)
 
 -- a module that is told is the one that is refused
 pub refused-is : (own faulty : FaultyModule) (why : LoadFault) → Refuses own why → why ≡ load.Module faulty → faulty ≡ own

@@ -9,7 +9,7 @@ ghost use Rattle.ob_load.specs.Loading as spec;
 ghost use Rattle.ob_load.specs.Loading.{IsFirstFault, IsLoaded};
 ghost use Rattle.ob_load.specs.Reading.{Module};
 ghost use Rattle.ob_load.specs.Rooms.{Refuses, ToldAbsent, modules_in, numbered};
-ghost use Rattle.ob_load.specs.Texts.{text_in};
+ghost use Rattle.ob_load.specs.Texts.{AgreesWith, FileTexts, text_in};
 ghost use Rattle.ob_load.specs.declared.fault.FaultyModule.{FaultyModule};
 
 use crate::definitions::add_models;
@@ -42,11 +42,13 @@ pub fn load<F: Files>(
     folder: &str,
     names: &[Word],
 ) -> Result<Loaded, LoadFault>
-    // Over files that tell what they hold: the meaning of the texts, or the first fault.
-    ensures loaded { IfOk result (λ loaded. IfSome (F.texts files.old)
-        (λ texts. IsLoaded (text_in texts folder.now) names.now loaded.schema)) }
-    ensures fault { (faulty : FaultyModule) → IsErrOf result (LoadFault.Module faulty) → IfSome (F.texts files.old)
-        (λ texts. IsFirstFault (text_in texts folder.now) names.now faulty) }
+    // The meaning of the texts, or their first fault. Where the files tell what they hold, these
+    // are the texts; where they don't, each name has one text.
+    ensures loaded { IfOk result (λ loaded. (texts : FileTexts) × AgreesWith (F.texts files.old) texts
+        × IsLoaded (text_in texts folder.now) names.now loaded.schema) }
+    ensures fault { (faulty : FaultyModule) → IsErrOf result (LoadFault.Module faulty)
+        → (texts : FileTexts) × AgreesWith (F.texts files.old) texts
+        × IsFirstFault (text_in texts folder.now) names.now faulty }
 
     // Whatever files tell: the registry is sound, `File` comes only where their count rose,
     // and so does `Absent` where they don't tell.

@@ -6,7 +6,7 @@ ghost use Rattle.toml.specs.View.{table_view};
 ghost use Rattle.ob_load.specs.Loading.{wanted};
 ghost use Rattle.ob_load.specs.Reading.{Module, ReadsTo, has_module, module_from, next_module, whole};
 ghost use Rattle.ob_load.specs.Rooms.{AreReadWhole, Passes, Refuses, ToldAbsent, modules_in};
-ghost use Rattle.ob_load.specs.Texts.{file_name, text_in};
+ghost use Rattle.ob_load.specs.Texts.{AgreesWith, FileTexts, file_name, text_in};
 ghost use Rattle.ob_load.specs.declared.fault.FaultyModule.{FaultyModule};
 ghost use Rattle.ob_load.specs.declared.fault.LoadFault.{LoadFault};
 
@@ -29,10 +29,11 @@ pub(crate) fn read_modules<F: Files>(
     folder: &str,
     names: &[Word],
 ) -> Result<Modules, LoadFault>
-    ensures read { IfOk result (λ modules. IfSome (F.texts files.old)
-        (λ texts. ReadsTo (text_in texts folder.now) [] (wanted names.now) (Ok (modules_in modules)))) }
-    ensures fault { (faulty : FaultyModule) → IsErrOf result (LoadFault.Module faulty) → IfSome (F.texts files.old)
-        (λ texts. ReadsTo (text_in texts folder.now) [] (wanted names.now) (Err faulty)) }
+    ensures read { IfOk result (λ modules. (texts : FileTexts) × AgreesWith (F.texts files.old) texts
+        × ReadsTo (text_in texts folder.now) [] (wanted names.now) (Ok (modules_in modules))) }
+    ensures fault { (faulty : FaultyModule) → IsErrOf result (LoadFault.Module faulty)
+        → (texts : FileTexts) × AgreesWith (F.texts files.old) texts
+        × ReadsTo (text_in texts folder.now) [] (wanted names.now) (Err faulty) }
     ensures whole { IfOk result (λ modules. AreReadWhole (modules_in modules) (wanted names.now)) }
     ensures few { IfOk result (λ modules. length (modules_in modules) ≤ 64) }
     ensures absent { IfErr result
@@ -77,11 +78,12 @@ fn read_document<F: Files>(
     folder: &str,
     name: &str,
 ) -> Result<Table, LoadFault>
-    ensures read { IfOk result (λ table. IfSome (F.texts files.old)
-        (λ texts. next_module 0 name.now (text_in texts folder.now name.now)
+    ensures read { IfOk result (λ table. (texts : FileTexts) × AgreesWith (F.texts files.old) texts
+        × (next_module 0 name.now (text_in texts folder.now name.now)
         ≡ Ok (record { name = name.now; document = table_view table }))) }
-    ensures fault { (faulty : FaultyModule) → IsErrOf result (LoadFault.Module faulty) → IfSome (F.texts files.old)
-        (λ texts. next_module 0 name.now (text_in texts folder.now name.now) ≡ Err faulty) }
+    ensures fault { (faulty : FaultyModule) → IsErrOf result (LoadFault.Module faulty)
+        → (texts : FileTexts) × AgreesWith (F.texts files.old) texts
+        × (next_module 0 name.now (text_in texts folder.now name.now) ≡ Err faulty) }
     ensures absent { IfErr result
         (ToldAbsent (F.texts files.old) (Rose (F.faults files.old) (F.faults files.new))) }
     ensures same { F.texts files.new ≡ F.texts files.old }
@@ -106,8 +108,9 @@ fn read_file<F: Files>(
 ) -> Result<Sequence<u8>, LoadFault>
     ensures read { IfOk result (λ bytes. (length bytes ≤ 1048576)
         × IfSome (F.texts files.old) (λ texts. texts (file_name folder.now name.now) ≡ Some bytes)) }
-    ensures fault { (faulty : FaultyModule) → IsErrOf result (LoadFault.Module faulty) → IfSome (F.texts files.old)
-        (λ texts. next_module 0 name.now (texts (file_name folder.now name.now)) ≡ Err faulty) }
+    ensures fault { (faulty : FaultyModule) → IsErrOf result (LoadFault.Module faulty)
+        → (texts : FileTexts) × AgreesWith (F.texts files.old) texts
+        × (next_module 0 name.now (texts (file_name folder.now name.now)) ≡ Err faulty) }
     ensures absent { IfErr result
         (ToldAbsent (F.texts files.old) (Rose (F.faults files.old) (F.faults files.new))) }
     ensures same { F.texts files.new ≡ F.texts files.old }

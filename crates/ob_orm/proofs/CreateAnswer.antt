@@ -30,7 +30,7 @@ use Rattle.ob_schema.specs.Models.{HasModel, field_at, is_id_from, model_at}
 use Rattle.ob_schema.specs.Tables.{Tables, next_of, row_at}
 use Rattle.ob_schema.specs.declared.info.FieldInfo.{FieldInfo}
 use Rattle.ob_schema.specs.declared.info.ModelInfo.{ModelInfo}
-use Rattle.ob_tables.proofs.OneRow.{row-made}
+use Rattle.ob_tables.proofs.CallerLemmas.{row-made}
 use Rattle.ob_tables.specs.After.{after}
 use Rattle.ob_tables.specs.declared.edit.Edit.TheVariants as edit
 use Rattle.ob_orm.specs.Answer.{Called, CreateAnswers, CreateCause, Refuses, called_by, settled_over}

@@ -4,7 +4,7 @@ use Rattle.std.specs.Prelude.{IfSome, IsSome, codes, true}
 use Rattle.std.proofs.lemmas.Bool.{false≢true}
 use Rattle.ob_base.specs.declared.id.FieldNo.{FieldNo}
 use Rattle.ob_base.specs.declared.id.ModelNo.{ModelNo}
-use Rattle.ob_cache.proofs.IdFields.{id-found, id-there}
+use Rattle.ob_cache.proofs.CallerLemmas.{id-found, id-there}
 use Rattle.ob_schema.specs.Models.{HasModel, IsRegistry, field_at, field_named, is_id_from, model_at}
 use Rattle.ob_schema.specs.declared.info.ModelInfo.{ModelInfo}
 

@@ -23,7 +23,7 @@ use Rattle.ob_base.specs.declared.refusal.Refusal.{Refusal}
 use Rattle.ob_base.specs.declared.refusal.Refusal.TheVariants as refusal
 use Rattle.ob_base.specs.declared.value.Value.{Value}
 use Rattle.ob_call.specs.Results.{IsResultOf}
-use Rattle.ob_codec.proofs.HeldLaws.{HasType-from_IsValueOf}
+use Rattle.ob_codec.proofs.CallerLemmas.{HasType-from_IsValueOf}
 use Rattle.ob_definition.specs.Members.{moment_def}
 use Rattle.ob_definition.specs.Types.{is_list, is_relation}
 use Rattle.ob_definition.specs.declared.definition.FieldDef.{FieldDef}

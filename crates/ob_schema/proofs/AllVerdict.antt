@@ -7,7 +7,7 @@ use Rattle.ob_definition.specs.declared.wrong.Wrong.TheVariants as wrong
 use Rattle.ob_definition.specs.EntryFaults.{IsGatheringFault}
 use Rattle.ob_definition.specs.Findings.{Adds}
 use Rattle.ob_definition.specs.Gathered.{AreWellNamed, Gathered, gathered}
-use Rattle.ob_definition.proofs.Adding.{Adds-both, Adds-same}
+use Rattle.ob_definition.proofs.CallerLemmas.{Adds-both, Adds-same}
 use Rattle.ob_schema.specs.Faults.{IsFaulty, IsFieldFault, IsModelFault}
 use Rattle.ob_schema.specs.Graphs.{IsChainWrong, IsStepFault}
 use Rattle.ob_schema.specs.Resolving.{AreModelFaults}

@@ -10,7 +10,7 @@ use Rattle.ob_definition.specs.declared.wrong.Wrong.TheVariants as wrong
 use Rattle.ob_definition.specs.Findings.{Adds, IsFoundBy, Tells, fault_at}
 use Rattle.ob_definition.specs.Gathered.{Gathered}
 use Rattle.ob_definition.specs.Members.{Member}
-use Rattle.ob_definition.proofs.Adding.{Adds-both, Adds-same}
+use Rattle.ob_definition.proofs.CallerLemmas.{Adds-both, Adds-same}
 use Rattle.ob_schema.specs.declared.info.Step.{Step}
 use Rattle.ob_schema.specs.Graphs.{IsChainWrong, IsCycleWrong, IsLongWrong, IsSelfWrong, IsStepFault}
 use Rattle.ob_schema.specs.Strata.{Chain, IsMember, IsOnCycle, IsPastStrata}

@@ -2,7 +2,8 @@
 use Rattle.std.proofs.Common.{◌≡◌, ◌⊎◌, inl, inr, ℕ, Bool, true, false, cond, List, [], ◌∷◌, map, Option, Some, Result, Ok, Err, is_some, refl, sym, subst, ◌∙◌}
 use Rattle.std.specs.Prelude.{◌↔◌, Contains}
 use Rattle.std.proofs.lemmas.Bool.{false≢true}
-use Rattle.ob_syntax.specs.Grammar.{IsExpression, SpellAtMostOneTree, Tree}
+use Rattle.ob_base.specs.Syntax.{Tree}
+use Rattle.ob_syntax.specs.Grammar.{IsExpression, SpellAtMostOneTree}
 use Rattle.ob_syntax.specs.Lexemes.{Lexeme, lexemes}
 use Rattle.ob_expr.specs.declared.checker.TypeFault.{TypeFault}
 use Rattle.ob_expr.specs.Checking.{typed_of}

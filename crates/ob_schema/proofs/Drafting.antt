@@ -3,7 +3,8 @@ use Rattle.std.proofs.Common.{◌≡◌, inl, inr, ℕ, zero, suc, Bool, true, f
 use Rattle.std.specs.Prelude.{◌↔◌, Contains, IsSomeAnd, MatchOption, if◌then◌else◌, option_map}
 use Rattle.std.specs.Option.{option_map_or}
 use Rattle.std.proofs.lemmas.Bool.{false≢true}
-use Rattle.ob_syntax.specs.Grammar.{SpellAtMostOneTree, Tree}
+use Rattle.ob_base.specs.Syntax.{Tree}
+use Rattle.ob_syntax.specs.Grammar.{SpellAtMostOneTree}
 use Rattle.ob_syntax.specs.Lexemes.{Lexeme}
 use Rattle.ob_expr.specs.declared.typed.Typed.{Typed}
 use Rattle.ob_expr.specs.TypedTree.{TypedTree, typed_tree_of}

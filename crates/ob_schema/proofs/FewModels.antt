@@ -10,7 +10,7 @@ use Rattle.std.proofs.lemmas.Bool.Decides.{nat_tests}
 use Rattle.std.proofs.lemmas.List.{length-take-le}
 use Rattle.std.proofs.lemmas.List.Elements.{All-cons, All-contains, All-head, All-nil, All-tail}
 use Rattle.ob_base.specs.Limits.{max_checks, max_models, max_name_bytes}
-use Rattle.ob_syntax.specs.Lexemes.{begins_with_letter, is_name_byte}
+use Rattle.ob_base.specs.NameBytes.{begins_with_letter, is_name_byte}
 use Rattle.ob_definition.specs.declared.definition.ModelDef.{ModelDef}
 use Rattle.ob_definition.specs.declared.fault.SchemaFault.{SchemaFault}
 use Rattle.ob_definition.specs.declared.fault.SchemaFault.TheVariants as fault

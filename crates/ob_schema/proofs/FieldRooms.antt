@@ -11,9 +11,7 @@ use Rattle.ob_definition.specs.declared.wrong.Wrong.TheVariants as wrong
 use Rattle.ob_definition.specs.Findings.{Adds, IsAt, IsFaultAt, Tells, fault_at}
 use Rattle.ob_definition.specs.Gathered.{Gathered}
 use Rattle.ob_definition.specs.Members.{Member, members_of, model_at, named}
-use Rattle.ob_definition.proofs.Adding.{Adds-both, Adds-same}
-use Rattle.ob_definition.proofs.Rooms.{Adds-when, IsTold}
-use Rattle.ob_definition.proofs.Tellings.{Adds-tells}
+use Rattle.ob_definition.proofs.CallerLemmas.{Adds-both, Adds-same, Adds-tells, Adds-when, IsTold}
 use Rattle.ob_definition.specs.Rooms.{spot_at}
 use Rattle.std.specs.Bool.{then_some}
 use Rattle.ob_schema.specs.Faults.{HasUnknownRelation, HasWrongKeys, IsParentField, LeadsBack, LooksBack}

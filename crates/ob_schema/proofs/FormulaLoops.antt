@@ -11,8 +11,7 @@ use Rattle.ob_definition.specs.declared.fault.SchemaFault.{SchemaFault}
 use Rattle.ob_definition.specs.Findings.{Adds}
 use Rattle.ob_definition.specs.Gathered.{Gathered}
 use Rattle.ob_definition.specs.Members.{Member, hidden_members, members_of, model_at}
-use Rattle.ob_definition.proofs.Adding.{Adds-both, Adds-none, Adds-same}
-use Rattle.ob_definition.proofs.Copies.{next_front, zip_length}
+use Rattle.ob_definition.proofs.CallerLemmas.{Adds-both, Adds-none, Adds-same, next_front, zip_length}
 use Rattle.ob_schema.specs.declared.formulas.DraftFormula.{DraftFormula}
 use Rattle.ob_schema.specs.declared.info.Step.{Step}
 use Rattle.ob_schema.specs.declared.model.Member.{Member as KeptMember}

@@ -4,7 +4,8 @@ use Rattle.std.specs.Prelude.{Any, Contains, IsSomeAnd}
 use Rattle.std.specs.Bool.{Decides, then_some}
 use Rattle.std.specs.declared.cmp.Ordering.TheVariants.{Less}
 use Rattle.ob_base.specs.Limits.{max_path_steps}
-use Rattle.ob_syntax.specs.Grammar.{SpellAtMostOneTree, Tree}
+use Rattle.ob_base.specs.Syntax.{Tree}
+use Rattle.ob_syntax.specs.Grammar.{SpellAtMostOneTree}
 use Rattle.ob_syntax.specs.Lexemes.{Lexeme}
 use Rattle.ob_expr.specs.TypedTree.{TypedTree}
 use Rattle.ob_definition.specs.declared.fault.SchemaFault.{SchemaFault}
@@ -14,8 +15,7 @@ use Rattle.ob_definition.specs.declared.wrong.Wrong.TheVariants as wrong
 use Rattle.ob_definition.specs.Findings.{Adds, IsAt, IsFaultAt, fault_at}
 use Rattle.ob_definition.specs.Members.{is_own_computed}
 use Rattle.ob_definition.specs.Ranking.{Rank, rank, rank_order}
-use Rattle.ob_definition.proofs.Adding.{Adds-both, Adds-none, Adds-same}
-use Rattle.ob_definition.proofs.Rooms.{Adds-when, IsTold}
+use Rattle.ob_definition.proofs.CallerLemmas.{Adds-both, Adds-none, Adds-same, Adds-when, IsTold}
 use Rattle.ob_schema.specs.declared.info.Step.{Step}
 use Rattle.ob_schema.specs.Faults.{HasUncovered}
 use Rattle.ob_schema.specs.Formulas.{Declares, HasFormula, IsCovered, Place, formula_paths, paths_by_role, read_paths}

@@ -8,8 +8,8 @@ use Rattle.ob_base.specs.Limits.{max_path_steps}
 use Rattle.ob_base.specs.declared.id.FieldNo.{FieldNo}
 use Rattle.ob_base.specs.declared.id.ModelNo.{ModelNo}
 use Rattle.ob_expr.specs.TypedTree.{TypedTree, paths_of, typed_tree_of}
-use Rattle.ob_expr.proofs.Accepted.{typed_ok}
-use Rattle.ob_syntax.specs.Grammar.{Tree}
+use Rattle.ob_expr.proofs.CallerLemmas.{typed_ok}
+use Rattle.ob_base.specs.Syntax.{Tree}
 use Rattle.ob_definition.specs.declared.field_type.FieldType.{FieldType}
 use Rattle.ob_definition.specs.declared.wrong.Wrong.TheVariants as wrong
 use Rattle.ob_definition.specs.Definitions.{is_computed}

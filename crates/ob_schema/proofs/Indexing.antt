@@ -8,7 +8,7 @@ use Rattle.std.specs.Str.{bytes_eq}
 use Rattle.std.specs.declared.alloc.Global.{Global}
 use Rattle.std.specs.declared.string.String.{String}
 use Rattle.ob_base.specs.declared.id.ModelNo.{ModelNo}
-use Rattle.ob_definition.proofs.Copies.{position-push}
+use Rattle.ob_definition.proofs.CallerLemmas.{position-push}
 use Rattle.ob_schema.specs.declared.info.ModelInfo.{ModelInfo}
 use Rattle.ob_schema.specs.Models.{model_named}
 use Rattle.ob_schema.specs.NameIndex.{IsIndexOf}

@@ -15,9 +15,7 @@ use Rattle.ob_definition.specs.Findings.{Adds}
 use Rattle.ob_definition.specs.Gathered.{Gathered, is_declared, model_of}
 use Rattle.ob_definition.specs.Members.{Member, automatic_defs, check_member, check_members, delegated_by, delegated_member, delegated_through, given_members, hidden_members, is_delegated, link_def, links_of, locked_members}
 use Rattle.ob_definition.specs.Members.{members_of, model_at, named, own_member, own_members, path_def, path_members, path_name}
-use Rattle.ob_definition.proofs.Adding.{Adds-both, Adds-none, Adds-same}
-use Rattle.ob_definition.proofs.Copies.{next_front}
-use Rattle.ob_definition.proofs.Tellings.{Adds-more}
+use Rattle.ob_definition.proofs.CallerLemmas.{Adds-both, Adds-more, Adds-none, Adds-same, next_front}
 use Rattle.ob_schema.specs.declared.model.Member.{Member as KeptMember}
 use Rattle.ob_schema.specs.declared.model.Model.{Model as KeptModel}
 use Rattle.ob_schema.specs.ModelFields.{hidden_in, member_of, members_in, named_in}

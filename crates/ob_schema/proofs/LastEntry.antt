@@ -7,8 +7,7 @@ use Rattle.std.proofs.lemmas.List.Elements.{All-nil, All-map, All-push, All-weak
 use Rattle.std.proofs.lemmas.List.{take-map}
 use Rattle.ob_schema.specs.declared.model.Member.{Member as KeptMember}
 use Rattle.ob_schema.specs.ModelFields.{member_of, named_in}
-use Rattle.ob_definition.proofs.Copies.{next_front}
-use Rattle.ob_definition.proofs.Tellings.{Any-before, Any-last}
+use Rattle.ob_definition.proofs.CallerLemmas.{Any-before, Any-last, next_front}
 
 -- none is above it, and one of some items has it; of no items it is 0
 pub record IsLast {X : Type 0} (e : X → ℕ) (xs : List X) (last : ℕ) : Type 0 where

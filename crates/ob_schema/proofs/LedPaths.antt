@@ -7,7 +7,7 @@ use Rattle.ob_expr.specs.declared.typed.Link.{Link}
 use Rattle.ob_schema.specs.declared.info.ModelInfo.{ModelInfo}
 use Rattle.ob_schema.specs.declared.info.Step.{Step}
 use Rattle.ob_schema.specs.Fields.{has_value_of}
-use Rattle.ob_schema.specs.Models.{AreSteps, FieldHas, IsByRefs, IsPlainTo, IsRefTo, IsRouted, field_at, kind_of_info}
+use Rattle.ob_schema.specs.Models.{AreSteps, FieldHas, IsByRefs, IsRefTo, IsRouted, LeadsOn, MayEnd, field_at, kind_of_info}
 use Rattle.ob_schema.specs.Paths.{step_at, steps_along}
 use Rattle.ob_schema.proofs.OneWrong.{known_on}
 
@@ -15,7 +15,7 @@ module _ (infos : List ModelInfo) where
   -- links lead from the rows of a model to those of another, each by a plain relation
   abbrev pub Leads : ModelNo → List Link → ModelNo → Type 0
   Leads number [] model = number ≡ model
-  Leads number (link ∷ links) model = FieldHas infos (IsPlainTo link.target) number link.field × Leads link.target links model
+  Leads number (link ∷ links) model = FieldHas infos (LeadsOn link.target) number link.field × Leads link.target links model
 
   pub leads_on : (number : ModelNo) (links more : List Link) (middle model : ModelNo) → Leads number links middle → Leads middle more model → Leads number (links ++ more) model
   leads_on number [] more middle model leads on = subst (λ (n : ModelNo). Leads n more model) (sym leads) on
@@ -35,7 +35,7 @@ module _ (infos : List ModelInfo) where
   pub leads_by : (number : ModelNo) (links : List Link) (model : ModelNo) → LeadsByRefs number links model → Leads number links model
   leads_by number [] model refs = refs
   leads_by number (link ∷ links) model refs =
-      (known_on (field_at infos number link.field) (IsRefTo link.target) (IsPlainTo link.target) (λ field at is. is.plain_to) refs.0, leads_by link.target links model refs.1)
+      (known_on (field_at infos number link.field) (IsRefTo link.target) (LeadsOn link.target) (λ field at is. is.leads_on) refs.0, leads_by link.target links model refs.1)
 
   pub refs_on : (number : ModelNo) (links more : List Link) (middle model : ModelNo) → LeadsByRefs number links middle → LeadsByRefs middle more model → LeadsByRefs number (links ++ more) model
   refs_on number [] more middle model refs on = subst (λ (n : ModelNo). LeadsByRefs n more model) (sym refs) on
@@ -48,18 +48,18 @@ module _ (infos : List ModelInfo) where
   refs_routed number (link ∷ links) model field k refs has = (refs.0, refs_routed link.target links model field k refs.1 has)
 
   -- one step more in front
-  pub steps_before : (number : ModelNo) (field : FieldNo) (target : ModelNo) (steps : List Step) → FieldHas infos (IsPlainTo target) number field → AreSteps infos target steps
+  pub steps_before : (number : ModelNo) (field : FieldNo) (target : ModelNo) (steps : List Step) → FieldHas infos (LeadsOn target) number field → AreSteps infos target steps
       → AreSteps infos number (step_at number field ∷ steps)
   steps_before number field target [] has are = absurd are
   steps_before number field target (step ∷ []) has are =
-      (refl, subst (λ (n : ModelNo). FieldHas infos (IsPlainTo n) number field) (sym are.0) has, subst (λ (n : ModelNo). AreSteps infos n (step ∷ [])) (sym are.0) are)
+      (refl, subst (λ (n : ModelNo). FieldHas infos (LeadsOn n) number field) (sym are.0) has, subst (λ (n : ModelNo). AreSteps infos n (step ∷ [])) (sym are.0) are)
   steps_before number field target (step ∷ next ∷ steps) has are =
-      (refl, subst (λ (n : ModelNo). FieldHas infos (IsPlainTo n) number field) (sym are.0) has, subst (λ (n : ModelNo). AreSteps infos n (step ∷ next ∷ steps)) (sym are.0) are)
+      (refl, subst (λ (n : ModelNo). FieldHas infos (LeadsOn n) number field) (sym are.0) has, subst (λ (n : ModelNo). AreSteps infos n (step ∷ next ∷ steps)) (sym are.0) are)
 
   -- the steps along a path
-  pub led_steps : (number : ModelNo) (links : List Link) (model : ModelNo) (field : FieldNo) → Leads number links model → FieldHas infos (λ info. has_value_of info ≡ true) model field
+  pub led_steps : (number : ModelNo) (links : List Link) (model : ModelNo) (field : FieldNo) → Leads number links model → FieldHas infos MayEnd model field
       → AreSteps infos number (steps_along number links field)
-  led_steps number [] model field leads has = (refl, subst (λ (n : ModelNo). FieldHas infos (λ info. has_value_of info ≡ true) n field) (sym leads) has)
+  led_steps number [] model field leads has = (refl, subst (λ (n : ModelNo). FieldHas infos MayEnd n field) (sym leads) has)
   led_steps number (link ∷ links) model field leads has = steps_before number link.field link.target (steps_along link.target links field) leads.0 (led_steps link.target links model field leads.1 has)
 
 -- the steps of links

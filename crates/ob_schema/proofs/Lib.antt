@@ -93,7 +93,15 @@ pub mod Stable
 pub mod Sourced
 pub mod NumbersRise
 pub mod FieldsRight
+pub mod ComputedEnds
 pub mod StrataRight
+pub mod FormulaOf
+pub mod ReadAlong
+pub mod Questions
 pub mod Entered
 pub mod NamesRight
+pub mod PathTokens
+pub mod PathMeaning
+pub mod TreePath
 pub mod ModelsRight
+pub mod CallerLemmas

@@ -9,7 +9,7 @@ use Rattle.ob_definition.specs.declared.made.ParentLink.{ParentLink}
 use Rattle.ob_definition.specs.Gathered.{Gathered}
 use Rattle.ob_definition.specs.Making.{IsMade}
 use Rattle.ob_definition.specs.Members.{Member, given_members, link_def, links_of, own_member, own_members}
-use Rattle.ob_definition.proofs.Copies.{map_map, zip_more}
+use Rattle.ob_definition.proofs.CallerLemmas.{map_map, zip_more}
 use Rattle.ob_schema.specs.declared.model.Member.{Member as KeptMember}
 use Rattle.ob_schema.specs.ModelFields.{hidden_in, member_of, members_in, named_in}
 

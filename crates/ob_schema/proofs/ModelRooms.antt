@@ -13,10 +13,7 @@ use Rattle.ob_definition.specs.Findings.{Adds, IsAt, IsFaultAt, Tells}
 use Rattle.ob_definition.specs.Gathered.{DeclaredOrder, DeclaredSet, Gathered, set_at}
 use Rattle.ob_definition.specs.Members.{Member, members_of, named}
 use Rattle.ob_definition.specs.Rooms.{spot_at}
-use Rattle.ob_definition.proofs.Adding.{Adds-both, Adds-none, Adds-same}
-use Rattle.ob_definition.proofs.Copies.{next_front}
-use Rattle.ob_definition.proofs.Rooms.{Adds-when, IsTold}
-use Rattle.ob_definition.proofs.Tellings.{Adds-more, Adds-tells}
+use Rattle.ob_definition.proofs.CallerLemmas.{Adds-both, Adds-more, Adds-none, Adds-same, Adds-tells, Adds-when, IsTold, next_front}
 use Rattle.std.proofs.Math.Dec.{ltb}
 use Rattle.std.proofs.lemmas.Bool.{lt-ltb, ltb-true}
 use Rattle.std.proofs.lemmas.List.{map-append}

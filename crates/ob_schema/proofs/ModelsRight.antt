@@ -11,6 +11,7 @@ use Rattle.std.proofs.lemmas.List.Elements.{All-map, All-nil, All-same}
 use Rattle.std.proofs.lemmas.Option.{get_or_from_slice_get, same_Some, slice_get-get_or, slice_get-map, slice_get_within}
 use Rattle.ob_base.specs.declared.id.FieldNo.{FieldNo}
 use Rattle.ob_base.specs.declared.id.ModelNo.{ModelNo}
+use Rattle.ob_expr.specs.TypedTree.{typed_tree_of}
 use Rattle.ob_definition.specs.declared.definition.Inherits.{Inherits}
 use Rattle.ob_definition.specs.declared.field_type.FieldType.{FieldType}
 use Rattle.ob_definition.specs.declared.field_type.FieldType.TheVariants as type
@@ -21,29 +22,30 @@ use Rattle.ob_definition.specs.Findings.{IsFaultAt, fault_at}
 use Rattle.ob_definition.specs.Gathered.{DeclaredOrder, DeclaredSet, Gathered}
 use Rattle.ob_definition.specs.Keys.{is_many2one}
 use Rattle.ob_definition.specs.Members.{Member, given_members, link_def, links_from, links_of}
-use Rattle.ob_definition.specs.Members.{members_of, model_at, named, names_of}
+use Rattle.ob_definition.specs.Members.{members_of, model_at, named, names_of, path_name}
 use Rattle.ob_definition.specs.Members.{number_of, own_member, own_members}
 use Rattle.ob_definition.specs.Orders.{Term, order_terms}
 use Rattle.ob_definition.specs.Rooms.{spot_at}
 use Rattle.ob_definition.specs.Types.{is_list, is_one2many}
-use Rattle.ob_definition.proofs.Copies.{zip_length}
+use Rattle.ob_definition.proofs.CallerLemmas.{zip_length}
 use Rattle.ob_schema.specs.declared.info.FieldInfo.{FieldInfo}
 use Rattle.ob_schema.specs.declared.info.Formula.{Formula}
 use Rattle.ob_schema.specs.declared.info.ModelInfo.{ModelInfo}
 use Rattle.ob_schema.specs.declared.info.OrderTerm.{OrderTerm}
 use Rattle.ob_schema.specs.declared.info.Origin.TheVariants as origin
 use Rattle.ob_schema.specs.declared.info.ParentInfo.{ParentInfo}
-use Rattle.ob_schema.specs.Built.{IsFieldOf, IsModelOf, given_terms}
+use Rattle.ob_schema.specs.Built.{IsFieldOf, IsFormula, IsModelOf, IsOrigin, given_terms}
+use Rattle.ob_schema.specs.Formulas.{Place}
 use Rattle.ob_schema.specs.Faults.{HasRefused, HasUnknown, IsParentField, is_plain, is_plain_kept as is_kept_member, is_unknown, names_of_terms, orders_rows}
 use Rattle.ob_schema.specs.Fields.{is_plain_from, is_plain_kept}
 use Rattle.ob_schema.specs.Finds.{relation_of}
-use Rattle.ob_schema.specs.Models.{FieldHas, IsFormulaIn, IsModel, IsParentIn, IsPlainTo, IsRegistry, Orders, field_at, fields_of, model_at as info_at}
+use Rattle.ob_schema.specs.Models.{FieldHas, HasTreePath, IsFormulaIn, IsModel, IsParentIn, IsPlainTo, IsRegistry, IsTreePath, Orders, field_at, fields_of, model_at as info_at}
 use Rattle.ob_schema.specs.Paths.{step_at}
 use Rattle.ob_schema.specs.RegistryOf.{HasFieldInfo, IsInfoFrom, IsRegistryOf}
 use Rattle.ob_schema.specs.Strata.IsMember.{by_name}
 use Rattle.ob_schema.specs.Telling.{IsOrderWrong, IsParentWrong}
 use Rattle.ob_schema.proofs.Delegated.{link_inherits, link_member, link_model, own_among}
-use Rattle.ob_schema.proofs.FieldsRight.{IsParentOf, field_right, has, named_info, number_there, parents_of, plain_info}
+use Rattle.ob_schema.proofs.FieldsRight.{IsParentOf, computed_info, field_right, has, named_info, number_there, parents_of, plain_info}
 use Rattle.ob_schema.proofs.ModelNames.{IfSome-found}
 use Rattle.ob_schema.proofs.ModelPlaces.{zip_some}
 use Rattle.ob_schema.proofs.NumbersRise.{field_no}
@@ -56,7 +58,8 @@ use Rattle.ob_schema.proofs.Somes.{read_within}
 use Rattle.ob_schema.proofs.Stable.{stable_model, stable_true}
 use Rattle.ob_schema.proofs.StrataRight.{stratified}
 use Rattle.ob_schema.proofs.WithinLimits.{few_fields}
-use Rattle.ob_schema.proofs.NamesRight.{alone, automatic, conditions, conditions_apart, few_hidden, field_read, name_short, ordered, short, slice_get-behind, tree_right}
+use Rattle.ob_schema.proofs.NamesRight.{alone, automatic, conditions, conditions_apart, few_hidden, field_read, from as made_from, name_short, ordered, path_info, path_low, path_member, path_own, short, slice_get-behind}
+use Rattle.ob_schema.proofs.TreePath.{path-means}
 
 -- ---- lists of names
 
@@ -111,8 +114,8 @@ all_true true true false p q r = absurd (false≢true r)
 module _ (models : List Gathered) (infos : List ModelInfo) (registry : IsRegistryOf models infos) (zip : AllZip (IsModelOf models) models infos)
     (formulas_in : (number : ModelNo) (field : FieldNo) (info : FieldInfo) (formula : Formula) → field_at infos number field ≡ Some info → info.origin ≡ origin.Computed formula → IsFormulaIn infos number info formula) where
   module _ (number : ModelNo) (info : ModelInfo) (at : info_at infos number ≡ Some info) where
-    from : IsInfoFrom models number info
-    from = registry.model_back number info at
+    abbrev from : IsInfoFrom models number info
+    from = made_from models infos registry zip number info at
 
     abbrev g : Gathered
     g = from.model
@@ -128,36 +131,85 @@ module _ (models : List Gathered) (infos : List ModelInfo) (registry : IsRegistr
 
     -- ---- keys
 
+    -- the parent field of a tree
+    record IsParentHere (name : List ℕ) (b : Member) : Type 0 where
+      found : named members name ≡ Some b
+      plain : is_plain b ≡ true
+      one : is_many2one b.def.field_type ≡ true
+      leads : relation_of models b.def ≡ Some number
+
+    parent_here : (name : List ℕ) → g.parent ≡ Some name → (b : Member) × IsParentHere name b
+    parent_here name e =
+        let Known : Option (List ℕ) → Type 0 = λ o. IfSome o (λ name. IsSome (named members name)) in
+        some (named members name) refl (subst Known e (model_resolved models registry.resolved number g there).parent)
+      where
+        some : (o : Option Member) → named members name ≡ o → IsSome o → (b : Member) × IsParentHere name b
+        some None f none = absurd (false≢true none)
+        some (Some b) f known = (
+          b,
+          record {
+            found = f;
+            plain = stable_true (is_plain b) (λ no. twice (λ p. no p.0));
+            one = stable_true (is_many2one b.def.field_type) (λ no. twice (λ p. no p.1));
+            leads = stable_model (relation_of models b.def) number (λ no. twice (λ p. no p.2));
+          },
+        )
+          where
+            twice : (IsParentField models (Some number) b → ⊥) → ⊥
+            twice refuted =
+                let why = fault_at wrong.Kind (spot_at g.entry []) in
+                let P : Option (List ℕ) → Type 0 = λ o. IsSomeAnd o (λ name. IsFaultAt (spot_at g.entry []) (IsParentWrong models number (named members name)) why) in
+                right_key models registry.resolved number g there why (inr (inl (subst P (sym e)
+                (wrong.Kind, known_by (named members name) (λ m. IsParentField models (Some number) m → ⊥) b f refuted, refl))))
+
+    -- what holds of it where there is one
+    parent_has : (P : FieldNo → Type 0) → ((name : List ℕ) → g.parent ≡ Some name → P (number_of models g name)) → IfSome info.parent P
+    parent_has P holds = by g.parent refl
+      where
+        by : (o : Option (List ℕ)) → g.parent ≡ o → IfSome info.parent P
+        by None e = subst (λ (o : Option FieldNo). IfSome o P) (sym (is.parent ∙ ap (option_map (number_of models g)) e)) tt
+        by (Some name) e = IfSome-found P info.parent (number_of models g name) (is.parent ∙ ap (option_map (number_of models g)) e) (holds name e)
+
     parent_right : IfSome info.parent (FieldHas infos (λ field. IsPlainTo number field × (field.field_type ≡ type.Many2one)) number)
-    parent_right = by g.parent refl (model_resolved models registry.resolved number g there).parent
+    parent_right = parent_has (FieldHas infos Right number) of
       where
         Right : FieldInfo → Type 0
         Right field = IsPlainTo number field × (field.field_type ≡ type.Many2one)
 
-        of : (name : List ℕ) → g.parent ≡ Some name → (b : Member) → named members name ≡ Some b → ((IsParentField models (Some number) b → ⊥) → ⊥) → IfSome info.parent (FieldHas infos Right number)
-        of name e b found twice =
-            let own = named_info models infos registry number g there name b found in
-            let plain : is_plain b ≡ true = stable_true (is_plain b) (λ no. twice (λ p. no p.0)) in
-            let t : is_many2one b.def.field_type ≡ true = stable_true (is_many2one b.def.field_type) (λ no. twice (λ p. no p.1)) in
-            let leads : relation_of models b.def ≡ Some number = stable_model (relation_of models b.def) number (λ no. twice (λ p. no p.2)) in
+        of : (name : List ℕ) → g.parent ≡ Some name → FieldHas infos Right number (number_of models g name)
+        of name e =
+            let parent = parent_here name e in
+            let b = parent.0 in
+            let own = named_info models infos registry number g there name b parent.1.found in
             let holds : Right own.info = (
-              record { plain = plain_info (record { models = models; number = number; member = b }) g (number_of models g name) own.info.origin plain own.is.origin; leads = own.is.relation ∙ leads },
-              own.is.field_type ∙ many2one b.def.field_type t,
+              record { plain = plain_info (record { models = models; number = number; member = b }) g (number_of models g name) own.info.origin parent.1.plain own.is.origin; leads = own.is.relation ∙ parent.1.leads },
+              own.is.field_type ∙ many2one b.def.field_type parent.1.one,
             ) in
-            IfSome-found (FieldHas infos Right number) info.parent (number_of models g name) (is.parent ∙ ap (option_map (number_of models g)) e)
-            (has models infos registry number (number_of models g name) g b own Right holds)
+            has models infos registry number (number_of models g name) g b own Right holds
 
-        by : (o : Option (List ℕ)) → g.parent ≡ o → IfSome o (λ name. IsSome (named members name)) → IfSome info.parent (FieldHas infos Right number)
-        by None e known = subst (λ (o : Option FieldNo). IfSome o (FieldHas infos Right number)) (sym (is.parent ∙ ap (option_map (number_of models g)) e)) tt
-        by (Some name) e known = some (named members name) refl known
-          where
-            some : (o : Option Member) → named members name ≡ o → IsSome o → IfSome info.parent (FieldHas infos Right number)
-            some None f none = absurd (false≢true none)
-            some (Some b) f known =
-                let why = fault_at wrong.Kind (spot_at g.entry []) in
-                let P : Option (List ℕ) → Type 0 = λ o. IsSomeAnd o (λ name. IsFaultAt (spot_at g.entry []) (IsParentWrong models number (named members name)) why) in
-                of name e b f (λ no. right_key models registry.resolved number g there why (inr (inl (subst P (sym e)
-                (wrong.Kind, known_by (named members name) (λ m. IsParentField models (Some number) m → ⊥) b f no, refl)))))
+    -- the path of its rows
+    tree_right : IfSome info.parent (HasTreePath infos number info)
+    tree_right = parent_has (HasTreePath infos number info) of
+      where
+        of : (name : List ℕ) → g.parent ≡ Some name → HasTreePath infos number info (number_of models g name)
+        of name e =
+            let parent = parent_here name e in
+            let b = parent.0 in
+            let m : Member = path_member models infos registry zip number info at name e in
+            let place : Place = record { models = models; number = number; member = m } in
+            let at_path = number_of models g path_name in
+            let own = path_info models infos registry zip number info at name e in
+            let is_path : IsTreePath number (number_of models g name) at_path own.info = record {
+              named = own.is.name;
+              text = own.is.field_type;
+              computed = computed_info place g at_path own.info.origin refl refl own.is.origin;
+              kept = own.is.store;
+              means = λ formula by.
+                  (let right : IsFormula place at_path formula = subst (IsOrigin place g at_path) by own.is.origin in
+                  path-means models registry.resolved number g there name b parent.1.found parent.1.plain (many2one b.def.field_type parent.1.one) parent.1.leads
+                  (path_own models infos registry zip number info at name e) right.tree (typed_tree_of formula.typed) right.has);
+            } in
+            (at_path, path_low models infos registry zip number info at name e, has models infos registry number at_path g m own (IsTreePath number (number_of models g name) at_path) is_path)
 
     parents_right : All (IsParentIn infos number) info.inherits
     parents_right k d within = one (get_or info.inherits k d) (slice_get-get_or info.inherits k d within)
@@ -321,7 +373,7 @@ module _ (models : List Gathered) (infos : List ModelInfo) (registry : IsRegistr
       conditions = conditions models infos registry zip number info at;
       conditions_apart = conditions_apart models infos registry zip number info at;
       parent = parent_right;
-      tree = tree_right models infos registry zip number info at;
+      tree = tree_right;
       parents = parents_right;
       links_apart = links_apart;
       unique = unique_right;

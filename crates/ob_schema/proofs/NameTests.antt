@@ -12,7 +12,7 @@ use Rattle.ob_definition.specs.Findings.{Tells}
 use Rattle.ob_definition.specs.Members.{Member, named}
 use Rattle.ob_definition.specs.declared.orders.OrderEntry.{OrderEntry}
 use Rattle.ob_definition.specs.Orders.{Term, order_terms, term_of_entry, terms_of}
-use Rattle.ob_definition.proofs.ListTests.{list_any-map}
+use Rattle.ob_definition.proofs.CallerLemmas.{list_any-map}
 use Rattle.ob_schema.specs.Faults.{HasRefused, HasUnknown, is_plain_kept, is_unknown, names_of_terms, orders_rows}
 use Rattle.ob_schema.specs.Telling.{AreNamesWrong, IsOrderWrong, IsSetWrong}
 use Rattle.ob_schema.proofs.OneWrong.{Tells-none, Tells-one, Tells-same, known_on}

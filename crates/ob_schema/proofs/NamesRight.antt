@@ -1,13 +1,12 @@
 -- The names of a model of the registry and of its fields are right; the fields that every model has, the path in a tree and the conditions are there.
 use Rattle.std.proofs.Common.{◌≡◌, ◌≢◌, ℕ, suc, ◌+◌, ◌<◌, ◌≤◌, Bool, true, false, cond, ltb, not, is_some, Option, Some, None, option_map, List, [], ◌∷◌, ◌++◌, length}
 use Rattle.std.proofs.Common.{length-append, get_or, map, inl, inr, refl, sym, ap, subst, ◌∙◌, arith}
-use Rattle.std.specs.Prelude.{All, Any, Contains, IsSome, option_and_then, slice_get}
+use Rattle.std.specs.Prelude.{All, Any, Contains, option_and_then, slice_get}
 use Rattle.std.specs.Cmp.Lexicographic.{slice_cmp}
 use Rattle.std.specs.List.{AllPairs, AllZip, position_or_len}
 use Rattle.std.specs.Ordering.{nat_cmp}
 use Rattle.std.specs.Str.{bytes_eq}
 use Rattle.std.specs.declared.cmp.Ordering.TheVariants.{Less}
-use Rattle.std.proofs.lemmas.Bool.{false≢true}
 use Rattle.std.proofs.lemmas.List.{get_or-map, length-map}
 use Rattle.std.proofs.lemmas.List.Elements.{All-contains, All-contains_itself, Contains-append_left, Contains-append_right}
 use Rattle.std.proofs.lemmas.List.Folds.{Any-from_list_any}
@@ -22,15 +21,15 @@ use Rattle.ob_definition.specs.Gathered.{Declared, Gathered, is_declared}
 use Rattle.ob_definition.specs.Making.{IsPathFault}
 use Rattle.ob_definition.specs.Members.{Member, automatic_defs, check_member, check_members, count_below, given_members, hidden_members, hidden_number, is_own_computed, locked_members}
 use Rattle.ob_definition.specs.Members.{members_of, model_at, model_number, named, names_of}
-use Rattle.ob_definition.specs.Members.{number_of, own_member, path_def, path_members, path_name}
+use Rattle.ob_definition.specs.Members.{number_of, own_member, own_members, path_def, path_members, path_name}
 use Rattle.ob_definition.specs.Rooms.{spot_at}
-use Rattle.ob_definition.proofs.Copies.{zip_length}
+use Rattle.ob_definition.proofs.CallerLemmas.{zip_length}
 use Rattle.ob_schema.specs.declared.info.FieldInfo.{FieldInfo}
 use Rattle.ob_schema.specs.declared.info.ModelInfo.{ModelInfo}
 use Rattle.ob_schema.specs.Built.{IsFieldOf, IsModelOf, numbered}
-use Rattle.ob_schema.specs.Models.{AreInOrder, IsCondition, IsTreePath, field_at, fields_of, model_at as info_at, model_named}
+use Rattle.ob_schema.specs.Models.{AreInOrder, IsCondition, field_at, fields_of, model_at as info_at, model_named}
 use Rattle.ob_schema.specs.Paths.{step_at}
-use Rattle.ob_schema.specs.RegistryOf.{IsInfoFrom, IsRegistryOf}
+use Rattle.ob_schema.specs.RegistryOf.{HasFieldInfo, IsInfoFrom, IsRegistryOf}
 use Rattle.ob_schema.specs.Strata.IsMember.{by_name}
 use Rattle.ob_schema.proofs.AllSteps.{element_at}
 use Rattle.ob_schema.proofs.Delegated.{hidden_computed, own_among}
@@ -74,7 +73,8 @@ numbers_alike models infos zip name =
 
 module _ (models : List Gathered) (infos : List ModelInfo) (registry : IsRegistryOf models infos) (zip : AllZip (IsModelOf models) models infos) where
   module _ (number : ModelNo) (info : ModelInfo) (at : info_at infos number ≡ Some info) where
-    from : IsInfoFrom models number info
+    -- the model of which it is made
+    pub from : IsInfoFrom models number info
     from = registry.model_back number info at
 
     abbrev g : Gathered
@@ -216,24 +216,34 @@ module _ (models : List Gathered) (infos : List ModelInfo) (registry : IsRegistr
             absurd (registry.resolved.made why (place.0, g, slice_get_within models place.0 g place.2, get_or_from_slice_get models place.0 g g place.2, inl takes))
 
     -- a tree has its path
-    pub tree_right : IsSome info.parent → Any IsTreePath info.fields
-    tree_right given = by g.parent refl (sym (ap (λ (o : Option FieldNo). is_some o) is.parent) ∙ given)
-      where
-        by : (o : Option (List ℕ)) → g.parent ≡ o → is_some (option_map (number_of models g) o) ≡ true → Any IsTreePath info.fields
-        by None e some = absurd (false≢true some)
-        by (Some parent) e some =
-            let m : Member = own_member g.entry (path_def parent) in
-            let free = path_free (ap (λ (o : Option (List ℕ)). is_some o) e) in
-            let one : path_members g g.parent ≡ m ∷ [] = ap (path_members g) e ∙ ap (λ (b : Bool). cond b [] (m ∷ [])) free in
-            let last : Contains (path_members g g.parent) m = subst (λ (l : List Member). Contains l m) (sym one) (0, omega arith, refl) in
-            let automatic = map (own_member g.entry) automatic_defs in
-            let declared = map (λ (f : Declared). own_member f.entry f.def) g.fields in
-            given_there m (Contains-append_right automatic _ m (Contains-append_right declared (path_members g g.parent) m last)) IsTreePath (λ field own of. record {
-              named = of.name;
-              text = of.field_type;
-              computed = computed_info (record { models = models; number = number; member = m }) g field own.origin refl refl of.origin;
-              kept = of.store;
-            })
+    module _ (parent : List ℕ) (is_parent : g.parent ≡ Some parent) where
+      abbrev pub path_member : Member
+      path_member = own_member g.entry (path_def parent)
+
+      path_given : Contains (given_members g) path_member
+      path_given =
+          let free = path_free (ap (λ (o : Option (List ℕ)). is_some o) is_parent) in
+          let one : path_members g g.parent ≡ path_member ∷ [] = ap (path_members g) is_parent ∙ ap (λ (b : Bool). cond b [] (path_member ∷ [])) free in
+          let last : Contains (path_members g g.parent) path_member = subst (λ (l : List Member). Contains l path_member) (sym one) (0, omega arith, refl) in
+          let automatic = map (own_member g.entry) automatic_defs in
+          let declared = map (λ (f : Declared). own_member f.entry f.def) g.fields in
+          Contains-append_right automatic _ path_member (Contains-append_right declared (path_members g g.parent) path_member last)
+
+      pub path_own : Contains (own_members models g) path_member
+      path_own = Contains-append_left (given_members g) _ path_member path_given
+
+      -- among the named fields
+      pub path_low : (number_of models g path_name).0 ≤ length info.fields
+      path_low =
+          let place = named_place models g path_member (own_among models g path_member path_own) in
+          let count = is.named_count in
+          let low : suc place.0 ≤ length info.fields = omega (arith, place.2) in
+          subst (λ (n : FieldNo). n.0 ≤ length info.fields) (sym place.1) low
+
+      pub path_info : HasFieldInfo models infos number (number_of models g path_name) g path_member
+      path_info =
+          registry.field number (number_of models g path_name) g path_member
+          (by_name (step_at number (number_of models g path_name)) g path_member there (own_among models g path_member path_own) refl)
 
     -- ---- conditions
 

@@ -4,7 +4,7 @@ use Rattle.ob_definition.specs.declared.fault.SchemaFault.{SchemaFault}
 use Rattle.ob_definition.specs.Findings.{Adds, IsFoundBy}
 use Rattle.ob_definition.specs.Gathered.{AreWellNamed, Gathered}
 use Rattle.ob_definition.specs.Making.{AreMadeFaults}
-use Rattle.ob_definition.proofs.Adding.{Adds-both}
+use Rattle.ob_definition.proofs.CallerLemmas.{Adds-both}
 use Rattle.ob_schema.specs.Building.{AreResolved}
 use Rattle.ob_schema.specs.Resolving.{AreFew, AreModelFaults, AreResolvingFaults, IsEntered}
 

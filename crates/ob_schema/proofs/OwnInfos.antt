@@ -25,7 +25,7 @@ use Rattle.ob_schema.specs.Building.{AreResolved}
 use Rattle.ob_schema.specs.Built.{IsOrigin}
 use Rattle.ob_schema.specs.Fields.{has_value_of, is_plain_from}
 use Rattle.ob_schema.specs.Finds.{kind_of_field, kind_of_type, relation_of}
-use Rattle.ob_schema.specs.Models.{FieldHas, IsPlainTo, IsRefTo, kind_of_info}
+use Rattle.ob_schema.specs.Models.{FieldHas, IsPlainTo, IsRefTo, LeadsOn, MayEnd, field_at, is_delegated_from, kind_of_info}
 use Rattle.ob_schema.specs.Paths.{has_value, step_at}
 use Rattle.ob_schema.specs.RegistryOf.{HasFieldInfo, IsRegistryOf}
 use Rattle.ob_schema.specs.Strata.IsMember.{by_name}
@@ -33,6 +33,7 @@ use Rattle.ob_schema.proofs.Defaults.{computed_bare, own_fits}
 use Rattle.ob_schema.proofs.Delegated.{own_among, own_role}
 use Rattle.ob_schema.proofs.LookUps.{contains-mapped}
 use Rattle.ob_schema.proofs.NameOrder.{named_there}
+use Rattle.ob_schema.proofs.OneWrong.{known_both}
 use Rattle.ob_schema.proofs.OwnNames.{own_apart}
 use Rattle.ob_schema.proofs.Resolved.{right_field}
 
@@ -113,17 +114,31 @@ module _ (models : List Gathered) (infos : List ModelInfo) (registry : IsRegistr
         ap (λ (t : FieldType). kind_of_type t own_info.info.relation) of.field_type ∙ ap (kind_of_type s.def.field_type) of.relation ∙ kinded
 
     -- a relation of a model leads to its rows
-    pub own_leads : (target : ModelNo) → is_relation s.def.field_type ≡ true → relation_of models s.def ≡ Some target → FieldHas infos (IsPlainTo target) number (number_of models g s.def.name)
-    own_leads target is leads = has (IsPlainTo target) (plain_to target is leads)
+    pub own_leads : (target : ModelNo) → is_relation s.def.field_type ≡ true → relation_of models s.def ≡ Some target → FieldHas infos (LeadsOn target) number (number_of models g s.def.name)
+    own_leads target is leads = has (LeadsOn target) (plain_to target is leads)
 
     -- a many2one to one of them
     pub own_refers : (target : ModelNo) → is_relation s.def.field_type ≡ true → relation_of models s.def ≡ Some target → kind_of_field models s.def ≡ Some (kind.Ref target)
         → FieldHas infos (IsRefTo target) number (number_of models g s.def.name)
-    own_refers target is leads kinded = has (IsRefTo target) (record { plain_to = plain_to target is leads; one = of_kind (kind.Ref target) kinded })
+    own_refers target is leads kinded = has (IsRefTo target) (record { leads_on = plain_to target is leads; one = of_kind (kind.Ref target) kinded })
 
     -- a field with a value has it, of its kind
     pub own_valued : has_value s.def ≡ true → FieldHas infos (λ info. has_value_of info ≡ true) number (number_of models g s.def.name)
     own_valued valued = has (λ info. has_value_of info ≡ true) (own_info.is.store ∙ valued)
+
+    not_delegated : (field : FieldNo) (from : Origin) → IsOrigin (record { models = models; number = number; member = s }) g field from → is_delegated_from from ≡ false
+    not_delegated field origin.Id of = refl
+    not_delegated field origin.Plain of = refl
+    not_delegated field (origin.Computed formula) of = refl
+    not_delegated field (origin.Delegated at) of = absurd (let both : ◌≡◌ {A = Role} own (delegated of.through) = sym (own_role models g s among) ∙ of.role in cc)
+
+    -- a model's own field isn't delegated
+    pub own_undelegated : FieldHas infos (λ info. is_delegated_from info.origin ≡ false) number (number_of models g s.def.name)
+    own_undelegated = has (λ info. is_delegated_from info.origin ≡ false) (not_delegated own_at own_info.info.origin own_info.is.origin)
+
+    -- so a path may end at one with a value
+    pub own_ends : has_value s.def ≡ true → FieldHas infos MayEnd number (number_of models g s.def.name)
+    own_ends valued = known_both (field_at infos number own_at) (λ info. has_value_of info ≡ true) (λ info. is_delegated_from info.origin ≡ false) MayEnd (λ info there mine. (there, mine)) (own_valued valued) own_undelegated
 
     pub own_kinded : (k : Kind) → kind_of_field models s.def ≡ Some k → has_value s.def ≡ true
         → FieldHas infos (λ info. (kind_of_info info ≡ Some k) × (has_value_of info ≡ true)) number (number_of models g s.def.name)

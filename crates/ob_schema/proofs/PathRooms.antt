@@ -13,9 +13,7 @@ use Rattle.ob_definition.specs.declared.wrong.Wrong.{Wrong}
 use Rattle.ob_definition.specs.declared.wrong.Wrong.TheVariants as wrong
 use Rattle.ob_definition.specs.Findings.{Adds, IsAt, IsFaultAt, Tells}
 use Rattle.ob_definition.specs.Gathered.{Gathered}
-use Rattle.ob_definition.proofs.Adding.{Adds-none}
-use Rattle.ob_definition.proofs.Copies.{next_front}
-use Rattle.ob_definition.proofs.Tellings.{Adds-more, Adds-tells}
+use Rattle.ob_definition.proofs.CallerLemmas.{Adds-more, Adds-none, Adds-tells, next_front}
 use Rattle.ob_schema.specs.declared.info.Path.{Path}
 use Rattle.ob_schema.specs.declared.info.Step.{Step}
 use Rattle.ob_schema.specs.declared.model.Role.{Role as KeptRole}

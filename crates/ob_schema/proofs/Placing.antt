@@ -21,7 +21,7 @@ use Rattle.ob_schema.specs.Modelling.{AreModelled, IsModelled}
 use Rattle.ob_schema.specs.Paths.{step_at}
 use Rattle.ob_schema.specs.Strata.{IsMember}
 use Rattle.ob_schema.specs.Telling.{IsFormulaOf}
-use Rattle.ob_definition.proofs.Copies.{zip_more}
+use Rattle.ob_definition.proofs.CallerLemmas.{zip_more}
 use Rattle.ob_schema.proofs.AllSteps.{step-there}
 use Rattle.ob_schema.proofs.FormulaLoops.{as_many as all_models}
 use Rattle.ob_schema.proofs.ModelPlaces.{zip_some}

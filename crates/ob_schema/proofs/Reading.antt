@@ -4,9 +4,10 @@ use Rattle.std.proofs.Common.{Option, Some, None, Result, Ok, Err, is_some, refl
 use Rattle.std.specs.Prelude.{IsSomeAnd, MatchOption, unwrap_or}
 use Rattle.std.specs.Borrow.{Bor}
 use Rattle.ob_base.specs.Limits.{max_expression_bytes, max_expression_depth}
-use Rattle.ob_syntax.specs.declared.fault.ExprFault.{ExprFault}
-use Rattle.ob_syntax.specs.declared.fault.ExprFault.TheVariants as text_fault
-use Rattle.ob_syntax.specs.Grammar.{IsExpression, IsFirstFault, IsFirstTooDeep, SpellAtMostOneTree, Tree, depth, path, path_names}
+use Rattle.ob_base.specs.declared.expr_fault.ExprFault.{ExprFault}
+use Rattle.ob_base.specs.declared.expr_fault.ExprFault.TheVariants as text_fault
+use Rattle.ob_base.specs.Syntax.{Tree, depth, path, path_names}
+use Rattle.ob_syntax.specs.Grammar.{IsExpression, IsFirstFault, IsFirstTooDeep, SpellAtMostOneTree}
 use Rattle.ob_syntax.specs.Grammar.IsFirstFault.{at_token, at_end}
 use Rattle.ob_syntax.specs.Grammar.IsFirstTooDeep.{too_deep}
 use Rattle.ob_syntax.specs.Lexemes.{Lexeme, lexemes}

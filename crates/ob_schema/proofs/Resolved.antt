@@ -8,7 +8,7 @@ use Rattle.std.proofs.lemmas.List.Elements.{Contains-append_left, Contains-appen
 use Rattle.std.proofs.lemmas.List.Folds.{find_at}
 use Rattle.ob_base.specs.declared.id.FieldNo.{FieldNo}
 use Rattle.ob_base.specs.declared.id.ModelNo.{ModelNo}
-use Rattle.ob_syntax.specs.Grammar.{Tree}
+use Rattle.ob_base.specs.Syntax.{Tree}
 use Rattle.ob_expr.specs.declared.typed.Typed.{Typed}
 use Rattle.ob_expr.specs.TypedTree.{TypedTree, typed_tree_of}
 use Rattle.ob_definition.specs.declared.definition.FieldDef.{FieldDef}

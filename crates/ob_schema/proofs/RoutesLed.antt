@@ -16,7 +16,7 @@ use Rattle.ob_expr.specs.Checking.{AreFound, IsFound, links_of as links_via, rou
 use Rattle.ob_expr.specs.Route.{Route, behind, through}
 use Rattle.ob_expr.specs.TypedTree.{EachPath, EachPathOfAll, IsWellKinded, AreTexts, TypedTree, TypedTrees, no_trees, one_more, row_id, integer, a_text, truth, unset, path, prefix, binary, chosen, choice, joined, digits}
 use Rattle.ob_expr.specs.TypedTree.{over, paths_of, paths_of_all}
-use Rattle.ob_expr.proofs.Outcomes.{then_ok}
+use Rattle.ob_expr.proofs.CallerLemmas.{then_ok}
 use Rattle.ob_definition.specs.declared.definition.FieldDef.{FieldDef}
 use Rattle.ob_definition.specs.declared.field_type.FieldType.{FieldType}
 use Rattle.ob_definition.specs.declared.field_type.FieldType.TheVariants as type
@@ -29,7 +29,7 @@ use Rattle.ob_schema.specs.Finds.{found_as, found_at, found_in, is_usable, kind_
 use Rattle.ob_schema.specs.Models.{AreSteps, IsByRefs, IsRouted}
 use Rattle.ob_schema.specs.Paths.{has_value, steps_of_route}
 use Rattle.ob_schema.specs.RegistryOf.{IsRegistryOf}
-use Rattle.ob_schema.proofs.OwnInfos.{own_kinded, own_leads, own_refers, own_valued}
+use Rattle.ob_schema.proofs.OwnInfos.{own_ends, own_kinded, own_leads, own_refers}
 use Rattle.ob_schema.proofs.LedPaths.{Leads, LeadsByRefs, leads_by, leads_on, led_routed, led_steps, refs_on, refs_routed}
 use Rattle.ob_schema.proofs.NameOrder.{named_found}
 use Rattle.ob_schema.proofs.NamesLed.{located}
@@ -263,5 +263,5 @@ module _ (models : List Gathered) (infos : List ModelInfo) (registry : IsRegistr
 
   pub ends_steps : (number : ModelNo) (route : Route) → EndsRoute number route → AreSteps infos number (steps_of_route number route)
   ends_steps number route end =
-      let has = own_valued models infos registry end.model end.gathered end.there end.source end.among end.valued in
+      let has = own_ends models infos registry end.model end.gathered end.there end.source end.among end.valued in
       led_steps infos number route.links end.model route.field end.leads (rw end.is_number has)

@@ -16,7 +16,7 @@ use Rattle.std.proofs.lemmas.Slice.Eq.{bytes_eq-Decides}
 use Rattle.ob_base.specs.declared.id.FieldNo.{FieldNo}
 use Rattle.ob_definition.specs.Gathered.{AreWellNamed, DeclaredCheck, Gathered, IsWellNamed}
 use Rattle.ob_definition.specs.Members.{Member, check_member, check_members, check_name, count_below, hidden_members, hidden_number, locked_members, members_of, model_at, named, names_of, number_of}
-use Rattle.ob_definition.proofs.Ranks.{is_less}
+use Rattle.ob_definition.proofs.CallerLemmas.{is_less}
 use Rattle.ob_schema.specs.declared.info.Step.{Step}
 use Rattle.ob_schema.specs.Strata.{IsMember}
 use Rattle.ob_schema.proofs.DelegatedFields.{Contains-to_map, named_some}
@@ -177,7 +177,7 @@ module _ (models : List Gathered) (named_well : AreWellNamed models) where
   well : (step : Step) (g : Gathered) → model_at models step.model.0 ≡ Some g → IsWellNamed g
   well step g known = All-contains IsWellNamed models g named_well.each (model_among models step.model.0 g known)
 
-  names_apart : (g : Gathered) → IsWellNamed g → AllPairs (λ a b. a.def.name ≢ b.def.name) (members_of models g)
+  pub names_apart : (g : Gathered) → IsWellNamed g → AllPairs (λ a b. a.def.name ≢ b.def.name) (members_of models g)
   names_apart g own = apart_once (λ (m : Member). m.def.name) (members_of models g) (members_once models named_well.each g own)
 
   same_number : (step : Step) (a b : FieldNo) → a ≡ step.field → b ≡ step.field → a.0 ≡ b.0

@@ -13,8 +13,7 @@ use Rattle.ob_schema.specs.declared.info.Step.{Step}
 use Rattle.ob_schema.specs.Graphs.{IsGraph, IsStepFault, all_steps}
 use Rattle.ob_schema.specs.Strata.{IsMember}
 use Rattle.ob_schema.specs.Telling.{spot_of}
-use Rattle.ob_definition.proofs.Adding.{Adds-none, Adds-same}
-use Rattle.ob_definition.proofs.Tellings.{Adds-more}
+use Rattle.ob_definition.proofs.CallerLemmas.{Adds-more, Adds-none, Adds-same}
 use Rattle.ob_schema.proofs.AllSteps.{member-step}
 use Rattle.ob_schema.proofs.Readings.{from_some, some_and}
 

@@ -6,7 +6,7 @@ use Rattle.std.proofs.lemmas.List.Elements.{All-cons, All-nil}
 use Rattle.ob_base.specs.declared.id.ModelNo.{ModelNo}
 use Rattle.ob_expr.specs.Chain.{and_then}
 use Rattle.ob_expr.specs.Checking.{links_of as links_via}
-use Rattle.ob_expr.proofs.Outcomes.{then_ok}
+use Rattle.ob_expr.proofs.CallerLemmas.{then_ok}
 use Rattle.ob_definition.specs.declared.definition.FieldDef.{FieldDef}
 use Rattle.ob_definition.specs.Definitions.{is_computed}
 use Rattle.ob_definition.specs.Gathered.{Gathered}
@@ -19,7 +19,7 @@ use Rattle.ob_schema.specs.Formulas.{good_paths}
 use Rattle.ob_schema.specs.Models.{AreSteps}
 use Rattle.ob_schema.specs.Paths.{PathFault, no_field, no_step, end_with, go_on, has_value, path_from, step_at, steps_through}
 use Rattle.ob_schema.specs.RegistryOf.{IsRegistryOf}
-use Rattle.ob_schema.proofs.OwnInfos.{own_leads, own_valued}
+use Rattle.ob_schema.proofs.OwnInfos.{own_ends, own_leads}
 use Rattle.ob_schema.proofs.LedPaths.{leads_by, link_steps, steps_before, steps_behind_links}
 use Rattle.ob_schema.proofs.NameOrder.{named_found}
 use Rattle.ob_schema.proofs.NamesLed.{IsLocated, located}
@@ -61,7 +61,7 @@ module _ (models : List Gathered) (infos : List ModelInfo) (registry : IsRegistr
       by true v is =
           let at = located models infos registry number g there m (named_found (members_of models g) name m e).0 in
           let valued : has_value at.source.def ≡ true = ap has_value at.def ∙ v in
-          let has = own_valued models infos registry at.model at.gathered at.there at.source at.among valued in
+          let has = own_ends models infos registry at.model at.gathered at.there at.source at.among valued in
           let last : AreSteps infos at.model (step_at at.model (number_of models at.gathered at.source.def.name) ∷ []) = (refl, has) in
           let here : AreSteps infos at.model (step_at at.model (number_of models at.gathered m.def.name) ∷ []) =
           subst (λ (f : FieldDef). AreSteps infos at.model (step_at at.model (number_of models at.gathered f.name) ∷ [])) at.def last in

@@ -23,18 +23,19 @@ use Rattle.ob_schema.specs.declared.info.Origin.TheVariants as origin
 use Rattle.ob_schema.specs.declared.info.Path.{Path}
 use Rattle.ob_schema.specs.declared.info.Step.{Step}
 use Rattle.ob_schema.specs.Built.{IsFormula, IsOrigin, back_number}
-use Rattle.ob_schema.specs.Models.{AreSteps, DependsOn, FieldHas, HoldsChildren, IsComputedBy, IsFormulaIn, IsPlainTo, IsStratified, LeadsDown, LeadsUp, ReachesItselfBy, field_at, model_at as info_at}
+use Rattle.ob_schema.specs.Models.{AreSteps, DependsOn, FieldHas, HoldsChildren, IsComputedBy, IsFormulaIn, IsPlainTo, IsStratified, LeadsDown, LeadsOn, LeadsUp, ReachesItselfBy, field_at, is_computed_from, model_at as info_at}
 use Rattle.ob_schema.specs.Paths.{step_at}
 use Rattle.ob_schema.specs.RegistryOf.{IsFieldFrom, IsRegistryOf}
 use Rattle.ob_schema.specs.Strata.{IsComputedAt, IsPathOf, IsRecursion, IsStratum, IsToChildren, IsToParent, Reads, ReadsAnother, ReadsItselfBy, parent_of}
 use Rattle.ob_schema.specs.Telling.{spot_of}
 use Rattle.ob_schema.proofs.Circles.{HasChain-shorter}
+use Rattle.ob_schema.proofs.ComputedEnds.{DependsAtEnd, IsComputedStep, depends-ends}
 use Rattle.ob_schema.proofs.Depending.{depends_along}
 use Rattle.ob_schema.proofs.FieldsRight.{has}
 use Rattle.ob_schema.proofs.FormulasIn.{same_step}
 use Rattle.ob_schema.proofs.LookUps.{contains-mapped}
 use Rattle.ob_schema.proofs.NameOrder.{named_found}
-use Rattle.ob_schema.proofs.OneWrong.{known_at, value_of}
+use Rattle.ob_schema.proofs.OneWrong.{known_at, known_by, known_on, value_of}
 use Rattle.ob_schema.proofs.Stable.{stable_true}
 use Rattle.ob_schema.proofs.WithinLimits.{no_circle}
 
@@ -122,7 +123,7 @@ all_down infos number parent (s ∷ t ∷ front) last steps all =
 
     next : t.model ≡ number
     next =
-        let own = value_of (field_at infos s.model s.field) (IsPlainTo t.model) steps.1 in
+        let own = value_of (field_at infos s.model s.field) (LeadsOn t.model) steps.1 in
         let leads = known_at (field_at infos s.model s.field) (HoldsChildren number parent) own.0 own.1 here in
         same_Some t.model number (sym own.2.leads ∙ leads.1)
 
@@ -180,18 +181,20 @@ module _ (models : List Gathered) (infos : List ModelInfo) (registry : IsRegistr
           (subst (λ (l : List (List Step)). Contains l path.steps) is_formula.depends (contains-mapped (λ (p : Path). p.steps) formula.depends path here));
     }
 
-    reads : (other : Step) → DependsOn formula other → IsComputedAt models other → Reads models own other
+    reads : (other : Step) → DependsAtEnd formula other → IsComputedAt models other → Reads models own other
     reads other (k, path, within, is, (front, e)) read = (read, (front, subst (IsPathOf models own) e (path_of path (k, within, is))))
 
   -- another computed field that it reads is of a lower stratum
   lower_read : (number : ModelNo) (field : FieldNo) (info : FieldInfo) (formula : Formula) → field_at infos number field ≡ Some info → info.origin ≡ origin.Computed formula
-      → (other : Step) (theirs : Formula) → DependsOn formula other → step_at number field ≢ other → IsComputedBy infos other theirs → theirs.stratum < formula.stratum
-  lower_read number field info formula at from other theirs depends apart is =
+      → IsFormulaIn infos number info formula → (other : Step) (theirs : Formula) → DependsOn formula other → step_at number field ≢ other → IsComputedBy infos other theirs → theirs.stratum < formula.stratum
+  lower_read number field info formula at from right other theirs depends apart is =
+      let read : IsComputedStep infos other =
+      known_on (field_at infos other.model other.field) (λ f. f.origin ≡ origin.Computed theirs) (λ f. is_computed_from f.origin ≡ true) (λ f there by. ap is_computed_from by) is in
       let there = value_of (field_at infos other.model other.field) (λ f. f.origin ≡ origin.Computed theirs) is in
       below models (step_at number field) other formula.stratum theirs.stratum
       (is_formula number field info formula at from).stratum
       (is_formula other.model other.field there.0 theirs there.1 there.2).stratum
-      (reads number field info formula at from other depends (computed other.model other.field there.0 theirs there.1 there.2), apart)
+      (reads number field info formula at from other (depends-ends infos number info formula other right read depends) (computed other.model other.field there.0 theirs there.1 there.2), apart)
 
   module _ (number : ModelNo) (minfo : ModelInfo) (here : info_at infos number ≡ Some minfo)
       (tree : IfSome minfo.parent (FieldHas infos (HoldsParent number) number))
@@ -225,7 +228,7 @@ module _ (models : List Gathered) (infos : List ModelInfo) (registry : IsRegistr
         formula.depends (All-contains_itself formula.depends)
 
     -- a field that reads itself is a recursion, and says so
-    module _ (depends : DependsOn formula own_step) where
+    module _ (depends : DependsAtEnd formula own_step) where
       reads_self : Reads models own_step own_step
       reads_self = reads number field info formula at from own_step depends (computed number field info formula at from)
 
@@ -324,7 +327,7 @@ module _ (models : List Gathered) (infos : List ModelInfo) (registry : IsRegistr
               ])))
             ]
 
-            by : DependsOn formula own_step → Up ⊎ Down
+            by : DependsAtEnd formula own_step → Up ⊎ Down
             by (k, path, within, same, (front, e)) = first path (k, within, same) front e
 
       along_tree : IsSomeAnd minfo.parent (λ parent. ReachesItselfBy (LeadsUp number parent) own_step formula ⊎ ReachesItselfBy (LeadsDown infos number parent) own_step formula)
@@ -334,9 +337,12 @@ module _ (models : List Gathered) (infos : List ModelInfo) (registry : IsRegistr
           by None e = recursion (λ along. let parent = has_parent along in none-some parent.0 (sym e ∙ parent.1))
           by (Some parent) e = along parent e
 
+    own_computed : IsComputedStep infos own_step
+    own_computed = known_by (field_at infos number field) (λ f. is_computed_from f.origin ≡ true) info at (ap is_computed_from from)
+
     -- a computed field stands above what it reads
     pub stratified : IsStratified infos minfo own_step info formula
     stratified = record {
-      lower = lower_read number field info formula at from;
-      itself = λ depends. (says depends, along_tree depends);
+      lower = lower_read number field info formula at from is;
+      itself = λ depends. (let ends = depends-ends infos number info formula own_step is own_computed depends in (says ends, along_tree ends));
     }

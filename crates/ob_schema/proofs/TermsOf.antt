@@ -5,7 +5,7 @@ use Rattle.ob_base.specs.declared.id.FieldNo.{FieldNo}
 use Rattle.ob_definition.specs.declared.orders.OrderEntry.{OrderEntry}
 use Rattle.ob_definition.specs.Members.{Member}
 use Rattle.ob_definition.specs.Orders.{Term, term_of_entry, terms_of}
-use Rattle.ob_definition.proofs.ListTests.{list_any-map}
+use Rattle.ob_definition.proofs.CallerLemmas.{list_any-map}
 use Rattle.ob_schema.specs.declared.info.OrderTerm.{OrderTerm}
 use Rattle.ob_schema.specs.Building.{AreNumbers}
 use Rattle.ob_schema.specs.Faults.{HasUnknown, is_unknown, names_of_terms}

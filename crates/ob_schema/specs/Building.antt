@@ -3,7 +3,7 @@ use Rattle.std.specs.Prelude.{◌≡◌, ◌≤◌, ◌++◌, ℕ, suc, List, le
 use Rattle.ob_base.specs.Limits.{max_checks, max_models, max_name_bytes}
 use Rattle.ob_base.specs.declared.id.FieldNo.{FieldNo}
 use Rattle.ob_base.specs.declared.id.ModelNo.{ModelNo}
-use Rattle.ob_syntax.specs.Grammar.{Tree}
+use Rattle.ob_base.specs.Syntax.{Tree}
 use Rattle.ob_expr.specs.TypedTree.{TypedTree}
 use Rattle.ob_schema.specs.declared.formulas.DraftFormula.{DraftFormula}
 use Rattle.ob_schema.specs.declared.info.Formula.{Formula}

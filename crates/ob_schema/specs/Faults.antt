@@ -8,10 +8,11 @@ use Rattle.std.specs.declared.cmp.Ordering.TheVariants.{Less}
 use Rattle.ob_base.specs.Limits.{max_expression_bytes, max_fields, max_path_steps}
 use Rattle.ob_base.specs.declared.id.ModelNo.{ModelNo}
 use Rattle.ob_expr.specs.declared.checker.TypeFault.TheVariants as type_fault
-use Rattle.ob_syntax.specs.declared.fault.ExprFault.{ExprFault}
-use Rattle.ob_syntax.specs.declared.fault.ExprFault.TheVariants as text_fault
+use Rattle.ob_base.specs.declared.expr_fault.ExprFault.{ExprFault}
+use Rattle.ob_base.specs.declared.expr_fault.ExprFault.TheVariants as text_fault
 use Rattle.ob_expr.specs.Checking.{typed_of}
-use Rattle.ob_syntax.specs.Grammar.{Tree, IsFirstFault, IsFirstTooDeep, offset_of_tree}
+use Rattle.ob_base.specs.Syntax.{Tree, offset_of_tree}
+use Rattle.ob_syntax.specs.Grammar.{IsFirstFault, IsFirstTooDeep}
 use Rattle.ob_syntax.specs.Lexemes.{lexemes}
 use Rattle.ob_expr.specs.TypedTree.{TypedTree, kind_of}
 use Rattle.ob_definition.specs.declared.definition.FieldDef.{FieldDef}

@@ -1,6 +1,6 @@
 -- Fields of a model: which are kept, and what they may hold.
 use Rattle.std.specs.List.{enumerate_from}
-use Rattle.std.specs.Prelude.{ℕ, ◌&&◌, List, Bool, true, false, not, is_none, filter}
+use Rattle.std.specs.Prelude.{ℕ, ◌&&◌, List, Bool, true, false, not, is_none, filter, Option, IfSome}
 use Rattle.ob_base.specs.declared.value.Value.{Value}
 use Rattle.ob_schema.specs.declared.info.FieldInfo.{FieldInfo}
 use Rattle.ob_schema.specs.declared.info.ModelInfo.{ModelInfo}
@@ -47,6 +47,10 @@ Holds field v = IsValueOf field.field_type field.selection v
 -- a value of the field's type, whatever ids it names and however many
 abbrev pub IsGivable : FieldInfo → Value → Type 0
 IsGivable field v = HasType field.field_type field.selection v
+
+-- a value of the type of a field that is there
+abbrev pub HasFieldType : Option FieldInfo → Value → Type 0
+HasFieldType field v = IfSome field (λ info. IsGivable info v)
 
 -- a field with its number
 abbrev pub Column : Type 0

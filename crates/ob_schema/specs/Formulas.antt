@@ -3,7 +3,8 @@ use Rattle.std.specs.Prelude.{◌≡◌, ◌≤◌, ◌⊎◌, ℕ, List, [], �
 use Rattle.ob_base.specs.Limits.{max_expression_bytes, max_expression_depth}
 use Rattle.ob_base.specs.declared.id.ModelNo.{ModelNo}
 use Rattle.ob_expr.specs.Checking.{typed_of}
-use Rattle.ob_syntax.specs.Grammar.{Tree, IsExpression, depth, path}
+use Rattle.ob_base.specs.Syntax.{Tree, depth, path}
+use Rattle.ob_syntax.specs.Grammar.{IsExpression}
 use Rattle.ob_syntax.specs.Lexemes.{lexemes}
 use Rattle.ob_expr.specs.TypedTree.{TypedTree, kind_of, paths_of}
 use Rattle.ob_definition.specs.declared.definition.FieldDef.{FieldDef}

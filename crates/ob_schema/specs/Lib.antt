@@ -18,6 +18,7 @@ pub mod Tied
 pub mod Checks
 pub mod Broken
 pub mod Links
+pub mod ReadCells
 -- Private: the words by which the rooms of the crate are joined.
 pub mod Telling
 pub mod Graphs

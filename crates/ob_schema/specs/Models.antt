@@ -1,5 +1,5 @@
 -- The registry as contracts see it: a list of models, each with its fields. Model number n stands at n - 1; so does field number n of a model, its conditions behind the named ones.
-use Rattle.std.specs.Prelude.{Bool, ◌≡◌, ◌≢◌, ◌<◌, ◌≤◌, ◌⊎◌, ◌++◌, ℕ, suc, List, [], ◌∷◌, length, All, Any}
+use Rattle.std.specs.Prelude.{Bool, ◌≡◌, ◌≢◌, ◌<◌, ◌≤◌, ◌⊎◌, ◌++◌, ℕ, suc, List, [], ◌∷◌, length, All, Any, Contains}
 use Rattle.std.specs.Prelude.{map, true, false, Option, Some, None, option_map, option_and_then, IsSome, IfSome, IsSomeAnd, position, ⊤, codes, is_some}
 use Rattle.std.specs.Cmp.Lexicographic.{slice_cmp}
 use Rattle.std.specs.List.{AllPairs}
@@ -13,7 +13,8 @@ use Rattle.ob_base.specs.declared.id.ModelNo.{ModelNo}
 use Rattle.ob_expr.specs.declared.kind.Kind.{Kind}
 use Rattle.ob_expr.specs.declared.kind.Kind.TheVariants as kind
 use Rattle.ob_expr.specs.declared.typed.Link.{Link}
-use Rattle.ob_expr.specs.TypedTree.{EachPath, IsWellKinded, kind_of, paths_of, typed_tree_of}
+use Rattle.ob_expr.specs.Route.{Route}
+use Rattle.ob_expr.specs.TypedTree.{EachPath, IsWellKinded, TypedTree, a_text, digits, joined, kind_of, no_trees, one_more, path, paths_of, row_id, typed_tree_of}
 use Rattle.ob_definition.specs.declared.field_type.FieldType.{FieldType}
 use Rattle.ob_definition.specs.declared.field_type.FieldType.TheVariants as type
 use Rattle.ob_definition.specs.declared.field_type.OnDelete.TheVariants as ondelete
@@ -31,7 +32,7 @@ use Rattle.ob_schema.specs.Finds.{kind_of_type}
 use Rattle.ob_definition.specs.Definitions.{is_one_of}
 use Rattle.ob_definition.specs.Members.{automatic_defs, check_name, path_name}
 use Rattle.ob_definition.specs.Keys.{is_many2many, is_many2one, is_selection}
-use Rattle.ob_schema.specs.Paths.{BeginsWith, EndsIn, step_at, steps_of_route}
+use Rattle.ob_schema.specs.Paths.{BeginsWith, step_at, steps_of_route}
 use Rattle.ob_definition.specs.Types.{is_list, is_relation, is_one2many}
 
 -- the model of a number
@@ -108,9 +109,17 @@ pub record IsPlainTo (model : ModelNo) (field : FieldInfo) : Type 0 where
   pub plain : is_plain_from field.origin ≡ true
   pub leads : field.relation ≡ Some model
 
--- a plain many2one to a model: its values are references to one row
+-- a step through which a path may go on, to rows of this model: a plain relation to it
+abbrev pub LeadsOn : ModelNo → FieldInfo → Type 0
+LeadsOn model field = IsPlainTo model field
+
+-- a step at which a path may end: it has a value, and isn't delegated, since a delegated field stands for the path on to its parent's
+abbrev pub MayEnd : FieldInfo → Type 0
+MayEnd field = (has_value_of field ≡ true) × (is_delegated_from field.origin ≡ false)
+
+-- one through which a path goes on to one row: its values are references
 pub record IsRefTo (model : ModelNo) (field : FieldInfo) : Type 0 where
-  pub plain_to : IsPlainTo model field
+  pub leads_on : LeadsOn model field
   pub one : kind_of_info field ≡ Some (kind.Ref model)
 
 -- the field of a model has a property
@@ -120,25 +129,25 @@ FieldHas models P model field = IsSomeAnd (field_at models model field) P
 -- a path of an expression: each link leads to rows of its target, and the field at the end has the path's kind and a value
 abbrev pub IsRouted : List ModelInfo → ModelNo → List Link → FieldNo → Kind → Type 0
 IsRouted models model [] field k = FieldHas models (λ info. (kind_of_info info ≡ Some k) × (has_value_of info ≡ true)) model field
-IsRouted models model (link ∷ links) field k = FieldHas models (IsPlainTo link.target) model link.field × IsRouted models link.target links field k
+IsRouted models model (link ∷ links) field k = FieldHas models (LeadsOn link.target) model link.field × IsRouted models link.target links field k
 
 -- the field at the end of a path isn't delegated: a delegated one stands for the path on to its parent's
 abbrev pub EndsOwn : List ModelInfo → ModelNo → List Link → FieldNo → Type 0
 EndsOwn models model [] field = FieldHas models (λ info. is_delegated_from info.origin ≡ false) model field
 EndsOwn models model (link ∷ links) field = EndsOwn models link.target links field
 
--- a path that goes on by references alone: each link is a plain many2one to its target, and the field at the end has the path's kind and a value
+-- a path that goes on by references alone: each link leads on to one row of its target, and the field at the end has the path's kind and a value
 abbrev pub IsByRefs : List ModelInfo → ModelNo → List Link → FieldNo → Kind → Type 0
 IsByRefs models model [] field k = FieldHas models (λ info. (kind_of_info info ≡ Some k) × (has_value_of info ≡ true)) model field
 IsByRefs models model (link ∷ links) field k = FieldHas models (IsRefTo link.target) model link.field × IsByRefs models link.target links field k
 
--- the steps of a path: each but the last through a plain relation, the last to a field that has a value
+-- the steps of a path: each but the last leads on to the rows of the next one's model, and at the last it may end
 abbrev pub AreSteps : List ModelInfo → ModelNo → List Step → Type 0
 AreSteps models model [] = ⊥
-AreSteps models model (step ∷ []) = (step.model ≡ model) × FieldHas models (λ info. has_value_of info ≡ true) step.model step.field
-AreSteps models model (step ∷ next ∷ steps) = (step.model ≡ model) × FieldHas models (IsPlainTo next.model) step.model step.field × AreSteps models next.model (next ∷ steps)
+AreSteps models model (step ∷ []) = (step.model ≡ model) × FieldHas models MayEnd step.model step.field
+AreSteps models model (step ∷ next ∷ steps) = (step.model ≡ model) × FieldHas models (LeadsOn next.model) step.model step.field × AreSteps models next.model (next ∷ steps)
 
--- a formula of a model: its paths are typed, each by many2ones alone from where it stands, none ends in a delegated field, and what it depends on is few steps long and covers them
+-- a formula of a model: its paths are typed, each by many2ones alone from where it stands, none ends in a delegated field, and those on which it depends are few steps long and cover them
 -- its values are of the field's kind; the field is no relation and no selection, isn't required and has no default
 pub record IsFormulaIn (models : List ModelInfo) (model : ModelNo) (field : FieldInfo) (formula : Formula) : Type 0 where
   pub kinded : IsWellKinded (typed_tree_of formula.typed)
@@ -216,9 +225,9 @@ Orders field = (is_list field.field_type ≡ false) × (has_value_of field ≡ t
 abbrev pub IsComputedBy : List ModelInfo → Step → Formula → Type 0
 IsComputedBy models at formula = FieldHas models (λ field. field.origin ≡ origin.Computed formula) at.model at.field
 
--- one of the paths on which a formula's value depends ends in the field
+-- one of the paths on which a formula's value depends has the field for a step
 abbrev pub DependsOn : Formula → Step → Type 0
-DependsOn formula at = Any (λ path. EndsIn path.steps at) formula.depends
+DependsOn formula at = Any (λ path. Contains path.steps at) formula.depends
 
 -- each of them that ends in the formula's own field leads there through such steps alone, and through one at least
 abbrev pub ReachesItselfBy : (Step → Type 0) → Step → Formula → Type 0
@@ -249,12 +258,23 @@ pub record IsCondition (field : FieldInfo) : Type 0 where
   pub computed : is_computed_from field.origin ≡ true
   pub unkept : field.store ≡ false
 
+-- the expression of a row's path, by the parent field and the path's own: `cat(P.parent_path, text(id), "/")`
+abbrev pub path_tree : ModelNo → FieldNo → FieldNo → TypedTree
+path_tree model parent own =
+    let parents : Route = record { links = record { field = parent; target = model } ∷ []; field = own; kind = kind.Word } in
+    joined (one_more (path parents) (one_more (digits row_id) (one_more (a_text (codes "/")) no_trees)))
+
 -- the path of a row in its tree: a computed text that is kept
-pub record IsTreePath (field : FieldInfo) : Type 0 where
+pub record IsTreePath (model : ModelNo) (parent own : FieldNo) (field : FieldInfo) : Type 0 where
   pub named : field.name ≡ path_name
   pub text : field.field_type ≡ type.Char
   pub computed : is_computed_from field.origin ≡ true
   pub kept : field.store ≡ true
+  pub means : (formula : Formula) → field.origin ≡ origin.Computed formula → typed_tree_of formula.typed ≡ path_tree model parent own
+
+-- one of the named fields is the path of the rows of a tree with this parent field
+abbrev pub HasTreePath : List ModelInfo → ModelNo → ModelInfo → FieldNo → Type 0
+HasTreePath models model info parent = (own : FieldNo) × (own.0 ≤ length info.fields) × FieldHas models (IsTreePath model parent own) model own
 
 -- a model's name is its own; its fields are named in byte order, each name once, within the limits; what names fields in its keys names fitting ones; formulas have their strata
 pub record IsModel (models : List ModelInfo) (model : ModelNo) (info : ModelInfo) : Type 0 where
@@ -271,7 +291,7 @@ pub record IsModel (models : List ModelInfo) (model : ModelNo) (info : ModelInfo
   pub conditions : All IsCondition info.hidden
   pub conditions_apart : AllPairs (λ a b. a.name ≢ b.name) info.hidden
   pub parent : IfSome info.parent (FieldHas models (λ field. IsPlainTo model field × (field.field_type ≡ type.Many2one)) model)
-  pub tree : IsSome info.parent → Any IsTreePath info.fields
+  pub tree : IfSome info.parent (HasTreePath models model info)
   pub parents : All (IsParentIn models model) info.inherits
   pub links_apart : AllPairs (λ a b. a.link ≢ b.link) info.inherits
   pub unique : All (All (FieldHas models (λ field. is_plain_kept field ≡ true) model)) info.unique

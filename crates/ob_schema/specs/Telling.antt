@@ -5,7 +5,7 @@ use Rattle.std.specs.List.{AllZip}
 use Rattle.std.specs.Option.{option_map_or}
 use Rattle.std.specs.declared.alloc.Global.{Global}
 use Rattle.ob_base.specs.declared.id.ModelNo.{ModelNo}
-use Rattle.ob_syntax.specs.Grammar.{Tree}
+use Rattle.ob_base.specs.Syntax.{Tree}
 use Rattle.ob_expr.specs.declared.typed.Typed.{Typed}
 use Rattle.ob_expr.specs.TypedTree.{TypedTree, typed_tree_of}
 use Rattle.ob_definition.specs.declared.definition.FieldDef.{FieldDef}

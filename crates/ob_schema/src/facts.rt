@@ -3,15 +3,15 @@
 //! rules come to ask is added here.
 
 ghost use Rattle.std.specs.Prelude.{◌≡◌, List, true, IfErr, IfOk};
-ghost use Rattle.ob_schema.specs.Facts.{OfAllTold, Told};
-ghost use Rattle.ob_schema.specs.Models.{HasField, HasModel};
+ghost use Rattle.ob_schema.specs.Facts.{Asked, FailedBehind, OfAllTold, Told};
+ghost use Rattle.ob_schema.specs.Fields.{HasFieldType};
+ghost use Rattle.ob_schema.specs.Models.{HasField, HasModel, field_at};
 ghost use Rattle.ob_schema.specs.declared.info.ModelInfo.{ModelInfo};
 
 use ob_base::{Cell, ModelNo, RecId, Value};
 
-/// Which rows are known, and what their cells hold. Asking changes neither. A cell is to hold a
-/// value of its field's type, that of `id` the row's own: no clause says so yet, and whoever
-/// asks gives every value a meaning.
+/// Which rows are known, and what their cells hold. Asking changes neither. Whatever is told, a
+/// cell holds a value of its field's type.
 pub trait Facts {
     type Fault;
 
@@ -43,9 +43,19 @@ pub trait Facts {
         requires field { HasField (registry self.old) cell.model cell.field }
         requires row { OfAllTold (tells self.old) (λ told. told.knows cell.model cell.id ≡ true) }
         ensures value { IfOk result (λ value. OfAllTold (tells self.old) (λ told. value ≡ told.held cell)) }
+        ensures typed { IfOk result (HasFieldType (field_at (registry self.old) cell.model cell.field)) }
         ensures failed { IfErr result (has_failed self.old self.new) }
         ensures asked { asks self.old self.new }
         ensures same { registry self.new ≡ registry self.old }
         ensures kept { OfAllTold (tells self.old) (tells self.new) }
         ensures only { OfAllTold (tells self.new) (tells self.old) };
 }
+
+/// Questions of questions are questions: so facts that are made over others may be asked as
+/// those may.
+pub fn questions_of_questions<F: Facts>()
+    ensures asked { (first now : F) → Asked (Asked F.asks) first now → Asked F.asks first now }
+    ensures failed { (first now : F) (why : F.Fault)
+        → FailedBehind (Asked F.asks) (FailedBehind F.asks F.has_failed) first now why
+        → FailedBehind F.asks F.has_failed first now why }
+{}

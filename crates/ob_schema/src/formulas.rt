@@ -3,7 +3,7 @@
 
 ghost use Rattle.std.specs.Prelude.{◌≡◌, ◌↔◌, ◌<◌, [], Any, IfOk, IsSome, IsTrue, MatchResult, Some, length, map, option_map, true, unwrap_or};
 ghost use Rattle.ob_base.specs.Limits.{max_path_steps};
-ghost use Rattle.ob_syntax.specs.Grammar.{tree_of};
+ghost use Rattle.ob_base.specs.Syntax.{tree_of};
 ghost use Rattle.ob_expr.specs.TypedTree.{kind_of, typed_tree_of};
 ghost use Rattle.ob_definition.specs.Findings.{Adds, IsFaultAt};
 ghost use Rattle.ob_schema.specs.Building.{formula_from};
@@ -19,10 +19,10 @@ use crate::model::{Member, Role};
 use crate::models::Models;
 use crate::paths::{path_of, steps_along};
 use ob_base::limits::{MAX_EXPRESSION_BYTES, MAX_PATH_STEPS};
-use ob_base::{ModelNo, NoMemory, Sequence, Word};
+use ob_base::{Expr, ExprFault, ModelNo, NoMemory, Sequence, Word};
 use ob_definition::{FieldDef, First, Wrong};
 use ob_expr::{TypeFault, Typed, check};
-use ob_syntax::{Expr, ExprFault, one_tree, parse};
+use ob_syntax::{one_tree, parse};
 use std::alloc::Global;
 
 /// What is known of a computed field's formula: the paths on which the field depends, and its

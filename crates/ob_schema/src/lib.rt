@@ -26,7 +26,7 @@ mod paths;
 mod schema;
 mod strata;
 
-pub use facts::Facts;
+pub use facts::{Facts, questions_of_questions};
 pub use info::{
     Delegation, FieldInfo, Formula, ModelInfo, OrderTerm, Origin, ParentInfo, Path, Step,
 };
@@ -34,4 +34,4 @@ pub use links::{Links, Side};
 pub use ob_definition::{
     Check, Choice, FieldDef, FieldType, Inherits, ModelDef, OnDelete, SchemaFault, Spot,
 };
-pub use schema::Schema;
+pub use schema::{Schema, meaning_by_declared_paths};

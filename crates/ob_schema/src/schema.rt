@@ -1,11 +1,15 @@
 //! The registry of models, and its look-ups. Contracts see the list of its models; the
 //! index by name may be changed here at will.
 
-ghost use Rattle.std.specs.Prelude.{◌≡◌, ◌≤◌, All, IfOk, IfSome, option_map, Some, length, map};
+ghost use Rattle.std.specs.Prelude.{◌≡◌, ◌≤◌, List, All, IfOk, IfSome, option_map, Some, length, map};
 ghost use Rattle.ob_base.specs.Limits.{max_fields, max_models, max_name_bytes};
 ghost use Rattle.ob_schema.specs.Built.{numbered};
-ghost use Rattle.ob_schema.specs.Models.{AreInOrder, HasField, HasModel, IsModel, IsRegistry, field_at, field_named, model_at, model_named, stratum_of};
+ghost use Rattle.ob_schema.specs.Models.{AreInOrder, HasField, HasModel, IsComputedBy, IsModel, IsRegistry, field_at, field_named, model_at, model_named, stratum_of};
 ghost use Rattle.ob_schema.specs.NameIndex.{IsIndexOf};
+ghost use Rattle.ob_schema.specs.ReadCells.{MeansByReadCells};
+ghost use Rattle.ob_schema.specs.declared.info.Formula.{Formula};
+ghost use Rattle.ob_schema.specs.declared.info.ModelInfo.{ModelInfo};
+ghost use Rattle.ob_schema.specs.declared.info.Step.{Step};
 
 use crate::info::{FieldInfo, ModelInfo, Origin};
 use ob_base::{FieldNo, ModelNo, NoMemory, Sequence};
@@ -143,6 +147,13 @@ impl Schema {
         }
     }
 }
+
+/// What a formula of a registry means in a row depends on the cells along its declared paths
+/// alone.
+pub fn meaning_by_declared_paths()
+    ensures { (models : List ModelInfo) → IsRegistry models → (at : Step) (formula : Formula)
+        → IsComputedBy models at formula → MeansByReadCells at.model formula }
+{}
 
 /// What has this number, counted from 1.
 fn numbered<T>(items: &[T], number: u16) -> Option<&T>

@@ -2,8 +2,8 @@
 use Rattle.std.proofs.Common.{◌≡◌, ℕ, ◌+◌, max, ◌<◌, ◌≤◌, true, false, nat_le, List, [], ◌∷◌, Some, Ok, Err, refl, arith}
 use Rattle.std.proofs.lemmas.Bool.{le-leb, lt-leb}
 use Rattle.ob_base.specs.Limits.{max_expression_depth}
-use Rattle.ob_syntax.specs.declared.fault.ExprFault.TheVariants.{TooDeep}
-use Rattle.ob_syntax.specs.Grammar.{Tree, depth}
+use Rattle.ob_base.specs.declared.expr_fault.ExprFault.TheVariants.{TooDeep}
+use Rattle.ob_base.specs.Syntax.{Tree, depth}
 use Rattle.ob_syntax.specs.Parsing.{Pending, before, behind, group, calling, State, at_hand, least, need, nodes_of, nodes_in, part_in, deepest_of, closed, closes_at, made, made_first, within}
 use Rattle.ob_syntax.proofs.Spelling.{least-mono}
 

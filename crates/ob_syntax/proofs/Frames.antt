@@ -6,7 +6,7 @@ use Rattle.ob_syntax.specs.declared.frame.Calling.{Calling}
 use Rattle.ob_syntax.specs.declared.frame.Frame.{Frame}
 use Rattle.ob_syntax.specs.declared.frame.Frame.TheVariants.{Call}
 use Rattle.ob_syntax.specs.declared.frame.Operand.{Operand}
-use Rattle.ob_syntax.specs.Grammar.{given_before, call as a_call, argument, no_arguments, depth, tree_of}
+use Rattle.ob_base.specs.Syntax.{given_before, call as a_call, argument, no_arguments, depth, tree_of}
 use Rattle.ob_syntax.specs.Parsing.{Read, had, calling, at_hand, call_of, deepest_of, ended_in, least, need, nodes_of, nodes_in, part_in, within}
 use Rattle.ob_syntax.specs.Waits.{all_pending, call_pending, pending, read_of}
 use Rattle.ob_syntax.proofs.Spelling.{least-mono, deepest_of-more, depth-given_before, given_before-more}

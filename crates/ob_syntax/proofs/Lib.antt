@@ -2,6 +2,6 @@ pub mod Depths
 pub mod Faults
 pub mod Frames
 pub mod Parsed
-pub mod Rows
 pub mod Spelling
 pub mod Tokens
+pub mod CallerLemmas

@@ -3,12 +3,13 @@ use Rattle.std.proofs.Common.{◌≡◌, ◌≢◌, ℕ, max, ◌<◌, ◌≤◌
 use Rattle.std.proofs.Common.{List, [], ◌∷◌, ◌++◌, append_assoc, append-nil, Option, Some, None, Result, Ok, Err, IfOk, MatchResult}
 use Rattle.std.proofs.lemmas.Bool.{le-leb, lt-leb, cases_lt}
 use Rattle.ob_base.specs.Limits.{max_expression_depth}
-use Rattle.ob_syntax.specs.declared.fault.ExprFault.{ExprFault}
-use Rattle.ob_syntax.specs.declared.fault.ExprFault.TheVariants.{At, TooDeep, NoMemory}
-use Rattle.ob_syntax.specs.declared.syntax.Expr.{Expr}
+use Rattle.ob_base.specs.declared.expr_fault.ExprFault.{ExprFault}
+use Rattle.ob_base.specs.declared.expr_fault.ExprFault.TheVariants.{At, TooDeep, NoMemory}
+use Rattle.ob_base.specs.declared.syntax.Expr.{Expr}
 use Rattle.ob_syntax.specs.declared.sign.Sign.TheVariants as sign
 use Rattle.ob_syntax.specs.Lexemes.{Lexeme, sign as a_sign, offset_of}
-use Rattle.ob_syntax.specs.Grammar.{Tree, path, depth, tree_of, Spells, first_offset, a_path, CanGoOn, CanStayShallow, IsFirstFault, at_token, at_end, IsFirstTooDeep, too_deep}
+use Rattle.ob_base.specs.Syntax.{Tree, path, depth, tree_of}
+use Rattle.ob_syntax.specs.Grammar.{Spells, first_offset, a_path, CanGoOn, CanStayShallow, IsFirstFault, at_token, at_end, IsFirstTooDeep, too_deep}
 use Rattle.ob_syntax.specs.Parsing.{Pending, Read, at_hand, State, wanted, named, dotted, had, least, need, closed, moved, within, stepped, run, closing, whole, finished_by, finished, parsed}
 use Rattle.ob_syntax.specs.Waits.{Tells}
 use Rattle.ob_syntax.proofs.Spelling.{run-err, run-append, run-step, leads, least-closed}

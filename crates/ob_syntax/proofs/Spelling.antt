@@ -2,14 +2,15 @@
 use Rattle.std.proofs.Common.{◌≡◌, ℕ, suc, ◌+◌, max, ◌<◌, ◌≤◌, true, false, nat_le, refl, sym, ap, ◌∙◌, inl, inr, arith}
 use Rattle.std.proofs.Common.{List, [], ◌∷◌, ◌++◌, append_assoc, Some, Result, Ok, Err}
 use Rattle.std.proofs.lemmas.Bool.{le-leb, lt-leb, cases_lt}
-use Rattle.ob_syntax.specs.declared.fault.ExprFault.{ExprFault}
-use Rattle.ob_syntax.specs.declared.sign.Operator.{Operator}
-use Rattle.ob_syntax.specs.declared.sign.Operator.TheVariants.{Or}
+use Rattle.ob_base.specs.declared.expr_fault.ExprFault.{ExprFault}
+use Rattle.ob_base.specs.declared.syntax.Operator.{Operator}
+use Rattle.ob_base.specs.declared.syntax.Operator.TheVariants.{Or}
 use Rattle.ob_syntax.specs.declared.sign.Sign.TheVariants as sign
-use Rattle.ob_syntax.specs.declared.syntax.Prefix.{Prefix}
-use Rattle.ob_syntax.specs.declared.syntax.Prefix.TheVariants.{Not, Minus}
+use Rattle.ob_base.specs.declared.syntax.Prefix.{Prefix}
+use Rattle.ob_base.specs.declared.syntax.Prefix.TheVariants.{Not, Minus}
 use Rattle.ob_syntax.specs.Lexemes.{Lexeme, name, number, text, sign as a_sign, offset_of}
-use Rattle.ob_syntax.specs.Grammar.{given_before, Tree, Arguments, integer, a_text, truth, unset, path, prefix, binary, call, no_arguments, argument, depth, depth_of_arguments, level_of, level_of_prefix, left_level, atom_level}
+use Rattle.ob_base.specs.Syntax.{given_before, Tree, Arguments, integer, a_text, truth, unset, path, prefix, binary, call, no_arguments, argument, depth, depth_of_arguments}
+use Rattle.ob_syntax.specs.Grammar.{level_of, level_of_prefix, left_level, atom_level}
 use Rattle.ob_syntax.specs.Grammar.{sign_of_prefix, first_offset, SpellPath, one_name, more_names, Spells, tighter, an_integer, some_text, a_truth, an_unset, a_path, prefixed as spell_prefixed, joined, in_parentheses, a_call}
 use Rattle.ob_syntax.specs.Grammar.{SpellArguments, one_argument, more_arguments, SpellAtMostOneTree}
 use Rattle.ob_syntax.specs.Parsing.{Pending, before, behind, group, calling, Read, at_hand, State, wanted, named, dotted, had, call_of, deepest_of, takes, least, need, closed}

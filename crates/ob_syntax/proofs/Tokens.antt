@@ -11,7 +11,8 @@ use Rattle.std.specs.Int.{IsInRange}
 use Rattle.std.specs.List.{prefix_len, slice_range, take_while}
 use Rattle.std.specs.Str.{IsCharBoundary, IsUtf8}
 use Rattle.std.specs.Str.Parse.{digits_value}
-use Rattle.ob_syntax.specs.Lexemes.{Cut, Lexeme, other, front_cut, is_separator, is_letter, is_digit, is_quote, is_name_byte, lexemes_from, number_lexeme, symbol_cut, text_cut, word_lexeme}
+use Rattle.ob_base.specs.NameBytes.{is_letter, is_digit, is_name_byte}
+use Rattle.ob_syntax.specs.Lexemes.{Cut, Lexeme, other, front_cut, is_separator, is_quote, lexemes_from, number_lexeme, symbol_cut, text_cut, word_lexeme}
 
 -- what the token before took is skipped
 pub lexemes_from-taken : (at : ℕ) (bytes : List ℕ) (taken : ℕ) → lexemes_from taken at bytes ≡ lexemes_from 0 (at + taken) (drop taken bytes)

@@ -1,6 +1,7 @@
 -- A text as tokens, each as long as can be. A kind of token that is added to the language has its constructor and its bytes here.
 use Rattle.std.specs.Prelude.{ℕ, zero, suc, ◌+◌, ◌-◌, ◌^◌, ◌==◌, ◌&&◌, ◌||◌, nat_le, nat_lt, not, ℤ, pos, List, [], ◌∷◌, length, drop, take_while, Bool, false, Option, Some, None, if◌then◌else◌}
 use Rattle.std.specs.Str.Parse.{digits_value}
+use Rattle.ob_base.specs.NameBytes.{is_letter, is_digit, is_name_byte}
 use Rattle.ob_syntax.specs.declared.lexeme.Token.{Token}
 use Rattle.ob_syntax.specs.declared.lexeme.Token.TheVariants as token
 use Rattle.ob_syntax.specs.declared.sign.Sign.{Sign}
@@ -33,18 +34,6 @@ offset_of (other at) = at
 unfoldable pub is_separator : ℕ → Bool
 is_separator b = (b == 32) || (b == 9) || (b == 10)
 
--- a small letter
-abbrev pub is_letter : ℕ → Bool
-is_letter b = nat_le 97 b && nat_le b 122
-
--- a decimal digit
-abbrev pub is_digit : ℕ → Bool
-is_digit b = nat_le 48 b && nat_le b 57
-
--- a small letter, a digit or an underscore
-unfoldable pub is_name_byte : ℕ → Bool
-is_name_byte b = is_letter b || is_digit b || (b == 95)
-
 -- what opens a text, and closes it
 abbrev pub is_quote : ℕ → Bool
 is_quote b = (b == 34) || (b == 39)
@@ -52,10 +41,6 @@ is_quote b = (b == 34) || (b == 39)
 -- what may stand in a text: neither its quote nor a line feed
 abbrev pub is_text_byte : ℕ → ℕ → Bool
 is_text_byte quote b = not ((b == quote) || (b == 10))
-
-abbrev pub begins_with_letter : List ℕ → Bool
-begins_with_letter [] = false
-begins_with_letter (b ∷ bytes) = is_letter b
 
 -- the bytes begin with this one
 abbrev pub begins_with : ℕ → List ℕ → Bool

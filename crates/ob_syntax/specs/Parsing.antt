@@ -1,14 +1,15 @@
 -- Reading a tree from tokens, one step a token: words between the parser and the grammar, for this crate alone. A form of the language that is added has its frame and its step here.
 use Rattle.std.specs.Prelude.{ℕ, suc, ◌+◌, max, nat_le, List, [], ◌∷◌, ◌++◌, Bool, false, Option, Some, None, Result, Ok, Err, if◌then◌else◌}
-use Rattle.ob_syntax.specs.declared.fault.ExprFault.{ExprFault}
-use Rattle.ob_syntax.specs.declared.fault.ExprFault.TheVariants.{At, TooDeep}
-use Rattle.ob_syntax.specs.declared.sign.Operator.{Operator}
-use Rattle.ob_syntax.specs.declared.sign.Operator.TheVariants.{Subtract}
+use Rattle.ob_base.specs.declared.expr_fault.ExprFault.{ExprFault}
+use Rattle.ob_base.specs.declared.expr_fault.ExprFault.TheVariants.{At, TooDeep}
+use Rattle.ob_base.specs.declared.syntax.Operator.{Operator}
+use Rattle.ob_base.specs.declared.syntax.Operator.TheVariants.{Subtract}
 use Rattle.ob_syntax.specs.declared.sign.Sign.TheVariants as sign
-use Rattle.ob_syntax.specs.declared.syntax.Prefix.{Prefix}
-use Rattle.ob_syntax.specs.declared.syntax.Prefix.TheVariants.{Not, Minus}
+use Rattle.ob_base.specs.declared.syntax.Prefix.{Prefix}
+use Rattle.ob_base.specs.declared.syntax.Prefix.TheVariants.{Not, Minus}
 use Rattle.ob_syntax.specs.Lexemes.{Lexeme, name, number, text, sign as a_sign, offset_of}
-use Rattle.ob_syntax.specs.Grammar.{given_before, Tree, integer, a_text, truth, unset, path, prefix, binary, call, no_arguments, argument, depth, level_of, level_of_prefix, left_level}
+use Rattle.ob_base.specs.Syntax.{given_before, Tree, integer, a_text, truth, unset, path, prefix, binary, call, no_arguments, argument, depth}
+use Rattle.ob_syntax.specs.Grammar.{level_of, level_of_prefix, left_level}
 
 -- what waits for an operand: a prefix, an operator behind its left operand with the offset where that begins, a parenthesis, or a function with its arguments so far
 pub data Pending : Type 0 where

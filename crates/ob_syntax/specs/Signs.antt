@@ -1,7 +1,7 @@
 -- The bytes of the reserved words and the symbols. One that is added to the language has its bytes here.
 use Rattle.std.specs.Prelude.{ℕ, ◌==◌, ◌&&◌, List, codes, true, false, Option, Some, None, if◌then◌else◌}
 use Rattle.std.specs.Str.{bytes_eq}
-use Rattle.ob_syntax.specs.declared.sign.Operator.TheVariants.{Or, And, Equal, NotEqual, Less, LessOrEqual, Greater, GreaterOrEqual, Add, Subtract, Multiply, Divide, Modulo}
+use Rattle.ob_base.specs.declared.syntax.Operator.TheVariants.{Or, And, Equal, NotEqual, Less, LessOrEqual, Greater, GreaterOrEqual, Add, Subtract, Multiply, Divide, Modulo}
 use Rattle.ob_syntax.specs.declared.sign.Sign.{Sign}
 use Rattle.ob_syntax.specs.declared.sign.Sign.TheVariants.{Operator, Not, Truth, Unset, Dot, Comma, Open, Close}
 

@@ -1,14 +1,14 @@
 -- What the parser's types stand for among the words of its steps: for this crate alone.
 use Rattle.std.specs.Prelude.{◌≡◌, ◌≢◌, List, map, Result, Ok, Err, MatchResult}
-use Rattle.ob_syntax.specs.declared.fault.ExprFault.{ExprFault}
-use Rattle.ob_syntax.specs.declared.fault.ExprFault.TheVariants.{NoMemory}
+use Rattle.ob_base.specs.declared.expr_fault.ExprFault.{ExprFault}
+use Rattle.ob_base.specs.declared.expr_fault.ExprFault.TheVariants.{NoMemory}
 use Rattle.ob_syntax.specs.declared.frame.Frame.{Frame}
 use Rattle.ob_syntax.specs.declared.frame.Frame.TheVariants as frame
 use Rattle.ob_syntax.specs.declared.frame.Calling.{Calling}
 use Rattle.ob_syntax.specs.declared.frame.Operand.{Operand}
 use Rattle.ob_syntax.specs.declared.parser.State.{State as the_state}
 use Rattle.ob_syntax.specs.declared.parser.State.TheVariants as state
-use Rattle.ob_syntax.specs.Grammar.{tree_of}
+use Rattle.ob_base.specs.Syntax.{tree_of}
 use Rattle.ob_syntax.specs.Parsing.{Pending, before, behind, group, calling, Read, at_hand, State, wanted, named, dotted, had}
 
 abbrev pub call_pending : Calling → Pending

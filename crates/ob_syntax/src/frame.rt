@@ -2,54 +2,45 @@
 //! operand, a parenthesis, or a call.
 
 ghost use Rattle.std.specs.Prelude.{◌≡◌, map};
-ghost use Rattle.ob_syntax.specs.Grammar.{tree_of, depth};
+ghost use Rattle.ob_base.specs.Syntax.{tree_of, depth};
+ghost use Rattle.ob_syntax.specs.Grammar.{left_level, level_of, level_of_prefix};
 ghost use Rattle.ob_syntax.specs.Parsing.{deepest_of};
 
-use crate::sign::Operator;
-use crate::syntax::{Expr, Prefix};
-use ob_base::Word;
+use ob_base::{Expr, Operator, Prefix, Word};
 
-impl Operator {
-    ghost use Rattle.ob_syntax.specs.Grammar.{level_of, left_level};
-
-    /// How tightly it binds.
-    pub fn level(self) -> usize
-        ensures { result ≡ level_of self }
-    {
-        match self {
-            Operator::Or => 0,
-            Operator::And => 1,
-            Operator::Add | Operator::Subtract => 4,
-            Operator::Multiply | Operator::Divide | Operator::Modulo => 5,
-            _ => 3,
-        }
-    }
-
-    /// How tightly its left operand binds at least: chains nest to the left, and comparisons
-    /// do not chain.
-    pub fn left_level(self) -> usize
-        ensures { result ≡ left_level self }
-    {
-        match self {
-            Operator::Or => 0,
-            Operator::And => 1,
-            Operator::Multiply | Operator::Divide | Operator::Modulo => 5,
-            _ => 4,
-        }
+/// How tightly an operator binds.
+pub fn operator_level(operator: Operator) -> usize
+    ensures { result ≡ level_of operator }
+{
+    match operator {
+        Operator::Or => 0,
+        Operator::And => 1,
+        Operator::Add | Operator::Subtract => 4,
+        Operator::Multiply | Operator::Divide | Operator::Modulo => 5,
+        _ => 3,
     }
 }
 
-impl Prefix {
-    ghost use Rattle.ob_syntax.specs.Grammar.{level_of_prefix};
+/// How tightly an operator's left operand binds at least: chains nest to the left, and
+/// comparisons do not chain.
+pub fn left_operand_level(operator: Operator) -> usize
+    ensures { result ≡ left_level operator }
+{
+    match operator {
+        Operator::Or => 0,
+        Operator::And => 1,
+        Operator::Multiply | Operator::Divide | Operator::Modulo => 5,
+        _ => 4,
+    }
+}
 
-    /// How tightly it binds, and its operand at least.
-    pub fn level(self) -> usize
-        ensures { result ≡ level_of_prefix self }
-    {
-        match self {
-            Prefix::Not => 2,
-            Prefix::Minus => 6,
-        }
+/// How tightly a prefix binds, and its operand at least.
+pub fn prefix_level(prefix: Prefix) -> usize
+    ensures { result ≡ level_of_prefix prefix }
+{
+    match prefix {
+        Prefix::Not => 2,
+        Prefix::Minus => 6,
     }
 }
 
@@ -94,8 +85,8 @@ impl Frame {
         ensures { result ≡ takes (pending self.now ∷ []) }
     {
         match self {
-            Frame::Prefix(prefix, _) => prefix.level(),
-            Frame::Left(operator, _) => operator.level() + 1,
+            Frame::Prefix(prefix, _) => prefix_level(*prefix),
+            Frame::Left(operator, _) => operator_level(*operator) + 1,
             Frame::Group(_) | Frame::Call(_) => 0,
         }
     }
@@ -105,8 +96,8 @@ impl Frame {
         ensures { result ≡ closes_at level (pending self.now ∷ []) }
     {
         match self {
-            Frame::Prefix(prefix, _) => level <= prefix.level(),
-            Frame::Left(operator, _) => level <= operator.level(),
+            Frame::Prefix(prefix, _) => level <= prefix_level(*prefix),
+            Frame::Left(operator, _) => level <= operator_level(*operator),
             Frame::Group(_) | Frame::Call(_) => false,
         }
     }

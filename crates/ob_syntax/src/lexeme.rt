@@ -4,7 +4,8 @@
 ghost use Rattle.std.specs.Prelude.{◌≡◌, ◌∷◌, [], ◌<◌, ◌≤◌, ◌+◌, All, Bool, IsTrue, MatchOption, drop, false, slice_index, take_while, length, not};
 ghost use Rattle.std.specs.List.{prefix_len};
 ghost use Rattle.ob_base.specs.Limits.{max_expression_bytes};
-ghost use Rattle.ob_syntax.specs.Lexemes.{front_cut, is_digit, is_letter, is_name_byte, is_quote, is_separator, is_text_byte, lexeme_of, lexemes, lexemes_from, number_lexeme, offset_of, symbol_cut, text_cut, word_lexeme};
+ghost use Rattle.ob_base.specs.NameBytes.{is_digit, is_letter, is_name_byte};
+ghost use Rattle.ob_syntax.specs.Lexemes.{front_cut, is_quote, is_separator, is_text_byte, lexeme_of, lexemes, lexemes_from, number_lexeme, offset_of, symbol_cut, text_cut, word_lexeme};
 
 use crate::sign::{Sign, pair_sign, reserved_sign, single_sign};
 use std::marker::Model;
@@ -236,7 +237,7 @@ fn is_digit(byte: u8) -> bool
     matches!(byte, b'0'..=b'9')
 }
 
-#[tactic(auto, unfolding(crate::specs::Lexemes::is_name_byte))]
+#[tactic(auto, unfolding(ob_base::specs::NameBytes::is_name_byte))]
 fn is_name_byte(byte: u8) -> bool
     ensures { result ≡ is_name_byte byte }
 {

@@ -2,14 +2,13 @@
 
 ghost use Rattle.std.specs.Prelude.{◌≡◌, ◌++◌, ◌∷◌, [], ◌≤◌, ◌<◌, map, IfOk, IfErr};
 ghost use Rattle.ob_base.specs.Limits.{max_expression_depth};
-ghost use Rattle.ob_syntax.specs.declared.fault.ExprFault.TheVariants.{NoMemory as no_memory};
-ghost use Rattle.ob_syntax.specs.Grammar.{given_before, call, no_arguments, tree_of};
+ghost use Rattle.ob_base.specs.declared.expr_fault.ExprFault.TheVariants.{NoMemory as no_memory};
+ghost use Rattle.ob_base.specs.Syntax.{given_before, call, no_arguments, tree_of};
 ghost use Rattle.ob_syntax.specs.Parsing.{calling, least, made, made_first};
 ghost use Rattle.ob_syntax.specs.Waits.{call_pending, pending};
 
-use crate::fault::ExprFault;
 use crate::frame::{Calling, Frame, Operand};
-use crate::syntax::Expr;
+use ob_base::{Expr, ExprFault};
 use std::alloc::Global;
 
 /// The node that a prefix or an operator makes of its last operand.

@@ -3,20 +3,19 @@
 //! tightly each operator binds stands in `specs/Grammar`, and the frames in `stack`.
 
 ghost use Rattle.std.specs.Prelude.{ℕ, List, ◌≡◌, ◌≤◌, ◌++◌, ◌∷◌, [], IfErr, IfOk, IsErrOf, MatchResult, Some, length};
-ghost use Rattle.ob_syntax.specs.declared.fault.ExprFault.TheVariants.{NoMemory as no_memory};
+ghost use Rattle.ob_base.specs.declared.expr_fault.ExprFault.TheVariants.{NoMemory as no_memory};
 ghost use Rattle.ob_base.specs.Limits.{max_expression_bytes, max_expression_depth};
-ghost use Rattle.ob_syntax.specs.Grammar.{IsExpression, IsFirstFault, IsFirstTooDeep, SpellAtMostOneTree, Tree, depth, path as a_path, tree_of};
+ghost use Rattle.ob_base.specs.Syntax.{Tree, depth, path as a_path, tree_of};
+ghost use Rattle.ob_syntax.specs.Grammar.{IsExpression, IsFirstFault, IsFirstTooDeep, SpellAtMostOneTree};
 ghost use Rattle.ob_syntax.specs.Lexemes.{Lexeme, lexeme_of, lexemes, offset_of};
 ghost use Rattle.ob_syntax.specs.Parsing.{Pending, begun, behind_dot, behind_name, called_by, closed, closing, finished_by, gone_on, joined_by, least, named as a_named, need, parsed, prefixed, stepped, wanted, within};
 ghost use Rattle.ob_syntax.specs.Waits.{Tells, all_pending, pending, read_of, state_of};
 
-use crate::fault::ExprFault;
-use crate::frame::{Calling, Frame, Operand};
+use crate::frame::{Calling, Frame, Operand, left_operand_level, operator_level, prefix_level};
 use crate::lexeme::{Lexer, Token};
-use crate::sign::{Operator, Sign};
+use crate::sign::Sign;
 use crate::stack::Stack;
-use crate::syntax::{Expr, Prefix};
-use ob_base::Word;
+use ob_base::{Expr, ExprFault, Operator, Prefix, Word};
 use std::alloc::Global;
 
 /// Reads the expression that a text spells.
@@ -182,7 +181,7 @@ fn before(stack: &mut Stack, prefix: Prefix, at: u32) -> Result<State, ExprFault
         (within max_expression_depth at (prefixed prefix at (all_pending stack.old)))
         (λ next. state_of (all_pending stack.new) next) }
 {
-    if stack.takes() > prefix.level() {
+    if stack.takes() > prefix_level(prefix) {
         return Err(ExprFault::At(at));
     }
     opened(stack, Frame::Prefix(prefix, at), at)
@@ -279,7 +278,7 @@ fn operand_goes_on(
 {
     match token {
         Token::Sign(Sign::Operator(operator), at) => {
-            let left = stack.close(alloc, operand, operator.left_level())?;
+            let left = stack.close(alloc, operand, left_operand_level(operator))?;
             join(stack, operator, left, at)
         }
         Token::Sign(Sign::Comma, at) => {
@@ -301,7 +300,7 @@ fn join(stack: &mut Stack, operator: Operator, left: Operand, at: u32) -> Result
         (within max_expression_depth at (joined_by operator (read_of (all_pending stack.old) left)))
         (λ next. state_of (all_pending stack.new) next) }
 {
-    if stack.takes() > operator.level() {
+    if stack.takes() > operator_level(operator) {
         return Err(ExprFault::At(at));
     }
     opened(stack, Frame::Left(operator, left), at)

@@ -4,23 +4,7 @@
 ghost use Rattle.std.specs.Prelude.{◌≡◌, ◌∷◌, []};
 ghost use Rattle.ob_syntax.specs.Signs.{pair_sign, reserved_sign, single_sign};
 
-/// What joins two operands.
-#[derive(Clone, Copy, Debug, PartialEq, Eq)]
-pub enum Operator {
-    Or,
-    And,
-    Equal,
-    NotEqual,
-    Less,
-    LessOrEqual,
-    Greater,
-    GreaterOrEqual,
-    Add,
-    Subtract,
-    Multiply,
-    Divide,
-    Modulo,
-}
+use ob_base::Operator;
 
 /// A reserved word or a symbol. A minus before an operand is the one between two.
 #[derive(Clone, Copy, Debug, PartialEq, Eq)]

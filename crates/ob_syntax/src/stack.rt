@@ -4,14 +4,14 @@
 
 ghost use Rattle.std.specs.Prelude.{◌≡◌, ◌+◌, ◌<◌, ◌≤◌, ◌∷◌, [], Some, IfOk, IfErr, MatchOption};
 ghost use Rattle.ob_base.specs.Limits.{max_expression_depth};
-ghost use Rattle.ob_syntax.specs.declared.fault.ExprFault.TheVariants.{NoMemory as no_memory};
-ghost use Rattle.ob_syntax.specs.Grammar.{tree_of};
+ghost use Rattle.ob_base.specs.declared.expr_fault.ExprFault.TheVariants.{NoMemory as no_memory};
+ghost use Rattle.ob_base.specs.Syntax.{tree_of};
 ghost use Rattle.ob_syntax.specs.Parsing.{closed as closed_read, closes_at, ended_in, had, least, made, made_first, next_in, takes, wanted, within};
 ghost use Rattle.ob_syntax.specs.Waits.{Tells, all_pending, pending, read_of};
 
-use crate::fault::ExprFault;
 use crate::frame::{Frame, Operand};
 use crate::node::{called, closed, with_argument};
+use ob_base::ExprFault;
 use ob_base::limits::MAX_EXPRESSION_DEPTH;
 use std::alloc::Global;
 use std::marker::Model;

@@ -1,6 +1,6 @@
 -- The fields at the ends of a formula's paths, and whether the formula depends on its own field.
 use Rattle.std.proofs.Common.{◌≡◌, ◌⊎◌, inl, inr, ℕ, ◌≤◌, ◌≢◌, true, false, ◌++◌, List, [], ◌∷◌, length, Some, refl, sym, ap, subst, ◌∙◌, append-nil}
-use Rattle.std.specs.Prelude.{All, Any}
+use Rattle.std.specs.Prelude.{All, Any, Contains}
 use Rattle.std.proofs.lemmas.Bool.Decides.{eqb_tells}
 use Rattle.ob_base.specs.Limits.{max_path_steps}
 use Rattle.ob_base.specs.declared.id.FieldNo.{FieldNo}
@@ -16,9 +16,9 @@ use Rattle.ob_schema.specs.declared.info.Origin.TheVariants as origin
 use Rattle.ob_schema.specs.declared.info.Path.{Path}
 use Rattle.ob_schema.specs.declared.info.Step.{Step}
 use Rattle.ob_schema.specs.Fields.{has_value_of, is_plain_from}
-use Rattle.ob_schema.specs.Models.{AreSteps, DependsOn, EndsOwn, FieldHas, IsFormulaIn, IsPlainTo, IsRouted, field_at, is_delegated_from, kind_of_info}
+use Rattle.ob_schema.specs.Models.{AreSteps, DependsOn, EndsOwn, FieldHas, IsFormulaIn, IsRouted, LeadsOn, field_at, is_delegated_from, kind_of_info}
 use Rattle.ob_schema.specs.Paths.{BeginsWith, EndsIn, step_at, steps_along, steps_of_route}
-use Rattle.ob_schema.proofs.Anys.{Any-cases, Any-first, Any-later, Any-none}
+use Rattle.ob_schema.proofs.CallerLemmas.{Any-cases, Any-first, Any-later, Any-none, contains-cases, contains-first, contains-later, contains-none}
 use Rattle.ob_tables.proofs.Along.{end_model}
 use Rattle.ob_tables.proofs.KnownFields.{known_at}
 
@@ -38,30 +38,15 @@ same_step a b = elim (same_number a.model.0 b.model.0) [
   ]
 ]
 
--- no steps have no last one
-no_end : (front : List Step) (own : Step) → [] ≡ front ++ own ∷ [] → ⊥
-no_end [] own is = cc
-no_end (s ∷ front) own is = cc
-
--- a single step ends in itself alone
-other_end : (s own : Step) → s ≢ own → (front : List Step) → s ∷ [] ≡ front ++ own ∷ [] → ⊥
-other_end s own apart [] is = apart (let same : s ≡ own = cc in same)
-other_end s own apart (x ∷ []) is = cc
-other_end s own apart (x ∷ y ∷ front) is = cc
-
--- steps end in the last of those behind the first
-later_end : (s t own : Step) (ts : List Step) → (EndsIn (t ∷ ts) own → ⊥) → (front : List Step) → s ∷ t ∷ ts ≡ front ++ own ∷ [] → ⊥
-later_end s t own ts not [] is = cc
-later_end s t own ts not (x ∷ front) is = not (front, (let rest : t ∷ ts ≡ front ++ own ∷ [] = cc in rest))
-
--- steps end in a step, or they don't
-ends_or_not : (steps : List Step) (own : Step) → EndsIn steps own ⊎ (EndsIn steps own → ⊥)
-ends_or_not [] own = inr (λ ends. no_end ends.0 own ends.1)
-ends_or_not (s ∷ []) own = elim (same_step s own) [ inl is ↦ inl ([], ap (λ (x : Step). x ∷ []) is) | inr apart ↦ inr (λ ends. other_end s own apart ends.0 ends.1) ]
-ends_or_not (s ∷ t ∷ ts) own = elim (ends_or_not (t ∷ ts) own) [
-  | inl ends ↦ inl (s ∷ ends.0, ap (λ (l : List Step). s ∷ l) ends.1)
-  | inr not ↦ inr (λ ends. later_end s t own ts not ends.0 ends.1)
-]
+-- steps contain a step, or they don't
+contains_or_not : (steps : List Step) (own : Step) → Contains steps own ⊎ (Contains steps own → ⊥)
+contains_or_not [] own = inr (contains-none own)
+contains_or_not (s ∷ steps) own = by (same_step s own) (contains_or_not steps own)
+  where
+    by : (s ≡ own) ⊎ (s ≢ own) → Contains steps own ⊎ (Contains steps own → ⊥) → Contains (s ∷ steps) own ⊎ (Contains (s ∷ steps) own → ⊥)
+    by (inl is) rest = inl (subst (λ (t : Step). Contains (s ∷ steps) t) is (contains-first s steps))
+    by (inr apart) (inl later) = inl (contains-later s steps own later)
+    by (inr apart) (inr none) = inr (λ among. elim (contains-cases s steps own among) [ inl is ↦ apart is | inr later ↦ none later ])
 
 -- one of a list is so, or none is
 any_or_none : {X : Type 0} (P : X → Type 0) → ((x : X) → P x ⊎ (P x → ⊥)) → (xs : List X) → Any P xs ⊎ (Any P xs → ⊥)
@@ -75,7 +60,7 @@ any_or_none {X = X} P decide (x ∷ xs) = by (decide x) (any_or_none P decide xs
 
 -- a formula depends on a field, or it doesn't
 pub depends_or_not : (formula : Formula) (own : Step) → DependsOn formula own ⊎ (DependsOn formula own → ⊥)
-depends_or_not formula own = any_or_none (λ (path : Path). EndsIn path.steps own) (λ path. ends_or_not path.steps own) formula.depends
+depends_or_not formula own = any_or_none (λ (path : Path). Contains path.steps own) (λ path. contains_or_not path.steps own) formula.depends
 
 -- ---- ends
 
@@ -96,7 +81,7 @@ module _ (models : List ModelInfo) where
   own_end at (link ∷ links) field own = own_end link.target links field own
 
   -- where steps go on, the field is plain
-  plain_on : (at : ModelNo) (links : List Link) (field : FieldNo) (s : Step) (rest : List Step) → AreSteps models at (steps_along at links field ++ s ∷ rest) → FieldHas models (IsPlainTo s.model) (end_model at links) field
+  plain_on : (at : ModelNo) (links : List Link) (field : FieldNo) (s : Step) (rest : List Step) → AreSteps models at (steps_along at links field ++ s ∷ rest) → FieldHas models (LeadsOn s.model) (end_model at links) field
   plain_on at [] field s rest are = are.1
   plain_on at (link ∷ []) field s rest are = plain_on link.target [] field s rest are.2
   plain_on at (link ∷ next ∷ links) field s rest are = plain_on link.target (next ∷ links) field s rest are.2
@@ -120,7 +105,7 @@ module _ (models : List ModelInfo) where
       whole path are [] is = is ∙ append-nil (steps_of_route model route)
       whole path are (s ∷ rest) is =
           let on = plain_on model route.links route.field s rest (subst (AreSteps models model) is are.0) in
-          let plain = (known_at (field_at models (end_model model route.links) route.field) g (IsPlainTo s.model) at on).plain in
+          let plain = (known_at (field_at models (end_model model route.links) route.field) g (LeadsOn s.model) at on).plain in
           let not : is_plain_from (origin.Computed theirs) ≡ true = sym (ap is_plain_from from) ∙ plain in absurd cc
 
       by : Any (λ path. BeginsWith path.steps (steps_of_route model route)) formula.depends → Any (λ path. path.steps ≡ steps_of_route model route) formula.depends

@@ -24,6 +24,7 @@ use Rattle.ob_schema.specs.Tables.{Fits, Tables, row_at}
 use Rattle.ob_tables.proofs.Along.{Leads, along_ends, along_one, end_model, leads-model}
 use Rattle.ob_tables.proofs.Climbs.{StandsDown, StandsUp, StepsBy, Tree, Tree-at, climbs, none_down, none_up, steps_down, steps_up}
 use Rattle.ob_tables.proofs.Depths.{depth_low, depth_of}
+use Rattle.ob_schema.proofs.CallerLemmas.{end-contained}
 use Rattle.ob_tables.proofs.Ends.{RouteOf, along-EndsIn, computed_end, depends_or_not, own_end, routed_end, routes_of, same_step}
 use Rattle.ob_tables.proofs.KnownFields.{Any-at_all, Field-at, Formula-at, known_at, some_or_none, tell_and, there_is, told_and}
 use Rattle.ob_tables.proofs.Stable.{Rules, deep_less, held_by}
@@ -46,7 +47,10 @@ module _ (models : List ModelInfo) (tables : Tables) (Good : ℕ → Cell → Ty
 
     -- where one of the paths is a route, the formula depends on the field at its end
     depends : (route : Route) → IsPath route → DependsOn formula (step_at (end_model model route.links) route.field)
-    depends route (k, path, within, is, same) = let ends = along-EndsIn model route.links route.field in (k, path, within, is, (ends.0, same ∙ ends.1))
+    depends route (k, path, within, is, same) =
+        let ends = along-EndsIn model route.links route.field in
+        let last = step_at (end_model model route.links) route.field in
+        (k, path, within, is, end-contained path.steps last (ends.0, same ∙ ends.1))
 
     -- the cell at the end of a path, where the field's own cell there settles
     end_settles : (m : ℕ) → b ≤ m → (route : Route) → RouteOf models model formula route → (end : Row) → end.model ≡ end_model model route.links

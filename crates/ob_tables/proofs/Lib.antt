@@ -57,3 +57,6 @@ pub mod SharedSets
 pub mod Neighbours
 pub mod SetValues
 pub mod ListedMembers
+-- What one formula gives.
+pub mod FormulaValue
+pub mod CallerLemmas

@@ -12,7 +12,7 @@ use Rattle.ob_base.specs.declared.id.RecId.{RecId}
 use Rattle.ob_expr.specs.Reads.{IsAmong}
 use Rattle.ob_base.specs.declared.id.RowKey.{RowKey}
 use Rattle.ob_base.specs.Ids.{row_key_cmp}
-use Rattle.ob_io.proofs.Shown.{rows_total}
+use Rattle.ob_io.proofs.CallerLemmas.{rows_total}
 use Rattle.ob_schema.specs.Plain.{names, naming}
 use Rattle.ob_schema.specs.Tables.{PlainRow, Tables, key_of, kept_in, row_at, rows_in}
 

@@ -10,7 +10,7 @@ use Rattle.std.specs.Cmp.Lexicographic.{lists_total, slice_cmp}
 use Rattle.std.specs.FinMap.{slice_cmp-IsAntisymmetric}
 use Rattle.std.proofs.lemmas.Bool.{cases_lt}
 use Rattle.std.proofs.lemmas.Option.{same_Some, slice_get-get_or, slice_get_within}
-use Rattle.ob_base.proofs.OrderLaws.{value_order_exact, value_order_total}
+use Rattle.ob_base.proofs.CallerLemmas.{value_order_exact, value_order_total}
 use Rattle.ob_base.specs.ValueOrder.{value_order}
 use Rattle.ob_base.specs.declared.id.FieldNo.{FieldNo}
 use Rattle.ob_base.specs.declared.id.ModelNo.{ModelNo}

@@ -16,7 +16,7 @@ use Rattle.ob_schema.specs.declared.info.Origin.{Origin}
 use Rattle.ob_schema.specs.declared.info.Origin.TheVariants as origin
 use Rattle.ob_schema.specs.declared.info.ParentInfo.{ParentInfo}
 use Rattle.ob_schema.specs.Models.{HasKeysOf, IsDelegatedIn, IsOriginIn, IsParentIn, IsPlainTo, IsRegistry, field_at, is_delegated_from, is_given_from, model_at}
-use Rattle.ob_schema.proofs.Anys.{Any-none}
+use Rattle.ob_schema.proofs.CallerLemmas.{Any-none}
 use Rattle.ob_schema.specs.Tied.{IsTied}
 use Rattle.ob_schema.specs.Tables.{Fits, Tables}
 use Rattle.ob_schema.specs.Val.{IsVal, behind, value_by, value_in}

@@ -38,7 +38,7 @@ use Rattle.ob_schema.specs.Models.{IsFormulaIn, IsRouted, field_at, is_computed_
 use Rattle.ob_definition.specs.Values.{initial_value}
 use Rattle.ob_schema.specs.Limited.{limited}
 use Rattle.ob_schema.specs.Plain.{plain_at}
-use Rattle.ob_tables.specs.Settling.{AreOutcomes, FailsAt, KeepsAll, Lacks, TellsLimited, IsComputedCell, IsFormulaOutcome, IsOutcomeOf, IsSettled, Tells, ends_of, had_in, held_in, held_or, lack_for, reason_of, row_named, values_of}
+use Rattle.ob_tables.specs.Settling.{AreOutcomes, FailsAt, KeepsAll, Lacks, IsComputedCell, IsFormulaOutcome, IsOutcomeOf, IsSettled, Tells, ends_of, had_in, held_in, held_or, lack_for, reason_of, row_named, values_of}
 use Rattle.ob_schema.specs.Tables.{PlainRow, Tables, row_at}
 use Rattle.ob_schema.specs.Val.{behind, formula_value, or_inherited, value_by}
 use Rattle.ob_tables.specs.Faults.{HasNoValue}
@@ -57,7 +57,7 @@ use Rattle.ob_tables.proofs.KnownFields.{Field-at, Formula-at, is_there, known_a
 use Rattle.ob_tables.proofs.LedTo.{along_there, step_there}
 use Rattle.ob_tables.proofs.NamedBack.{Stands}
 use Rattle.ob_tables.proofs.Settled.{Behind-at}
-use Rattle.ob_tables.proofs.Stable.{held-value_at, law-deep, value_there}
+use Rattle.ob_tables.proofs.Stable.{held-value_at, law-deep, limited_unread, value_there}
 use Rattle.ob_tables.proofs.Within.{AreSound, given-not_computed, none_unread, not_there, values-law}
 
 -- what an outcome leaves in the cell
@@ -296,35 +296,31 @@ module _ (models : List ModelInfo) (tables : Tables) (known : AreSound models ta
       gives-same = ap (limited info.field_type) (sym means-same)
 
       -- where it lacks a cell, that one has an outcome without a value
-      pub lacks-one : (other : Cell) → meaning (held_in models tables outcomes) (row_of c) (typed_tree_of formula.typed) ≡ Err (unread other) → IsSomeAnd (tree.get cell_order outcomes other) (λ o. IsSome (reason_of o))
+      pub lacks-one : (other : Cell) → limited info.field_type (meaning (held_in models tables outcomes) (row_of c) (typed_tree_of formula.typed)) ≡ Err (unread other)
+          → IsSomeAnd (tree.get cell_order outcomes other) (λ o. IsSome (reason_of o))
       lacks-one other lacks =
-          let reads = known.laws.lacks (typed_tree_of formula.typed) (had_in models tables) (row_of c) other (sym means-same ∙ lacks) in
+          let reads = known.laws.lacks (typed_tree_of formula.typed) (had_in models tables) (row_of c) other
+          (sym means-same ∙ limited_unread info.field_type (meaning (held_in models tables outcomes) (row_of c) (typed_tree_of formula.typed)) other lacks) in
           let own = along-own other reads.0 in
           let one = held-none outcomes right other own.0 own.1 (settled other reads.0) (settled-held outcomes right other own.0 own.1 (settled other reads.0) ∙ reads.1) in
           tell_and (tree.get cell_order outcomes other) one.0 (λ o. IsSome (reason_of o)) one.1 (has_reason one.0 one.2)
 
       -- it lacks what that one lacks
-      pub lacks-as : (other : Cell) (why : Reason) → meaning (held_in models tables outcomes) (row_of c) (typed_tree_of formula.typed) ≡ Err (unread other)
+      pub lacks-as : (other : Cell) (why : Reason) → limited info.field_type (meaning (held_in models tables outcomes) (row_of c) (typed_tree_of formula.typed)) ≡ Err (unread other)
           → IsSomeAnd (tree.get cell_order outcomes other) (λ o. reason_of o ≡ Some why) → IsFormulaOutcome models tables c (outcome.Inherited why) info
       lacks-as other why lacks has =
           let t = told_and (tree.get cell_order outcomes other) (λ o. reason_of o ≡ Some why) has in
-          (formula, from, (other, gives-same ∙ ap (limited info.field_type) lacks, got-value outcomes right other t.0 t.1 ∙ reason-result t.0 why t.2), tt)
+          (formula, from, (other, gives-same ∙ lacks, got-value outcomes right other t.0 t.1 ∙ reason-result t.0 why t.2), tt)
 
       -- a fault of its own
-      pub lacks-own : (why : Reason) → meaning (held_in models tables outcomes) (row_of c) (typed_tree_of formula.typed) ≡ Err (lack_for why) → IsFormulaOutcome models tables c (outcome.Own why) info
-      lacks-own why lacks = (formula, from, gives-same ∙ ap (limited info.field_type) lacks, tt)
+      pub lacks-own : (why : Reason) → limited info.field_type (meaning (held_in models tables outcomes) (row_of c) (typed_tree_of formula.typed)) ≡ Err (lack_for why) → IsFormulaOutcome models tables c (outcome.Own why) info
+      lacks-own why lacks = (formula, from, gives-same ∙ lacks, tt)
 
       -- a value
-      pub gives-value : (v : Value) (o : Outcome) → meaning (held_in models tables outcomes) (row_of c) (typed_tree_of formula.typed) ≡ Ok v → HasKind (kind_of (typed_tree_of formula.typed)) v → TellsLimited info.field_type v o
-          → IsFormulaOutcome models tables c o info
-      gives-value v (outcome.Value w) means kind limits = (
-        formula,
-        from,
-        gives-same ∙ ap (limited info.field_type) means ∙ limits.1 ∙ ap Ok (sym limits.0),
-        λ k is. subst (λ (x : Kind). HasKind x w) (same_Some (kind_of (typed_tree_of formula.typed)) k (sym its_formula.kind ∙ is)) (subst (HasKind (kind_of (typed_tree_of formula.typed))) (sym limits.0) kind),
-      )
-      gives-value v (outcome.Own why) means kind limits = (formula, from, gives-same ∙ ap (limited info.field_type) means ∙ limits, tt)
-      gives-value v (outcome.Inherited why) means kind limits = absurd limits
+      pub gives-value : (v : Value) → limited info.field_type (meaning (held_in models tables outcomes) (row_of c) (typed_tree_of formula.typed)) ≡ Ok v → HasKind (kind_of (typed_tree_of formula.typed)) v
+          → IsFormulaOutcome models tables c (outcome.Value v) info
+      gives-value v means kind =
+          (formula, from, gives-same ∙ means, λ k is. subst (λ (x : Kind). HasKind x v) (same_Some (kind_of (typed_tree_of formula.typed)) k (sym its_formula.kind ∙ is)) kind)
 
   -- ---- behind a link
 

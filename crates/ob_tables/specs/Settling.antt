@@ -30,8 +30,6 @@ use Rattle.ob_tables.specs.declared.outcome.Unread.{Unread}
 use Rattle.ob_tables.specs.declared.outcome.Unread.TheVariants as fault
 use Rattle.ob_tables.specs.declared.fault.ScratchFault.{ScratchFault}
 use Rattle.ob_tables.specs.declared.fault.ScratchFault.TheVariants as scratch
-use Rattle.ob_definition.specs.declared.field_type.FieldType.{FieldType}
-use Rattle.ob_schema.specs.Limited.{limited}
 use Rattle.ob_schema.specs.Plain.{plain_at}
 use Rattle.ob_schema.specs.Plain.{targets_of}
 use Rattle.ob_schema.specs.Tables.{Tables, row_at}
@@ -94,12 +92,6 @@ Lacks had scratch.Overflow = had ≡ Err overflow
 Lacks had scratch.TooLong = had ≡ Err too_long
 Lacks had scratch.ZeroDivisor = had ≡ Err zero_divisor
 Lacks had scratch.NoMemory = ⊤
-
--- an outcome is a value, if a field of the type can hold it
-abbrev pub TellsLimited : FieldType → Value → Outcome → Type 0
-TellsLimited t v (outcome.Value w) = (w ≡ v) × (limited t (Ok v) ≡ Ok v)
-TellsLimited t v (outcome.Own why) = limited t (Ok v) ≡ Err (lack_for why)
-TellsLimited t v (outcome.Inherited why) = ⊥
 
 -- what a cell holds after an evaluation that had this outcome; else its plain value
 abbrev pub held_or : Option Outcome → Option Value → Option Value

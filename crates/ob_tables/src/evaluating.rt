@@ -1,5 +1,5 @@
 //! Values from scratch. Each formula is evaluated at most once, after all that stands at
-//! the ends of its paths; an evaluation evaluates nothing else.
+//! the ends of its paths.
 
 ghost use Rattle.std.specs.Prelude.{◌≡◌, ◌≤◌, ◌*◌, ◌+◌, ℕ, All, Err, IfErr, IfOk, IsSome, IsSomeAnd, List, Ok, OnOk, Some, true, false};
 ghost use Rattle.std.specs.BTreeMap as tree;
@@ -14,19 +14,19 @@ ghost use Rattle.ob_schema.specs.declared.info.Origin.TheVariants as origin;
 ghost use Rattle.ob_definition.specs.Values.{initial_value};
 ghost use Rattle.ob_schema.specs.Tied.{IsTied};
 ghost use Rattle.ob_tables.specs.Faults.{HasNoValue};
-ghost use Rattle.ob_schema.specs.Limited.{limited, text_limit};
-ghost use Rattle.ob_tables.specs.Settling.{AreOutcomes, IsFormulaOutcome, IsSettled, IsWithin, KeepsAll, Lacks, TellsLimited, had_in, lack_for, reason_of, row_named, values_of};
+ghost use Rattle.ob_tables.specs.Settling.{AreOutcomes, IsFormulaOutcome, IsSettled, IsWithin, KeepsAll, Lacks, had_in, lack_for, reason_of, row_named, values_of};
 ghost use Rattle.ob_schema.specs.Tables.{Fits, row_at};
 ghost use Rattle.ob_schema.specs.Val.{val};
 
 use crate::fault::ScratchFault;
+use crate::formula::formula_value;
 use crate::outcome::{Outcome, Outcomes, Reason, Unread};
 use crate::reading::{Given, Reader};
 use crate::row::initial_value;
-use ob_base::limits::{MAX_CHAR_BYTES, MAX_STRATUM, MAX_TEXT_BYTES, MAX_TREE_DEPTH};
+use ob_base::limits::{MAX_STRATUM, MAX_TREE_DEPTH};
 use ob_base::{Cell, FieldNo, ModelNo, NoMemory, RecId, Silent, Steps, Value, cell_cmp};
-use ob_expr::{EvalFault, eval, reads_along_paths};
-use ob_schema::{Delegation, FieldInfo, FieldType, Formula, Origin};
+use ob_expr::{EvalFault, reads_along_paths};
+use ob_schema::{Delegation, FieldInfo, Formula, Origin};
 
 /// How many formulas are read in turn at most: down the strata, and in each along a tree.
 const MAX_CHAIN: usize = MAX_TREE_DEPTH * (MAX_STRATUM as usize + 1) + 2;
@@ -188,8 +188,9 @@ impl Given<'_, '_> {
             outcomes,
         };
         let mut steps = Steps::new(Silent);
-        match eval(self.alloc(), &formula.typed, cell, &mut reader, &mut steps) {
-            Ok(fresh) => Ok(limited(info.field_type, fresh.into_value())),
+        let alloc = self.alloc();
+        match formula_value(alloc, info, formula, cell, &mut reader, &mut steps) {
+            Ok(value) => Ok(Outcome::Value(value)),
             Err(EvalFault::Overflow) => Ok(Outcome::Own(Reason::Overflow)),
             Err(EvalFault::TooLong) => Ok(Outcome::Own(Reason::TooLong)),
             Err(EvalFault::ZeroDivisor) => Ok(Outcome::Own(Reason::ZeroDivisor)),
@@ -242,28 +243,6 @@ fn reason_at(outcomes: &Outcomes, cell: Cell) -> Reason
             None => unreachable!(),
         },
         None => unreachable!(),
-    }
-}
-
-/// A value that a field of the type may hold, or that it is too long.
-fn limited(field_type: FieldType, value: Value) -> Outcome
-    ensures { TellsLimited field_type value result }
-{
-    if let Value::Word(text) = &value {
-        if text.as_str().len() > text_limit(field_type) {
-            return Outcome::Own(Reason::TooLong);
-        }
-    }
-    Outcome::Value(value)
-}
-
-/// How many bytes a text of the type may have.
-fn text_limit(field_type: FieldType) -> usize
-    ensures { result ≡ text_limit field_type }
-{
-    match field_type {
-        FieldType::Text => MAX_TEXT_BYTES,
-        _ => MAX_CHAR_BYTES,
     }
 }
 

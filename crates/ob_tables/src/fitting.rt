@@ -98,8 +98,8 @@ fn is_fit_in(field: &FieldInfo, value: &Value) -> bool
     field.is_plain_kept() && is_givable(field, value)
 }
 
-/// Whether a value is one of a field's, whatever ids it names.
-fn is_givable(field: &FieldInfo, value: &Value) -> bool
+/// Whether a value is of a field's type and within its limits, whatever ids it names.
+pub fn is_givable(field: &FieldInfo, value: &Value) -> bool
     ensures { IsTrue result ↔ IsGivable field.now value.now }
 {
     match value {

@@ -3,7 +3,8 @@
 //!
 //! Rooms: `edit` (what calls do to rows), `fitting` (which edits may be asked for), `tables`
 //! (the tables and their calls), `applying` (edits that are carried out where that is sound),
-//! `fault` (why a call gives no answer), `laws` (what the definitions give). Behind them stand
+//! `fault` (why a call gives no answer), `formula` (what a formula gives one cell over any reads),
+//! `laws` (what the definitions give). Behind them stand
 //! `row` (the values of a row), `index` (which rows name a row), `reading` (what evaluations
 //! read), `outcome` (what they give) and `evaluating` (what is evaluated, and when); and for
 //! what is broken `soundness`, over `cells` (one by one), `unique` (sets of fields that no two
@@ -18,6 +19,7 @@ mod fault;
 mod findings;
 mod fitting;
 mod forest;
+mod formula;
 mod formulas;
 mod index;
 mod laws;
@@ -33,10 +35,12 @@ mod values;
 pub use applying::ApplyFault;
 pub use edit::Edit;
 pub use fault::ScratchFault;
-pub use fitting::fits;
+pub use fitting::{fits, is_givable};
+pub use formula::formula_value;
 pub use laws::{
     after_in_turn, ids_are_of_rows, next_ids_after, one_row_changes, reads_alone, sound_values,
     values_from_scratch,
 };
+pub use row::{initial_value, targets_of};
 pub use tables::Tables;
 pub use values::Values;

@@ -55,7 +55,7 @@ fn unset_row(alloc: Global, info: &ModelInfo) -> Result<PlainRow, NoMemory>
 }
 
 /// What a field of a type has without a value of its own.
-pub(crate) fn initial_value(alloc: Global, field_type: FieldType) -> Value
+pub fn initial_value(alloc: Global, field_type: FieldType) -> Value
     ensures { result ≡ initial_value field_type }
 {
     match field_type {
@@ -105,7 +105,7 @@ fn is_naming(value: &Value, id: RecId) -> bool
 }
 
 /// The rows that a value names.
-pub(crate) fn targets_of(value: &Value) -> &[RecId]
+pub fn targets_of(value: &Value) -> &[RecId]
     ensures same { result.now ≡ targets_of value.now }
     ensures rising { IsRising result.now }
 {

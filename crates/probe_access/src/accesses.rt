@@ -18,12 +18,12 @@ use crate::policies::{op_of, policy};
 use crate::row_facts::RowFacts;
 use crate::unanswered::Unanswered;
 use ob_access::{GroupSet, Policy};
-use ob_base::{ModelNo, NoMemory, Op, RecId, Word};
+use ob_base::{ModelNo, Op, RecId, Word};
 use ob_domain::Json;
 use ob_schema::{Facts, Schema};
 use probe_parts::definitions::schema_of;
-use probe_parts::parts::{id_of, ids_of, items_of, list_part, text_part};
-use probe_parts::told::{put_list, put_text};
+use probe_parts::parts::{id_of, ids_of, items_of, list_part, text_of, text_part};
+use probe_parts::told::{Told, put_list, put_text};
 use std::alloc::Global;
 
 /// A caller: his id and his groups.
@@ -34,156 +34,171 @@ struct Caller<'g> {
 }
 
 /// Adds the answers to what an object asks.
-pub(crate) fn put_access(
-    alloc: Global,
-    times: u32,
-    json: &Json,
-    text: &mut String,
-) -> Result<(), Unanswered> {
-    let models = text_part(json, "models")?;
-    match schema_of(alloc, models) {
-        Ok(schema) => put_over(alloc, times, &schema, json, text),
-        Err(why) => Err(Unanswered::from(why)),
+pub(crate) fn put_access(alloc: Global, told: &mut Told, times: u32, json: &Json) {
+    let models = text_part(told, json, "models");
+    if let Some(schema) = schema_of(alloc, told, models) {
+        put_over(alloc, told, times, &schema, json);
     }
 }
 
 /// Adds the answers over a registry.
-fn put_over(
-    alloc: Global,
-    times: u32,
-    schema: &Schema,
-    json: &Json,
-    text: &mut String,
-) -> Result<(), Unanswered> {
-    match policy(alloc, schema, json) {
-        Ok(policy) => put_by(alloc, times, schema, &policy, json, text),
-        Err(why) => Err(why),
+fn put_over(alloc: Global, told: &mut Told, times: u32, schema: &Schema, json: &Json) {
+    if let Some(policy) = policy(alloc, told, schema, json) {
+        put_by(alloc, told, times, schema, &policy, json);
     }
 }
 
-/// Adds the answers by a policy.
-fn put_by(
-    alloc: Global,
-    times: u32,
-    schema: &Schema,
-    policy: &Policy,
-    json: &Json,
-    text: &mut String,
-) -> Result<(), Unanswered>
+/// Adds the answers by a policy, or that a question failed.
+fn put_by(alloc: Global, told: &mut Told, times: u32, schema: &Schema, policy: &Policy, json: &Json)
     requires { IsPolicyOver schema.now policy.now }
 {
-    let asked = list_part(json, "asked")?;
-    let mut facts = RowFacts::of(alloc, schema, json)?;
+    let asked = list_part(told, json, "asked");
+    let mut facts = RowFacts::of(alloc, told, schema, json);
     for _ in 1..times {
-        let mut unread = String::new(alloc);
-        put_all(alloc, schema, policy, &mut facts, asked, &mut unread)?;
+        let mut unread = Told::new(alloc);
+        put_all(alloc, &mut unread, schema, policy, &mut facts, asked);
     }
-    put_all(alloc, schema, policy, &mut facts, asked, text)
+    put_all(alloc, told, schema, policy, &mut facts, asked);
+    if facts.has_failed {
+        told.tell_instead(alloc, "failed");
+    }
 }
 
-/// Adds the answers to some questions.
+/// Adds the answers to some questions, up to one that fails.
 fn put_all(
     alloc: Global,
+    told: &mut Told,
     schema: &Schema,
     policy: &Policy,
     facts: &mut RowFacts<'_>,
     asked: &[Json],
-    text: &mut String,
-) -> Result<(), Unanswered>
+)
     requires over { IsPolicyOver schema.now policy.now }
     requires facts { facts.old.schema.now ≡ schema.now }
     ensures { facts.new.schema.now ≡ facts.old.schema.now }
 {
+    told.put("[");
+    let mut is_first = true;
     for question in asked {
-        text.push_str(if text.is_empty() { "[" } else { "," })?;
-        put_answer(alloc, schema, policy, facts, question, text)?;
+        if told.is_malformed() || facts.has_failed {
+            return;
+        }
+        told.put(if is_first { "" } else { "," });
+        put_answer(alloc, told, schema, policy, facts, question);
+        is_first = false;
     }
-    Ok(text.push_str(if text.is_empty() { "[]" } else { "]" })?)
+    told.put("]");
 }
 
 /// Adds the answer to a question.
 fn put_answer(
     alloc: Global,
+    told: &mut Told,
     schema: &Schema,
     policy: &Policy,
     facts: &mut RowFacts<'_>,
     question: &Json,
-    text: &mut String,
-) -> Result<(), Unanswered>
+)
     requires over { IsPolicyOver schema.now policy.now }
     requires facts { facts.old.schema.now ≡ schema.now }
     ensures { facts.new.schema.now ≡ facts.old.schema.now }
 {
-    let [user, stated, parts @ ..] = items_of(question)? else {
-        return Err(Unanswered::Form);
+    let [user, stated, parts @ ..] = items_of(told, question) else {
+        return told.refuse();
     };
-    let user = id_of(user)?;
-    let groups = groups_of(alloc, policy, stated)?;
-    let caller = Caller {
-        user,
-        groups: &groups,
-    };
-    match parts {
-        [] => Ok(put_list(text, groups.as_slice())?),
-        [model, parts @ ..] => put_of_model(
-            alloc, schema, policy, facts, caller, model, parts, text,
-        ),
+    let user = id_of(told, user);
+    let stated = ids_of(alloc, told, stated);
+    match policy.groups_of(alloc, &stated) {
+        Ok(groups) => {
+            let caller = Caller {
+                user,
+                groups: &groups,
+            };
+            put_to(alloc, told, schema, policy, facts, caller, parts);
+        }
+        Err(_) => told.lack(),
     }
 }
 
-/// The groups of who is stated to be in some.
-fn groups_of(alloc: Global, policy: &Policy, stated: &Json) -> Result<GroupSet, Unanswered> {
-    let stated = ids_of(alloc, stated)?;
-    Ok(policy.groups_of(alloc, &stated)?)
-}
-
-/// Adds the answer to a question about a model.
-fn put_of_model(
+/// Adds the answer to a caller.
+fn put_to(
     alloc: Global,
+    told: &mut Told,
     schema: &Schema,
     policy: &Policy,
     facts: &mut RowFacts<'_>,
     caller: Caller<'_>,
-    model: &Json,
     parts: &[Json],
-    text: &mut String,
-) -> Result<(), Unanswered>
+)
     requires over { IsPolicyOver schema.now policy.now }
     requires facts { facts.old.schema.now ≡ schema.now }
     ensures { facts.new.schema.now ≡ facts.old.schema.now }
 {
-    let name = model.as_str().ok_or(Unanswered::Form)?;
-    let model = schema.model(name).ok_or(Unanswered::Form)?;
+    let [model, parts @ ..] = parts else {
+        return put_list(told, caller.groups.as_slice());
+    };
+    let name = text_of(told, model);
+    let Some(model) = schema.model(name) else {
+        return told.refuse();
+    };
     if let [id, op, _] = parts {
-        let (id, op) = (id_of(id)?, op_of(op)?);
-        return put_row(alloc, policy, facts, caller, op, model, id, text);
+        let id = id_of(told, id);
+        let op = told.found(op_of(op), Op::Read);
+        put_row(alloc, told, policy, facts, caller, op, model, id);
+    } else {
+        let has = has_right(schema, policy, caller, model, parts);
+        let has = told.found(has, false);
+        told.put(if has { "true" } else { "false" });
     }
-    let has = has_right(schema, policy, caller, model, parts)?;
-    Ok(text.push_str(if has { "true" } else { "false" })?)
 }
 
-/// Whether a caller has a right, or one on a field, by what stands behind the model.
+/// Whether a caller has a right, or one on a field, by what stands behind the model; none where
+/// that is of another form.
 fn has_right(
     schema: &Schema,
     policy: &Policy,
     caller: Caller<'_>,
     model: ModelNo,
     parts: &[Json],
-) -> Result<bool, Unanswered>
+) -> Option<bool>
     requires { HasModel schema.now model }
 {
     match parts {
-        [op] => Ok(policy.right(caller.groups, caller.user, model, op_of(op)?)),
+        [op] => Some(policy.right(caller.groups, caller.user, model, op_of(op)?)),
         [Json::String(name), Json::Bool(writing)] => {
-            let field = schema.field(model, name.as_str()).ok_or(Unanswered::Form)?;
-            Ok(policy.field_right(caller.groups, caller.user, model, field, *writing))
+            let field = schema.field(model, name.as_str())?;
+            Some(policy.field_right(caller.groups, caller.user, model, field, *writing))
         }
-        _ => Err(Unanswered::Form),
+        _ => None,
     }
 }
 
 /// Adds whether a row is admitted, and the rule that denies it; a row that isn't known is no case.
 fn put_row(
+    alloc: Global,
+    told: &mut Told,
+    policy: &Policy,
+    facts: &mut RowFacts<'_>,
+    caller: Caller<'_>,
+    op: Op,
+    model: ModelNo,
+    id: RecId,
+)
+    requires model { HasModel facts.old.schema.now model }
+    requires over { IsPolicyOver facts.old.schema.now policy.now }
+    ensures { facts.new.schema.now ≡ facts.old.schema.now }
+{
+    match admission(alloc, policy, facts, caller, op, model, id) {
+        Ok(Some((admitted, denier))) => put_admission(alloc, told, admitted, denier.as_ref()),
+        Ok(None) => told.refuse(),
+        Err(Unanswered::NoMemory) => told.lack(),
+        Err(Unanswered::Failed) => facts.has_failed = true,
+    }
+}
+
+/// Whether a row is admitted, and the name of the rule that denies it; none where the row isn't
+/// known.
+fn admission(
     alloc: Global,
     policy: &Policy,
     facts: &mut RowFacts<'_>,
@@ -191,8 +206,7 @@ fn put_row(
     op: Op,
     model: ModelNo,
     id: RecId,
-    text: &mut String,
-) -> Result<(), Unanswered>
+) -> Result<Option<(bool, Option<Word>)>, Unanswered>
     requires model { HasModel facts.old.schema.now model }
     requires over { IsPolicyOver facts.old.schema.now policy.now }
     ensures { facts.new.schema.now ≡ facts.old.schema.now }
@@ -201,25 +215,20 @@ fn put_row(
     facts.left = facts.answered.saturating_add(1);
     let is_known = facts.known(model, id)?;
     if !is_known {
-        return Err(Unanswered::Form);
+        return Ok(None);
     }
     let admitted = policy.admits(alloc, caller.groups, caller.user, op, model, id, facts)?;
     facts.left = facts.answered;
     let denier = policy.denier(alloc, caller.groups, caller.user, op, model, id, facts)?;
-    Ok(put_admission(alloc, admitted, denier.as_ref(), text)?)
+    Ok(Some((admitted, denier)))
 }
 
 /// Adds whether a row is admitted, and the name of the rule that denies it.
-fn put_admission(
-    alloc: Global,
-    admitted: bool,
-    denier: Option<&Word>,
-    text: &mut String,
-) -> Result<(), NoMemory> {
-    write!(text, "[{admitted},")?;
+fn put_admission(alloc: Global, told: &mut Told, admitted: bool, denier: Option<&Word>) {
+    told.put(if admitted { "[true," } else { "[false," });
     match denier {
-        Some(name) => put_text(alloc, text, name.as_str())?,
-        None => text.push_str("null")?,
+        Some(name) => put_text(alloc, told, name.as_str()),
+        None => told.put("null"),
     }
-    Ok(text.push_str("]")?)
+    told.put("]");
 }

@@ -3,104 +3,82 @@
 //! | line | answer |
 //! |---|---|
 //! | `domain CASE` | the ids of the rows that meet the domain, or the fault with its place; ` \| ` between the answers of several domains |
+//! | `fields CASE` | the fields that the domain names, as MODEL.FIELD, or the fault with its place |
+//! | `asks CASE` | whether a criterion on the field stands outside `any`, or the fault with its place |
 //! | `access CASE` | an answer to each question of the case, in JSON |
 //!
 //! The CASE of `domain` is `{"model":MODEL,"user":ID,"rows":[ROW, ..],"domain":DOMAIN}`, or with
 //! `"domains":[DOMAIN, ..]`. MODEL is `probe.row` or `probe.place`, or one of those that
 //! `"models":DEFINITIONS` defines. `row_facts` says what a row is, `accesses` what the CASE of
-//! `access` is, `probe_parts::definitions` what DEFINITIONS are. With `"answered":N` so many
-//! questions about each row are answered, and `failed` stands where that isn't enough: in the
-//! answer of `domain` behind the row's id, of `access` alone.
+//! `access` is, `fields` that of `fields` and `asks`, `probe_parts::definitions` what DEFINITIONS
+//! are. With `"answered":N` so many questions about each row are answered, and `failed` stands
+//! where that isn't enough: in the answer of `domain` behind the row's id, of `access` alone.
 //!
 //! In a CASE `«N TEXT»` stands for a text so many times. `times N` before a word makes its call
 //! N times and tells the last answer. `no JSON` and `no case` tell what a line lacks.
 
 use crate::accesses::put_access;
 use crate::domains::put_domain;
-use crate::unanswered::Unanswered;
-use ob_base::NoMemory;
+use crate::fields::{Question, put_fields};
 use ob_domain::Json;
+use probe_parts::parts::json_of;
 use probe_parts::program::Probe;
+use probe_parts::told::Told;
+use probe_parts::words::first_word;
 use std::alloc::Global;
 
 /// What tells the words about domains and access from one another.
 pub(crate) struct AccessProbe {}
 
 impl Probe for AccessProbe {
-    fn answer(
-        &self,
-        alloc: Global,
-        times: u32,
-        word: &str,
-        rest: &str,
-    ) -> Result<String, NoMemory> {
-        let mut text = String::new(alloc);
-        match put_expanded(alloc, times, word, rest, &mut text) {
-            Ok(()) => Ok(text),
-            Err(NoMemory) => Err(NoMemory),
+    fn answer(&self, alloc: Global, told: &mut Told, times: u32, word: &str, rest: &str) {
+        let whole = expanded(alloc, told, rest);
+        let json = json_of(alloc, told, whole.as_str());
+        if told.is_malformed() {
+            told.tell_instead(alloc, "no JSON");
+        } else {
+            put_answer(alloc, told, times, word, &json);
         }
     }
 }
 
-/// Adds the answer to a line of this word, once what it repeats is written out. The rooms add
-/// to the answer's text, so that few values are theirs to let go.
-fn put_expanded(
-    alloc: Global,
-    times: u32,
-    word: &str,
-    rest: &str,
-    text: &mut String,
-) -> Result<(), NoMemory> {
-    let mut whole = String::new(alloc);
-    expand(rest, &mut whole)?;
-    match Json::from_str(alloc, whole.as_str()) {
-        Ok(json) => put_told(alloc, times, word, &json, text),
-        Err(error) => if error.is_memory() {
-            Err(NoMemory)
-        } else {
-            Ok(text.push_str("no JSON")?)
-        },
+/// Tells the answer to a case.
+fn put_answer(alloc: Global, told: &mut Told, times: u32, word: &str, json: &Json) {
+    match word {
+        "domain" => put_domain(alloc, told, times, json),
+        "fields" => put_fields(alloc, told, times, Question::Fields, json),
+        "asks" => put_fields(alloc, told, times, Question::Asks, json),
+        "access" => put_access(alloc, told, times, json),
+        _ => told.put("no word"),
+    }
+    if told.is_malformed() {
+        told.tell_instead(alloc, "no case");
     }
 }
 
-/// Adds the answer to a case, or why there is none.
-fn put_told(
-    alloc: Global,
-    times: u32,
-    word: &str,
-    json: &Json,
-    text: &mut String,
-) -> Result<(), NoMemory> {
-    let answered = match word {
-        "domain" => put_domain(alloc, times, json, text),
-        "access" => put_access(alloc, times, json, text),
-        _ => return Ok(text.push_str("no word")?),
-    };
-    let why = match answered {
-        Ok(()) => return Ok(()),
-        Err(Unanswered::NoMemory) => return Err(NoMemory),
-        Err(Unanswered::Form) => "no case",
-        Err(Unanswered::Failed) => "failed",
-    };
-    text.clear();
-    Ok(text.push_str(why)?)
-}
-
-/// Adds a text in which `«N TEXT»` stands for a text so many times.
-fn expand(text: &str, whole: &mut String) -> Result<(), NoMemory> {
+/// A text in which `«N TEXT»` stands for a text so many times.
+fn expanded(alloc: Global, told: &mut Told, text: &str) -> String {
+    let mut whole = Told::new(alloc);
     for piece in text.split('»') {
-        let (before, part) = piece.split_once('«').unwrap_or((piece, ""));
-        let (count, part) = part.split_once(' ').unwrap_or(("0", ""));
-        whole.push_str(before)?;
-        add_times(whole, count.parse().unwrap_or(0), part)?;
+        match piece.split_once('«') {
+            Some((before, part)) => {
+                whole.put(before);
+                put_times(&mut whole, part);
+            }
+            None => whole.put(piece),
+        }
     }
-    Ok(())
+    told.take(whole)
 }
 
-/// Adds a text so many times.
-fn add_times(whole: &mut String, count: u32, part: &str) -> Result<(), NoMemory> {
+/// Adds the text that `N TEXT` stands for.
+fn put_times(whole: &mut Told, part: &str) {
+    let (count, part) = first_word(part);
+    let count: u32 = match count.parse() {
+        Ok(count) => count,
+        Err(_) => 0,
+    };
     for _ in 0..count {
-        whole.push_str(part)?;
+        whole.put(part);
     }
-    Ok(())
 }

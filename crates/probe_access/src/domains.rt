@@ -13,7 +13,8 @@ use ob_base::{ModelNo, RecId};
 use ob_domain::{Domain, DomainFault, Json, holds, read};
 use ob_schema::{Facts, Schema};
 use probe_parts::definitions::schema_of;
-use probe_parts::parts::{id_of, items_of, part, text_part};
+use probe_parts::parts::{id_of, items_of, part, text_of, text_part};
+use probe_parts::told::{Told, put_id};
 use std::alloc::Global;
 
 /// The models of a line that defines none (tools/probe.py and tools/probe_domain.py declare the
@@ -31,128 +32,146 @@ struct Caller {
 
 /// Adds the ids of the rows that meet the domain of an object, or the fault; of several domains
 /// each.
-pub(crate) fn put_domain(
-    alloc: Global,
-    times: u32,
-    json: &Json,
-    text: &mut String,
-) -> Result<(), Unanswered> {
+pub(crate) fn put_domain(alloc: Global, told: &mut Told, times: u32, json: &Json) {
     let models = match json.get("models") {
-        Some(models) => models.as_str().ok_or(Unanswered::Form)?,
+        Some(models) => text_of(told, models),
         None => MODELS,
     };
-    match schema_of(alloc, models) {
-        Ok(schema) => put_over(alloc, times, &schema, json, text),
-        Err(why) => Err(Unanswered::from(why)),
+    if let Some(schema) = schema_of(alloc, told, models) {
+        put_over(alloc, told, times, &schema, json);
     }
 }
 
 /// Adds what domains over a registry give.
-fn put_over(
-    alloc: Global,
-    times: u32,
-    schema: &Schema,
-    json: &Json,
-    text: &mut String,
-) -> Result<(), Unanswered> {
-    let name = text_part(json, "model")?;
-    let model = schema.model(name).ok_or(Unanswered::Form)?;
-    let user = id_of(part(json, "user")?)?;
+fn put_over(alloc: Global, told: &mut Told, times: u32, schema: &Schema, json: &Json) {
+    let name = text_part(told, json, "model");
+    let user = part(told, json, "user");
+    let user = id_of(told, user);
+    let Some(model) = schema.model(name) else {
+        return told.refuse();
+    };
     let caller = Caller { model, user };
-    let mut facts = RowFacts::of(alloc, schema, json)?;
-    let ids = facts.ids(model)?;
+    let mut facts = RowFacts::of(alloc, told, schema, json);
+    let ids = facts.ids(told, model);
     for _ in 1..times {
-        let mut unread = String::new(alloc);
-        put_domains(alloc, &mut facts, caller, ids.as_slice(), json, &mut unread)?;
+        let mut unread = Told::new(alloc);
+        put_domains(alloc, &mut unread, &mut facts, caller, ids.as_slice(), json);
     }
-    put_domains(alloc, &mut facts, caller, ids.as_slice(), json, text)
+    put_domains(alloc, told, &mut facts, caller, ids.as_slice(), json);
 }
 
 /// Adds what the domain of an object gives, or each of several.
 fn put_domains(
     alloc: Global,
+    told: &mut Told,
     facts: &mut RowFacts<'_>,
     caller: Caller,
     ids: &[RecId],
     json: &Json,
-    text: &mut String,
-) -> Result<(), Unanswered>
+)
     requires { HasModel facts.old.schema.now caller.model }
     ensures { facts.new.schema.now ≡ facts.old.schema.now }
 {
     match json.get("domains") {
-        Some(domains) => put_each(alloc, facts, caller, ids, items_of(domains)?, text),
-        None => put_asked(alloc, facts, caller, ids, part(json, "domain")?, text),
+        Some(domains) => {
+            let domains = items_of(told, domains);
+            put_each(alloc, told, facts, caller, ids, domains);
+        }
+        None => {
+            let domain = part(told, json, "domain");
+            put_asked(alloc, told, facts, caller, ids, domain);
+        }
     }
 }
 
 /// Adds what each of some domains gives.
 fn put_each(
     alloc: Global,
+    told: &mut Told,
     facts: &mut RowFacts<'_>,
     caller: Caller,
     ids: &[RecId],
     domains: &[Json],
-    text: &mut String,
-) -> Result<(), Unanswered>
+)
     requires { HasModel facts.old.schema.now caller.model }
     ensures { facts.new.schema.now ≡ facts.old.schema.now }
 {
+    let mut is_first = true;
     for domain in domains {
-        text.push_str(if text.is_empty() { "" } else { " | " })?;
-        put_asked(alloc, facts, caller, ids, domain, text)?;
+        told.put(if is_first { "" } else { " | " });
+        put_asked(alloc, told, facts, caller, ids, domain);
+        is_first = false;
     }
-    Ok(())
 }
 
 /// Adds what reading a domain and asking each of these rows gives.
 fn put_asked(
     alloc: Global,
+    told: &mut Told,
     facts: &mut RowFacts<'_>,
     caller: Caller,
     ids: &[RecId],
     json: &Json,
-    text: &mut String,
-) -> Result<(), Unanswered>
+)
     requires { HasModel facts.old.schema.now caller.model }
     ensures { facts.new.schema.now ≡ facts.old.schema.now }
 {
     match read(alloc, json, facts.schema(), caller.model) {
-        Ok(domain) => put_meeting(alloc, facts, &domain, caller, ids, text),
-        Err(DomainFault::NoMemory) => Err(Unanswered::NoMemory),
-        Err(fault) => Ok(write!(text, "{fault}")?),
+        Ok(domain) => put_meeting(alloc, told, facts, &domain, caller, ids),
+        Err(DomainFault::NoMemory) => told.lack(),
+        Err(fault) => told.put_shown(&fault),
     }
 }
 
 /// Adds the ids of those rows that meet a domain, and of those for which a question fails.
 fn put_meeting(
     alloc: Global,
+    told: &mut Told,
     facts: &mut RowFacts<'_>,
     domain: &Domain,
     caller: Caller,
     ids: &[RecId],
-    text: &mut String,
-) -> Result<(), Unanswered>
+)
     requires model { HasModel facts.old.schema.now caller.model }
     requires over { IsOver facts.old.schema.now caller.model (tree_of_domain domain.now) }
     ensures { facts.new.schema.now ≡ facts.old.schema.now }
 {
-    let mut is_first = true;
+    let mut meets_none = true;
     for id in ids {
-        let answer = match meets(alloc, facts, domain, caller, *id) {
-            Ok(true) => "",
-            Ok(false) => continue,
-            Err(Unanswered::Failed) => ":failed",
-            Err(why) => return Err(why),
-        };
-        text.push_str(if is_first { "" } else { " " })?;
-        write!(text, "{}{answer}", id.0)?;
-        is_first = false;
+        let before = if meets_none { "" } else { " " };
+        if put_one(alloc, told, facts, domain, caller, *id, before) {
+            meets_none = false;
+        }
     }
-    if is_first {
-        text.push_str("none")?;
+    if meets_none {
+        told.put("none");
     }
-    Ok(())
+}
+
+/// Adds the id of a row, where it meets a domain or a question fails, and whether it was added.
+fn put_one(
+    alloc: Global,
+    told: &mut Told,
+    facts: &mut RowFacts<'_>,
+    domain: &Domain,
+    caller: Caller,
+    id: RecId,
+    before: &str,
+) -> bool
+    requires model { HasModel facts.old.schema.now caller.model }
+    requires over { IsOver facts.old.schema.now caller.model (tree_of_domain domain.now) }
+    ensures { facts.new.schema.now ≡ facts.old.schema.now }
+{
+    match meets(alloc, facts, domain, caller, id) {
+        Ok(true) => put_id(told, before, id),
+        Ok(false) => return false,
+        Err(Unanswered::Failed) => {
+            put_id(told, before, id);
+            told.put(":failed");
+        }
+        Err(Unanswered::NoMemory) => told.lack(),
+    }
+    true
 }
 
 /// Whether a row is known and meets a domain.

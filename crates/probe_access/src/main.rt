@@ -3,13 +3,15 @@
 //! what an answer is, the contract of the library's call says.
 //!
 //! Rooms: `answer` tells a word from another; `domains` asks ob_domain and `accesses` asks
-//! ob_access, over the rows of `row_facts`; `policies` reads a policy, `unanswered` says why
-//! there is no answer. A further word gets its line in `answer`.
+//! ob_access, over the rows of `row_facts`; `fields` asks ob_domain for the fields of a domain;
+//! `policies` reads a policy, `unanswered` says why there is no answer. A further word gets its
+//! line in `answer`.
 #![tactic(auto)]
 
 mod accesses;
 mod answer;
 mod domains;
+mod fields;
 mod policies;
 mod row_facts;
 mod unanswered;

@@ -1,16 +1,20 @@
 //! Facts about rows from JSON: the `rows` of a case are a list, each `[MODEL, ID, VALUES]`, where
 //! VALUES is an object. A date and a moment are the texts that name them; a field without a
-//! value, or with `false`, is unset, 0, false or empty. Rows that aren't listed aren't known.
+//! value, or with `false`, is unset, 0, false or empty; a value of another type than its field's
+//! fails the question. Rows that aren't listed aren't known.
 //! With `answered` so many questions about each row that is asked for are answered.
 
-ghost use Rattle.std.specs.Prelude.{◌≡◌, IfOk};
+ghost use Rattle.std.specs.Prelude.{◌≡◌};
 
 use crate::unanswered::Unanswered;
-use ob_base::{Cell, FieldNo, ModelNo, NoMemory, RecId, RefList, Value, Word};
+use ob_base::{Cell, FieldNo, ModelNo, RecId, RefList, Sequence, Value};
 use ob_dates::{day_of, moment_of};
 use ob_domain::Json;
 use ob_schema::{Facts, FieldInfo, FieldType, Origin, Schema};
-use probe_parts::parts::{id_of, ids_of, items_of, list_part};
+use ob_tables::is_givable;
+use probe_parts::parts::{id_of, ids_of, items_of, list_part, text_of};
+use probe_parts::told::Told;
+use probe_parts::words::plain_word;
 use std::alloc::Global;
 use std::collections::BTreeMap;
 
@@ -27,20 +31,22 @@ pub(crate) struct RowFacts<'s> {
     pub(crate) answered: u64,
     /// How many questions are answered from here on.
     pub(crate) left: u64,
+    /// Whether a question that was asked wasn't to be answered.
+    pub(crate) has_failed: bool,
 }
 
 impl<'s> RowFacts<'s> {
     /// The facts of a case.
     pub(crate) fn of(
         alloc: Global,
+        told: &mut Told,
         schema: &'s Schema,
         case: &Json,
-    ) -> Result<RowFacts<'s>, Unanswered>
-        ensures { IfOk result (λ facts. facts.schema.now ≡ schema.now) }
+    ) -> RowFacts<'s>
+        ensures { result.schema.now ≡ schema.now }
     {
-        let rows = list_part(case, "rows")?;
         let answered = match case.get("answered") {
-            Some(count) => count.as_u64().ok_or(Unanswered::Form)?,
+            Some(count) => id_of(told, count).0,
             None => u64::MAX,
         };
         let mut facts = RowFacts {
@@ -49,21 +55,20 @@ impl<'s> RowFacts<'s> {
             cells: BTreeMap::new(alloc),
             answered,
             left: answered,
+            has_failed: false,
         };
-        match facts.add_all(rows) {
-            Ok(()) => Ok(facts),
-            Err(why) => Err(why),
-        }
+        let rows = list_part(told, case, "rows");
+        facts.add_all(told, rows);
+        facts
     }
 
     /// Adds rows.
-    fn add_all(&mut self, rows: &[Json]) -> Result<(), Unanswered>
+    fn add_all(&mut self, told: &mut Told, rows: &[Json])
         ensures { self.new.schema.now ≡ self.old.schema.now }
     {
         for row in rows {
-            self.add(row)?;
+            self.add(told, row);
         }
-        Ok(())
     }
 
     /// The registry of their models.
@@ -74,48 +79,48 @@ impl<'s> RowFacts<'s> {
     }
 
     /// Adds a row.
-    fn add(&mut self, row: &Json) -> Result<(), Unanswered>
+    fn add(&mut self, told: &mut Told, row: &Json)
         ensures { self.new.schema.now ≡ self.old.schema.now }
     {
-        let [name, id, values] = items_of(row)? else {
-            return Err(Unanswered::Form);
+        let [name, id, values] = items_of(told, row) else {
+            return told.refuse();
         };
-        let name = name.as_str().ok_or(Unanswered::Form)?;
+        let name = text_of(told, name);
         let schema = self.schema;
-        let model = schema.model(name).ok_or(Unanswered::Form)?;
-        let id = id_of(id)?;
+        let Some(model) = schema.model(name) else {
+            return told.refuse();
+        };
+        let id = id_of(told, id);
         for (place, field) in schema.fields(model).iter().enumerate() {
             let cell = Cell {
                 model,
                 id,
                 field: FieldNo(place as u16 + 1),
             };
-            self.add_cell(cell, field, values)?;
+            self.add_cell(told, cell, field, values);
         }
-        Ok(())
     }
 
     /// Adds the value of a field of a row.
-    fn add_cell(&mut self, cell: Cell, field: &FieldInfo, values: &Json) -> Result<(), Unanswered>
+    fn add_cell(&mut self, told: &mut Told, cell: Cell, field: &FieldInfo, values: &Json)
         ensures { self.new.schema.now ≡ self.old.schema.now }
     {
         let json = values.get(field.name.as_str());
-        let value = cell_value(self.alloc, field, cell.id, json)?;
-        match self.cells.insert(cell, value) {
-            Ok(_) => Ok(()),
-            Err(_) => Err(Unanswered::NoMemory),
+        let value = cell_value(self.alloc, told, field, cell.id, json);
+        if self.cells.insert(cell, value).is_err() {
+            told.lack();
         }
     }
 
     /// The ids of a model's rows.
-    pub(crate) fn ids(&self, model: ModelNo) -> Result<Vec<RecId>, NoMemory> {
-        let mut ids = Vec::new(self.alloc);
+    pub(crate) fn ids(&self, told: &mut Told, model: ModelNo) -> Sequence<RecId> {
+        let mut ids = Sequence::new(self.alloc);
         for cell in self.cells.keys() {
             if cell.model == model && cell.field == SOME_FIELD {
-                ids.push(cell.id)?;
+                told.add(&mut ids, cell.id);
             }
         }
-        Ok(ids)
+        ids
     }
 }
 
@@ -145,9 +150,10 @@ impl Facts for RowFacts<'_> {
 
     fn value(&mut self, cell: Cell) -> Result<Value, Unanswered> {
         self.left = self.left.checked_sub(1).ok_or(Unanswered::Failed)?;
+        let field = self.schema.info(cell.model, cell.field);
         match self.cells.get(&cell) {
-            Some(value) => Ok(value.try_clone(self.alloc)?),
-            None => Ok(Value::Nil),
+            Some(value) if is_givable(field, value) => Ok(value.try_clone(self.alloc)?),
+            _ => Err(Unanswered::Failed),
         }
     }
 }
@@ -155,34 +161,40 @@ impl Facts for RowFacts<'_> {
 /// The value of a field of a row, or what stands for nothing.
 fn cell_value(
     alloc: Global,
+    told: &mut Told,
     field: &FieldInfo,
     id: RecId,
     json: Option<&Json>,
-) -> Result<Value, Unanswered> {
+) -> Value {
     if let Origin::Id = &field.origin {
-        return match i64::try_from(id.0) {
-            Ok(number) => Ok(Value::Int(number)),
-            Err(_) => Err(Unanswered::Form),
-        };
+        return Value::Int(told.found(i64::try_from(id.0).ok(), 0));
     }
     match json {
-        Some(Json::Bool(flag)) if field.field_type == FieldType::Boolean => Ok(Value::Bool(*flag)),
-        Some(Json::Number(number)) => match field.field_type {
-            FieldType::Integer => Ok(Value::Int(number.as_i64().ok_or(Unanswered::Form)?)),
-            _ => Ok(Value::Ref(RecId(number.as_u64().ok_or(Unanswered::Form)?))),
-        },
-        Some(Json::String(text)) => text_value(alloc, field.field_type, text.as_str()),
-        Some(list @ Json::Array(_)) => Ok(Value::Refs(ids_of(alloc, list)?)),
-        _ => Ok(empty_value(alloc, field.field_type)),
+        Some(json) => given_value(alloc, told, field.field_type, json),
+        None => empty_value(alloc, field.field_type),
+    }
+}
+
+/// What JSON gives a field of the type.
+fn given_value(alloc: Global, told: &mut Told, field_type: FieldType, json: &Json) -> Value {
+    match json {
+        Json::Bool(flag) if field_type == FieldType::Boolean => Value::Bool(*flag),
+        Json::Number(_) if field_type == FieldType::Integer => {
+            Value::Int(told.found(json.as_i64(), 0))
+        }
+        Json::Number(_) => Value::Ref(id_of(told, json)),
+        Json::String(text) => text_value(alloc, told, field_type, text.as_str()),
+        Json::Array(_) => Value::Refs(ids_of(alloc, told, json)),
+        _ => empty_value(alloc, field_type),
     }
 }
 
 /// What a text gives a field of the type.
-fn text_value(alloc: Global, field_type: FieldType, text: &str) -> Result<Value, Unanswered> {
+fn text_value(alloc: Global, told: &mut Told, field_type: FieldType, text: &str) -> Value {
     match field_type {
-        FieldType::Date => Ok(Value::Day(day_of(text).ok_or(Unanswered::Form)?)),
-        FieldType::Datetime => Ok(Value::Moment(moment_of(text).ok_or(Unanswered::Form)?)),
-        _ => Ok(Value::Word(Word::from_text(alloc, text)?)),
+        FieldType::Date => Value::Day(told.found(day_of(text), 0)),
+        FieldType::Datetime => Value::Moment(told.found(moment_of(text), 0)),
+        _ => Value::Word(plain_word(alloc, told, text)),
     }
 }
 

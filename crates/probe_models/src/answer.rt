@@ -27,54 +27,42 @@
 //! last answer. `not asked` stands where a call requires what isn't so.
 
 use crate::engines::put_parts;
-use crate::modules::{loaded, read_through};
-use crate::schemas::built;
+use crate::modules::{put_loaded, put_reading};
+use crate::schemas::put_built;
 use crate::tables::put_cases;
-use ob_base::NoMemory;
-use probe_parts::parts::Json;
+use probe_parts::parts::json_of;
 use probe_parts::program::Probe;
-use probe_parts::undefined::Undefined;
-use probe_parts::words::told;
+use probe_parts::told::Told;
 use std::alloc::Global;
 
 /// The probe of models.
 pub(crate) struct Models;
 
 impl Probe for Models {
-    fn answer(
-        &self,
-        alloc: Global,
-        times: u32,
-        word: &str,
-        rest: &str,
-    ) -> Result<String, NoMemory> {
+    fn answer(&self, alloc: Global, told: &mut Told, times: u32, word: &str, rest: &str) {
         match word {
-            "schema" => built(alloc, times, rest),
-            "load" => loaded(alloc, times, rest),
-            "reads" => read_through(alloc, rest),
-            "tables" => of_json(alloc, times, true, rest),
-            "engine" => of_json(alloc, times, false, rest),
-            _ => told(alloc, "no word"),
+            "schema" => put_built(alloc, told, times, rest),
+            "load" => put_loaded(alloc, told, times, rest),
+            "reads" => put_reading(alloc, told, rest),
+            "tables" => put_of_json(alloc, told, times, true, rest),
+            "engine" => put_of_json(alloc, told, times, false, rest),
+            _ => told.put("no word"),
         }
     }
 }
 
-/// The answer to a line of JSON: of tables, or of an engine.
-fn of_json(alloc: Global, times: u32, is_of_tables: bool, rest: &str) -> Result<String, NoMemory> {
-    let json = match Json::from_str(alloc, rest) {
-        Ok(json) => json,
-        Err(error) if error.is_memory() => return Err(NoMemory),
-        Err(_) => return told(alloc, "no JSON"),
-    };
-    let mut text = String::new(alloc);
-    let put = if is_of_tables {
-        put_cases(alloc, times, &mut text, &json)
+/// Tells the answer to a line of JSON: of tables, or of an engine.
+fn put_of_json(alloc: Global, told: &mut Told, times: u32, is_of_tables: bool, rest: &str) {
+    let json = json_of(alloc, told, rest);
+    if told.is_malformed() {
+        return told.tell_instead(alloc, "no JSON");
+    }
+    if is_of_tables {
+        put_cases(alloc, told, times, &json);
     } else {
-        put_parts(alloc, &mut text, &json)
-    };
-    match put {
-        Ok(()) => Ok(text),
-        Err(Undefined::Form) => told(alloc, "no case"),
-        Err(Undefined::NoMemory) => Err(NoMemory),
+        put_parts(alloc, told, &json);
+    }
+    if told.is_malformed() {
+        told.tell_instead(alloc, "no case");
     }
 }

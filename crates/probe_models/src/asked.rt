@@ -1,235 +1,290 @@
 //! What an engine is asked between its steps: `["read", MODEL, ID, FIELD]` for a cell's value,
-//! `["next", MODEL]` for a model's next id, `["page", MODEL, AFTER, MOST]` for ids of its rows,
-//! `["holders", MODEL, FIELD, TARGET, AFTER, MOST]` for those that name a row; `["known", MODEL,
-//! ID, FIELD]` for a cell of a row where it is known, `["targets", SIDE, MODEL, ID, FIELD]` for
+//! `["settled", MODEL, ID, FIELD]` for the one that it had when edits were settled last, `["has",
+//! MODEL, ID]` for whether a row is there, `["next", MODEL]` for a model's next id, `["page",
+//! MODEL, AFTER, MOST]` for ids of its rows, `["holders", MODEL, FIELD, TARGET, AFTER, MOST]` for
+//! those that name a row by a plain kept relation; `["known", MODEL, ID, FIELD]` for a cell of a
+//! row where it is known, `["targets", SIDE, MODEL, ID, FIELD]` for
 //! the rows to which a cell leads and `["sources", SIDE, MODEL, FIELD, ID]` for those that lead
 //! to a row, where SIDE is `old` or `new`. A value is told as `told_tables` tells it, `["missing"]`
 //! where the row isn't there; a fault in its words.
 
-ghost use Rattle.std.specs.Prelude.{◌⊎◌, IfOk, IsTrue, OnOk};
-ghost use Rattle.ob_cache.specs.Stages.{IsPlainCell, IsStoredCell};
+ghost use Rattle.std.specs.Prelude.{◌⊎◌, IfSome, IsTrue};
+ghost use Rattle.ob_cache.specs.Stages.{IsKeptRelation, IsPlainCell, IsStoredCell, IsUsable};
 ghost use Rattle.ob_schema.specs.Links.{Leads};
 ghost use Rattle.ob_schema.specs.Models.{FieldHas, HasField, HasModel};
 ghost use Rattle.probe_models.specs.Steps.{IsReady, IsSame};
 
 use crate::edits::cell_of;
-use crate::told_models::put_number;
-use crate::told_tables::{NOT_ASKED, put_value};
-use ob_base::{Cell, ModelNo, NoMemory, RefList, Value};
+use crate::told_tables::{NOT_ASKED, put_fault, put_value};
+use ob_base::{Cell, ModelNo, RefList, Value};
 use ob_cache::{Engine, ReadFault};
 use ob_io::{KeepFault, MemKeeper};
 use ob_schema::{Facts, Links, Origin, Schema, Side};
 use probe_parts::parts::{Json, id_of};
-use probe_parts::told::put_list;
-use probe_parts::undefined::Undefined;
+use probe_parts::told::{Told, put_list};
 use std::alloc::Global;
 
 /// Adds what a question tells.
 pub(crate) fn put_asked(
     alloc: Global,
-    text: &mut String,
+    told: &mut Told,
     engine: &mut Engine<'_, MemKeeper>,
     is_settled: bool,
     word: &str,
     parts: &[Json],
-) -> Result<(), Undefined>
+)
     requires { IsReady is_settled engine.old.held }
-    ensures { OnOk result (IsSame engine.old.held engine.new.held) }
+    ensures { IsSame engine.old.held engine.new.held }
 {
     match word {
-        "next" => {
-            let next = next_asked(engine, is_settled, parts)?;
-            Ok(put_next(text, next)?)
-        }
+        "next" => put_next(told, engine, is_settled, parts),
         "read" => {
-            let value = value_asked(engine, is_settled, parts)?;
-            Ok(put_cell_value(alloc, text, value)?)
+            let value = value_asked(told, engine, is_settled, parts);
+            put_cell_value(alloc, told, value);
         }
         "known" => {
-            let value = known_asked(engine, is_settled, parts)?;
-            Ok(put_cell_value(alloc, text, value)?)
+            let value = known_asked(told, engine, is_settled, parts);
+            put_cell_value(alloc, told, value);
         }
-        _ => {
-            let ids = ids_asked(engine, is_settled, word, parts)?;
-            Ok(put_ids(text, ids)?)
+        "settled" => {
+            let value = settled_asked(told, engine, parts);
+            put_cell_value(alloc, told, value);
         }
+        "has" => put_row(told, engine, parts),
+        _ => match ids_asked(told, engine, is_settled, word, parts) {
+            Some(ids) => put_ids(told, ids),
+            None => told.refuse(),
+        },
     }
 }
 
-/// A model's next id.
-fn next_asked(
-    engine: &mut Engine<'_, MemKeeper>,
-    is_settled: bool,
-    parts: &[Json],
-) -> Result<Result<u64, KeepFault>, Undefined>
+/// Adds a model's next id.
+fn put_next(told: &mut Told, engine: &mut Engine<'_, MemKeeper>, is_settled: bool, parts: &[Json])
     requires { IsReady is_settled engine.old.held }
-    ensures { OnOk result (IsSame engine.old.held engine.new.held) }
+    ensures { IsSame engine.old.held engine.new.held }
 {
-    let [model] = parts else {
-        return Err(Undefined::Form);
+    let model = match parts {
+        [model] => model_in(engine.schema(), model),
+        _ => None,
     };
-    let model = model_in(engine.schema(), model)?;
-    Ok(engine.next_id(model))
+    let Some(model) = model else {
+        return told.refuse();
+    };
+    match engine.next_id(model) {
+        Ok(next) => told.put_count(next),
+        Err(fault) => put_fault(told, &fault),
+    }
 }
 
 /// The value of a cell, where it may be read.
 fn value_asked(
+    told: &mut Told,
     engine: &mut Engine<'_, MemKeeper>,
     is_settled: bool,
     parts: &[Json],
-) -> Result<Option<Result<Value, ReadFault>>, Undefined>
+) -> Option<Result<Value, ReadFault>>
     requires { IsReady is_settled engine.old.held }
-    ensures { OnOk result (IsSame engine.old.held engine.new.held) }
+    ensures { IsSame engine.old.held engine.new.held }
 {
-    let [model, id, field] = parts else {
-        return Err(Undefined::Form);
-    };
     let schema = engine.schema();
-    let cell = cell_in(schema, model, id, field)?;
+    let cell = cell_of_parts(told, schema, parts)?;
     if !is_settled && !is_readable(schema, cell) {
-        return Ok(None);
+        return None;
     }
-    Ok(Some(engine.read(cell)))
+    Some(engine.read(cell))
 }
 
-/// The value of a cell whose row is known, where nothing is staged.
+/// The value of a cell whose row is known.
 fn known_asked(
+    told: &mut Told,
     engine: &mut Engine<'_, MemKeeper>,
     is_settled: bool,
     parts: &[Json],
-) -> Result<Option<Result<Value, ReadFault>>, Undefined>
+) -> Option<Result<Value, ReadFault>>
     requires { IsReady is_settled engine.old.held }
-    ensures { OnOk result (IsSame engine.old.held engine.new.held) }
+    ensures { IsSame engine.old.held engine.new.held }
 {
-    let [model, id, field] = parts else {
-        return Err(Undefined::Form);
-    };
     let schema = engine.schema();
-    let cell = cell_in(schema, model, id, field)?;
-    if !is_settled {
-        return Ok(None);
-    }
+    let cell = cell_of_parts(told, schema, parts)?;
     match engine.known(cell.model, cell.id) {
-        Ok(true) => Ok(Some(engine.value(cell))),
-        Ok(false) => Ok(Some(Err(ReadFault::Missing))),
-        Err(fault) => Ok(Some(Err(fault))),
+        Ok(true) => Some(engine.value(cell)),
+        Ok(false) => Some(Err(ReadFault::Missing)),
+        Err(fault) => Some(Err(fault)),
     }
 }
 
-/// Ids of rows.
+/// The value of a cell as it was settled last.
+fn settled_asked(
+    told: &mut Told,
+    engine: &mut Engine<'_, MemKeeper>,
+    parts: &[Json],
+) -> Option<Result<Value, ReadFault>>
+    requires { IsUsable engine.old.held.phase }
+    ensures { IsSame engine.old.held engine.new.held }
+{
+    let schema = engine.schema();
+    let cell = cell_of_parts(told, schema, parts)?;
+    Some(engine.read_settled(cell))
+}
+
+/// Adds whether a row is there.
+fn put_row(told: &mut Told, engine: &mut Engine<'_, MemKeeper>, parts: &[Json])
+    requires { IsUsable engine.old.held.phase }
+    ensures { IsSame engine.old.held engine.new.held }
+{
+    let [model, id] = parts else {
+        return told.refuse();
+    };
+    let Some(model) = model_in(engine.schema(), model) else {
+        return told.refuse();
+    };
+    let id = id_of(told, id);
+    match engine.has_row(model, id) {
+        Ok(is_there) => told.put_bool(is_there),
+        Err(fault) => put_fault(told, &fault),
+    }
+}
+
+/// Ids of rows; none where the parts are of another form.
 fn ids_asked(
+    told: &mut Told,
     engine: &mut Engine<'_, MemKeeper>,
     is_settled: bool,
     word: &str,
     parts: &[Json],
-) -> Result<Result<RefList, KeepFault>, Undefined>
+) -> Option<Result<RefList, KeepFault>>
     requires { IsReady is_settled engine.old.held }
-    ensures { OnOk result (IsSame engine.old.held engine.new.held) }
+    ensures { IsSame engine.old.held engine.new.held }
 {
     let schema = engine.schema();
     match (word, parts) {
         ("page", [model, after, most]) => {
             let model = model_in(schema, model)?;
-            Ok(engine.page(model, id_of(after)?, count_of(most)?))
+            let (after, most) = (id_of(told, after), count_of(told, most));
+            Some(engine.page(model, after, most))
         }
         ("holders", [model, field, target, after, most]) => {
-            let at = cell_in(schema, model, target, field)?;
-            let (after, most) = (id_of(after)?, count_of(most)?);
-            Ok(engine.holders(at.model, at.field, at.id, after, most))
+            let at = naming_cell(told, schema, model, target, field)?;
+            let (after, most) = (id_of(told, after), count_of(told, most));
+            Some(engine.holders(at.model, at.field, at.id, after, most))
         }
         ("targets", [side, model, id, field]) => {
-            let at = leading_cell(schema, model, id, field)?;
-            Ok(engine.targets(side_of(side)?, at))
+            let at = leading_cell(told, schema, model, id, field)?;
+            Some(engine.targets(side_of(side)?, at))
         }
         ("sources", [side, model, field, id]) => {
-            let at = leading_cell(schema, model, id, field)?;
-            Ok(engine.sources(side_of(side)?, at.model, at.field, at.id))
+            let at = leading_cell(told, schema, model, id, field)?;
+            Some(engine.sources(side_of(side)?, at.model, at.field, at.id))
         }
-        _ => Err(Undefined::Form),
-    }
-}
-
-/// Adds a next id, or why none is told.
-fn put_next(text: &mut String, next: Result<u64, KeepFault>) -> Result<(), NoMemory> {
-    match next {
-        Ok(next) => put_number(text, "", next),
-        Err(fault) => Ok(write!(text, "\"{fault}\"")?),
+        _ => None,
     }
 }
 
 /// Adds ids, or why none are told.
-fn put_ids(text: &mut String, ids: Result<RefList, KeepFault>) -> Result<(), NoMemory> {
+fn put_ids(told: &mut Told, ids: Result<RefList, KeepFault>) {
     match ids {
-        Ok(ids) => put_list(text, ids.as_slice()),
-        Err(fault) => Ok(write!(text, "\"{fault}\"")?),
+        Ok(ids) => put_list(told, ids.as_slice()),
+        Err(fault) => put_fault(told, &fault),
     }
 }
 
 /// Adds a cell's value, or why none is told.
-fn put_cell_value(
-    alloc: Global,
-    text: &mut String,
-    value: Option<Result<Value, ReadFault>>,
-) -> Result<(), NoMemory> {
+fn put_cell_value(alloc: Global, told: &mut Told, value: Option<Result<Value, ReadFault>>) {
     match value {
-        None => Ok(text.push_str(NOT_ASKED)?),
-        Some(Ok(value)) => put_value(alloc, text, &value),
-        Some(Err(ReadFault::Missing)) => Ok(text.push_str("[\"missing\"]")?),
-        Some(Err(fault)) => Ok(write!(text, "\"{fault}\"")?),
+        None => told.put(NOT_ASKED),
+        Some(Ok(value)) => put_value(alloc, told, &value),
+        Some(Err(ReadFault::Missing)) => told.put("[\"missing\"]"),
+        Some(Err(fault)) => put_fault(told, &fault),
     }
 }
 
 /// A model of the registry by its name.
-fn model_in(schema: &Schema, json: &Json) -> Result<ModelNo, Undefined>
-    ensures { IfOk result (HasModel schema.now) }
+fn model_in(schema: &Schema, json: &Json) -> Option<ModelNo>
+    ensures { IfSome result (HasModel schema.now) }
 {
-    let Json::String(name) = json else {
-        return Err(Undefined::Form);
+    match json {
+        Json::String(name) => schema.model(name.as_str()),
+        _ => None,
+    }
+}
+
+/// The cell of the registry that a question is about; else it is of another form.
+fn cell_of_parts(told: &mut Told, schema: &Schema, parts: &[Json]) -> Option<Cell>
+    ensures { IfSome result (λ cell. HasField schema.now cell.model cell.field) }
+{
+    let cell = match parts {
+        [model, id, field] => cell_in(told, schema, model, id, field),
+        _ => None,
     };
-    schema.model(name.as_str()).ok_or(Undefined::Form)
+    if cell.is_none() {
+        told.refuse();
+    }
+    cell
 }
 
 /// A cell of the registry.
-fn cell_in(schema: &Schema, model: &Json, id: &Json, field: &Json) -> Result<Cell, Undefined>
-    ensures { IfOk result (λ cell. HasField schema.now cell.model cell.field) }
+fn cell_in(told: &mut Told, schema: &Schema, model: &Json, id: &Json, field: &Json) -> Option<Cell>
+    ensures { IfSome result (λ cell. HasField schema.now cell.model cell.field) }
 {
-    let cell = cell_of(schema, model_in(schema, model)?, id, field)?;
+    let model = model_in(schema, model)?;
+    let cell = cell_of(told, schema, model, id, field);
     match schema.find_field(cell.model, cell.field) {
-        Some(_) => Ok(cell),
-        None => Err(Undefined::Form),
+        Some(_) => Some(cell),
+        None => None,
     }
 }
 
 /// A cell of the registry that leads to rows.
-fn leading_cell(schema: &Schema, model: &Json, id: &Json, field: &Json) -> Result<Cell, Undefined>
-    ensures { IfOk result (λ cell. FieldHas schema.now Leads cell.model cell.field) }
+fn leading_cell(
+    told: &mut Told,
+    schema: &Schema,
+    model: &Json,
+    id: &Json,
+    field: &Json,
+) -> Option<Cell>
+    ensures { IfSome result (λ cell. FieldHas schema.now Leads cell.model cell.field) }
 {
-    let cell = cell_of(schema, model_in(schema, model)?, id, field)?;
-    let Some(info) = schema.find_field(cell.model, cell.field) else {
-        return Err(Undefined::Form);
-    };
+    let model = model_in(schema, model)?;
+    let cell = cell_of(told, schema, model, id, field);
+    let info = schema.find_field(cell.model, cell.field)?;
     match info.origin {
-        Origin::Id => Ok(cell),
-        Origin::Plain if info.field_type.is_relation() => Ok(cell),
-        _ => Err(Undefined::Form),
+        Origin::Id => Some(cell),
+        Origin::Plain if info.field_type.is_relation() => Some(cell),
+        _ => None,
+    }
+}
+
+/// A cell of the registry by whose field rows name others.
+fn naming_cell(
+    told: &mut Told,
+    schema: &Schema,
+    model: &Json,
+    id: &Json,
+    field: &Json,
+) -> Option<Cell>
+    ensures { IfSome result (λ cell. FieldHas schema.now IsKeptRelation cell.model cell.field) }
+{
+    let model = model_in(schema, model)?;
+    let cell = cell_of(told, schema, model, id, field);
+    match schema.find_field(cell.model, cell.field) {
+        Some(info) if info.is_plain_kept() && info.field_type.is_relation() => Some(cell),
+        _ => None,
     }
 }
 
 /// A side of what is staged.
-fn side_of(json: &Json) -> Result<Side, Undefined> {
+fn side_of(json: &Json) -> Option<Side> {
     match json.as_str() {
-        Some("old") => Ok(Side::Old),
-        Some("new") => Ok(Side::New),
-        _ => Err(Undefined::Form),
+        Some("old") => Some(Side::Old),
+        Some("new") => Some(Side::New),
+        _ => None,
     }
 }
 
 /// How many ids are told at most.
-fn count_of(json: &Json) -> Result<u32, Undefined> {
-    match u32::try_from(id_of(json)?.0) {
-        Ok(count) => Ok(count),
-        Err(_) => Err(Undefined::Form),
-    }
+fn count_of(told: &mut Told, json: &Json) -> u32 {
+    let count = id_of(told, json).0;
+    told.found(u32::try_from(count).ok(), 0)
 }
 
 /// Whether a cell may be read while edits are staged.

@@ -8,12 +8,12 @@ ghost use Rattle.ob_io.specs.Store.{Fits63, IsChangeFit, IsRowFit};
 
 use crate::edits::{field_of, model_of};
 use crate::steps::DONE;
-use crate::told_tables::NOT_ASKED;
-use ob_base::{ModelNo, Sequence};
+use crate::told_tables::{NOT_ASKED, put_fault};
+use ob_base::{FieldNo, ModelNo, RecId, Sequence};
 use ob_io::{Change, Keeper, KeptRow, Link, MemKeeper};
 use ob_schema::Schema;
 use probe_parts::parts::{Json, id_of, items_of};
-use probe_parts::undefined::Undefined;
+use probe_parts::told::Told;
 use probe_parts::words::bytes_of;
 use std::alloc::Global;
 
@@ -23,59 +23,90 @@ const END: u64 = 1 << 63;
 /// Adds what a change comes to.
 pub(crate) fn put_change(
     alloc: Global,
-    text: &mut String,
+    told: &mut Told,
     schema: &Schema,
     keeper: &mut MemKeeper,
     part: &[Json],
-) -> Result<(), Undefined> {
-    let change = change_of(alloc, schema, part)?;
-    if !is_fit(&change) {
-        return Ok(text.push_str(NOT_ASKED)?);
+) {
+    let change = change_of(alloc, told, schema, part);
+    if told.is_malformed() {
+        return;
     }
+    if is_fit(&change) {
+        put_commit(told, keeper, change);
+    } else {
+        told.put(NOT_ASKED);
+    }
+}
+
+/// Adds what keeping a change comes to.
+fn put_commit(told: &mut Told, keeper: &mut MemKeeper, change: Change)
+    requires { IsChangeFit change }
+{
     match keeper.commit(&[change]) {
-        Ok(()) => Ok(text.push_str(DONE)?),
-        Err(fault) => Ok(write!(text, "\"{fault}\"")?),
+        Ok(()) => told.put(DONE),
+        Err(fault) => put_fault(told, &fault),
     }
 }
 
 /// The change of a part.
-fn change_of(alloc: Global, schema: &Schema, part: &[Json]) -> Result<Change, Undefined> {
-    let [Json::String(word), model, id, parts @ ..] = part else {
-        return Err(Undefined::Form);
+fn change_of(alloc: Global, told: &mut Told, schema: &Schema, part: &[Json]) -> Change {
+    let (word, model, id, parts) = match part {
+        [Json::String(word), model, id, parts @ ..] => (
+            word.as_str(),
+            model_of(told, schema, model),
+            id_of(told, id),
+            parts,
+        ),
+        _ => ("", ModelNo(0), RecId(0), part),
     };
-    let model = model_of(schema, model)?;
-    let id = id_of(id)?;
-    match (word.as_str(), parts) {
-        ("gone", []) => Ok(Change::Gone { model, id }),
-        ("next", []) => Ok(Change::Next { model, next: id.0 }),
+    match (word, parts) {
+        ("gone", []) => Change::Gone { model, id },
+        ("next", []) => Change::Next { model, next: id.0 },
         ("put", [Json::String(digits), list]) => {
-            let bytes = bytes_of(alloc, digits.as_str())?.ok_or(Undefined::Form)?;
-            let links = links_of(alloc, schema, model, items_of(list)?)?;
-            let body = Sequence::from_vec(bytes);
+            let body = Sequence::from_vec(bytes_of(alloc, told, digits.as_str()));
+            let links = links_of(alloc, told, schema, model, list);
             let row = KeptRow { id, body, links };
-            Ok(Change::Put { model, row })
+            Change::Put { model, row }
         }
-        _ => Err(Undefined::Form),
+        _ => {
+            told.refuse();
+            Change::Gone { model, id }
+        }
     }
 }
 
 /// The links of a list.
 fn links_of(
     alloc: Global,
+    told: &mut Told,
     schema: &Schema,
     model: ModelNo,
-    list: &[Json],
-) -> Result<Sequence<Link>, Undefined> {
+    list: &Json,
+) -> Sequence<Link> {
     let mut links = Sequence::new(alloc);
-    for json in list {
-        let [field, target] = items_of(json)? else {
-            return Err(Undefined::Form);
-        };
-        let field = field_of(schema, model, field)?;
-        let target = id_of(target)?;
-        links.push(Link { field, target })?;
+    for json in items_of(told, list) {
+        let link = link_of(told, schema, model, json);
+        told.add(&mut links, link);
     }
-    Ok(links)
+    links
+}
+
+/// A link.
+fn link_of(told: &mut Told, schema: &Schema, model: ModelNo, json: &Json) -> Link {
+    match items_of(told, json) {
+        [field, target] => Link {
+            field: field_of(told, schema, model, field),
+            target: id_of(told, target),
+        },
+        _ => {
+            told.refuse();
+            Link {
+                field: FieldNo(0),
+                target: RecId(0),
+            }
+        }
+    }
 }
 
 /// Whether a keeper takes a change.

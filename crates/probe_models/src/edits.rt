@@ -14,20 +14,22 @@ use ob_base::{Cell, FieldNo, ModelNo, RecId, Sequence, Value, Word};
 use ob_schema::Schema;
 use ob_tables::{Edit, fits};
 use probe_parts::parts::{Json, id_of, ids_of, items_of, range_of};
-use probe_parts::undefined::Undefined;
+use probe_parts::told::Told;
+use probe_parts::words::plain_word;
 use std::alloc::Global;
 
 /// The edits of a list.
 pub(crate) fn edits(
     alloc: Global,
+    told: &mut Told,
     schema: &Schema,
     list: &[Json],
-) -> Result<Sequence<Edit>, Undefined> {
+) -> Sequence<Edit> {
     let mut edits = Sequence::new(alloc);
     for json in list {
-        add_edit(alloc, schema, &mut edits, json)?;
+        add_edit(alloc, told, schema, &mut edits, json);
     }
-    Ok(edits)
+    edits
 }
 
 /// Whether edits fit.
@@ -45,168 +47,195 @@ pub(crate) fn do_fit(schema: &Schema, edits: &[Edit]) -> bool
 /// Adds what one of them does.
 fn add_edit(
     alloc: Global,
+    told: &mut Told,
     schema: &Schema,
     edits: &mut Sequence<Edit>,
     json: &Json,
-) -> Result<(), Undefined> {
-    let [Json::String(word), model, id, parts @ ..] = items_of(json)? else {
-        return Err(Undefined::Form);
+) {
+    let [Json::String(word), model, id, parts @ ..] = items_of(told, json) else {
+        return told.refuse();
     };
-    let model = model_of(schema, model)?;
-    let id = id_of(id)?;
+    let model = model_of(told, schema, model);
+    let id = id_of(told, id);
     match (word.as_str(), parts) {
-        ("make", [values]) => add_makes(alloc, schema, edits, model, id, id, values),
+        ("make", [values]) => add_makes(alloc, told, schema, edits, model, id, id, values),
         ("makes", [last, values]) => {
-            let last = id_of(last)?;
-            add_makes(alloc, schema, edits, model, id, last, values)
+            let last = id_of(told, last);
+            add_makes(alloc, told, schema, edits, model, id, last, values);
         }
         ("set", [field, value]) => {
-            let field = field_of(schema, model, field)?;
-            let value = value_of(alloc, value)?;
+            let field = field_of(told, schema, model, field);
+            let value = value_of(alloc, told, value);
             let cell = Cell { model, id, field };
-            Ok(edits.push(Edit::Set { cell, value })?)
+            told.add(edits, Edit::Set { cell, value });
         }
-        ("gone", []) => Ok(edits.push(Edit::Gone { model, id })?),
-        _ => Err(Undefined::Form),
+        ("gone", []) => told.add(edits, Edit::Gone { model, id }),
+        _ => told.refuse(),
     }
 }
 
 /// Adds that each row of these ids is made, with the same values.
 fn add_makes(
     alloc: Global,
+    told: &mut Told,
     schema: &Schema,
     edits: &mut Sequence<Edit>,
     model: ModelNo,
     first: RecId,
     last: RecId,
     given: &Json,
-) -> Result<(), Undefined> {
+) {
     for id in first.0..=last.0 {
-        let values = values_of(alloc, schema, model, given)?;
+        if told.lacks_memory() || told.is_malformed() {
+            return;
+        }
         let id = RecId(id);
-        edits.push(Edit::Make { model, id, values })?;
+        let values = values_of(alloc, told, schema, model, given);
+        told.add(edits, Edit::Make { model, id, values });
     }
-    Ok(())
 }
 
 /// The values of a row that is made.
 fn values_of(
     alloc: Global,
+    told: &mut Told,
     schema: &Schema,
     model: ModelNo,
     given: &Json,
-) -> Result<Sequence<(FieldNo, Value)>, Undefined> {
+) -> Sequence<(FieldNo, Value)> {
     let mut values = Sequence::new(alloc);
-    for pair in items_of(given)? {
-        let [field, value] = items_of(pair)? else {
-            return Err(Undefined::Form);
-        };
-        let field = field_of(schema, model, field)?;
-        values.push((field, value_of(alloc, value)?))?;
+    for pair in items_of(told, given) {
+        add_value(alloc, told, schema, model, &mut values, pair);
     }
-    Ok(values)
+    values
+}
+
+/// Adds the value of a field.
+fn add_value(
+    alloc: Global,
+    told: &mut Told,
+    schema: &Schema,
+    model: ModelNo,
+    values: &mut Sequence<(FieldNo, Value)>,
+    pair: &Json,
+) {
+    let [field, value] = items_of(told, pair) else {
+        return told.refuse();
+    };
+    let field = field_of(told, schema, model, field);
+    let value = value_of(alloc, told, value);
+    told.add(values, (field, value));
 }
 
 /// The model of a name or a number.
-pub(crate) fn model_of(schema: &Schema, json: &Json) -> Result<ModelNo, Undefined> {
+pub(crate) fn model_of(told: &mut Told, schema: &Schema, json: &Json) -> ModelNo {
     match json {
-        Json::String(name) => schema.model(name.as_str()).ok_or(Undefined::Form),
-        _ => Ok(ModelNo(number_of(json)?)),
+        Json::String(name) => told.found(schema.model(name.as_str()), ModelNo(0)),
+        _ => ModelNo(number_of(told, json)),
     }
 }
 
 /// The field of a row, by its name or its number.
 pub(crate) fn cell_of(
+    told: &mut Told,
     schema: &Schema,
     model: ModelNo,
     id: &Json,
     field: &Json,
-) -> Result<Cell, Undefined> {
-    let id = id_of(id)?;
-    let field = field_of(schema, model, field)?;
-    Ok(Cell { model, id, field })
+) -> Cell {
+    let id = id_of(told, id);
+    let field = field_of(told, schema, model, field);
+    Cell { model, id, field }
 }
 
 /// The field of a name, a condition's too, or of a number.
-pub(crate) fn field_of(schema: &Schema, model: ModelNo, json: &Json) -> Result<FieldNo, Undefined> {
-    let Json::String(name) = json else {
-        return Ok(FieldNo(number_of(json)?));
-    };
+pub(crate) fn field_of(told: &mut Told, schema: &Schema, model: ModelNo, json: &Json) -> FieldNo {
+    match json {
+        Json::String(name) => told.found(named(schema, model, name.as_str()), FieldNo(0)),
+        _ => FieldNo(number_of(told, json)),
+    }
+}
+
+/// The field of a name.
+fn named(schema: &Schema, model: ModelNo, name: &str) -> Option<FieldNo> {
     for number in 1..u16::MAX {
         let field = FieldNo(number);
         match schema.find_field(model, field) {
-            Some(info) if info.name.as_str() == name.as_str() => return Ok(field),
+            Some(info) if info.name.as_str() == name => return Some(field),
             Some(_) => {}
-            None => break,
+            None => return None,
         }
     }
-    Err(Undefined::Form)
+    None
 }
 
 /// The number of a model or a field.
-fn number_of(json: &Json) -> Result<u16, Undefined> {
-    let Some(number) = json.as_u64() else {
-        return Err(Undefined::Form);
-    };
-    match u16::try_from(number) {
-        Ok(number) => Ok(number),
-        Err(_) => Err(Undefined::Form),
-    }
+fn number_of(told: &mut Told, json: &Json) -> u16 {
+    let number = id_of(told, json).0;
+    told.found(u16::try_from(number).ok(), 0)
 }
 
 /// A value.
-fn value_of(alloc: Global, json: &Json) -> Result<Value, Undefined> {
+fn value_of(alloc: Global, told: &mut Told, json: &Json) -> Value {
     match json {
-        Json::Null => Ok(Value::Nil),
-        Json::Bool(flag) => Ok(Value::Bool(*flag)),
-        Json::Number(_) => Ok(Value::Int(integer_of(json)?)),
-        Json::String(text) => Ok(Value::Word(Word::from_text(alloc, text.as_str())?)),
-        _ => named_value(alloc, json),
+        Json::Null => Value::Nil,
+        Json::Bool(flag) => Value::Bool(*flag),
+        Json::Number(_) => Value::Int(integer_of(told, json)),
+        Json::String(text) => Value::Word(plain_word(alloc, told, text.as_str())),
+        _ => named_value(alloc, told, json),
     }
 }
 
 /// An integer.
-fn integer_of(json: &Json) -> Result<i64, Undefined> {
-    json.as_i64().ok_or(Undefined::Form)
+fn integer_of(told: &mut Told, json: &Json) -> i64 {
+    told.found(json.as_i64(), 0)
 }
 
 /// A value whose sort is named.
-fn named_value(alloc: Global, json: &Json) -> Result<Value, Undefined> {
+fn named_value(alloc: Global, told: &mut Told, json: &Json) -> Value {
     if let Some(id) = json.get("id") {
-        return Ok(Value::Ref(id_of(id)?));
+        Value::Ref(id_of(told, id))
+    } else if let Some(ids) = json.get("ids") {
+        Value::Refs(ids_of(alloc, told, ids))
+    } else if let Some(ends) = json.get("range") {
+        Value::Refs(range_of(alloc, told, ends))
+    } else if let Some(parts) = json.get("word") {
+        Value::Word(repeated(alloc, told, parts))
+    } else {
+        time_value(told, json)
     }
-    if let Some(ids) = json.get("ids") {
-        return Ok(Value::Refs(ids_of(alloc, ids)?));
-    }
-    if let Some(ends) = json.get("range") {
-        return Ok(Value::Refs(range_of(alloc, ends)?));
-    }
-    if let Some(parts) = json.get("word") {
-        return Ok(Value::Word(repeated(alloc, parts)?));
-    }
-    time_value(json)
 }
 
 /// A day or a moment.
-fn time_value(json: &Json) -> Result<Value, Undefined> {
+fn time_value(told: &mut Told, json: &Json) -> Value {
     if let Some(day) = json.get("day") {
-        return match i32::try_from(integer_of(day)?) {
-            Ok(day) => Ok(Value::Day(day)),
-            Err(_) => Err(Undefined::Form),
-        };
+        let day = integer_of(told, day);
+        Value::Day(told.found(i32::try_from(day).ok(), 0))
+    } else if let Some(moment) = json.get("moment") {
+        Value::Moment(integer_of(told, moment))
+    } else {
+        told.refuse();
+        Value::Nil
     }
-    let moment = json.get("moment").ok_or(Undefined::Form)?;
-    Ok(Value::Moment(integer_of(moment)?))
 }
 
 /// The text of a count and a text, so many times.
-fn repeated(alloc: Global, parts: &Json) -> Result<Word, Undefined> {
-    let [count, Json::String(text)] = items_of(parts)? else {
-        return Err(Undefined::Form);
-    };
+fn repeated(alloc: Global, told: &mut Told, parts: &Json) -> Word {
     let mut whole = String::new(alloc);
-    for _ in 0..id_of(count)?.0 {
-        whole.push_str(text.as_str())?;
+    if let [count, Json::String(text)] = items_of(told, parts) {
+        let count = id_of(told, count);
+        add_repeated(told, &mut whole, count.0, text.as_str());
+    } else {
+        told.refuse();
     }
-    Ok(Word::new(whole))
+    Word::new(whole)
+}
+
+/// Adds a text so many times.
+fn add_repeated(told: &mut Told, whole: &mut String, count: u64, text: &str) {
+    for _ in 0..count {
+        if whole.push_str(text).is_err() {
+            return told.lack();
+        }
+    }
 }

@@ -5,91 +5,106 @@
 
 use crate::changes::put_change;
 use crate::steps::put_steps;
-use crate::told_tables::put_cell;
-use ob_base::{NoMemory, Sequence};
+use crate::told_tables::{put_cell, put_fault};
+use ob_base::Sequence;
 use ob_cache::{Engine, OpenFault};
 use ob_io::MemKeeper;
 use ob_schema::Schema;
 use probe_parts::definitions::schema_of;
 use probe_parts::parts::{Json, id_of, items_of, list_part, text_part};
-use probe_parts::undefined::Undefined;
+use probe_parts::told::Told;
 use std::alloc::Global;
 
 /// How many rows an engine may hold.
 const CAPACITY: u32 = 16;
 
 /// Adds what the parts of a line come to.
-pub(crate) fn put_parts(alloc: Global, text: &mut String, json: &Json) -> Result<(), Undefined> {
-    let schema = schema_of(alloc, text_part(json, "definitions")?)?;
-    let fails = numbers_of(alloc, list_part(json, "fails")?)?;
-    let parts = list_part(json, "parts")?;
-    let mut keeper = MemKeeper::new(alloc, Vec::new(alloc), Vec::new(alloc), fails)?;
-    text.push_str("[")?;
+pub(crate) fn put_parts(alloc: Global, told: &mut Told, json: &Json) {
+    let definitions = text_part(told, json, "definitions");
+    let fails = list_part(told, json, "fails");
+    let fails = numbers_of(alloc, told, fails);
+    let parts = list_part(told, json, "parts");
+    let Some(schema) = schema_of(alloc, told, definitions) else {
+        return;
+    };
+    match MemKeeper::new(alloc, Vec::new(alloc), Vec::new(alloc), fails) {
+        Ok(mut keeper) => put_each(alloc, told, &schema, &mut keeper, parts),
+        Err(_) => told.lack(),
+    }
+}
+
+/// Adds what parts come to, as a list.
+fn put_each(
+    alloc: Global,
+    told: &mut Told,
+    schema: &Schema,
+    keeper: &mut MemKeeper,
+    parts: &[Json],
+) {
+    told.put("[");
     let mut between = "";
     for part in parts {
-        text.push_str(between)?;
-        put_part(alloc, text, &schema, &mut keeper, items_of(part)?)?;
+        told.put(between);
+        let part = items_of(told, part);
+        put_part(alloc, told, schema, keeper, part);
         between = ",";
     }
-    Ok(text.push_str("]")?)
+    told.put("]");
 }
 
 /// The numbers of a list.
-fn numbers_of(alloc: Global, list: &[Json]) -> Result<Vec<u64>, Undefined> {
+fn numbers_of(alloc: Global, told: &mut Told, list: &[Json]) -> Vec<u64> {
     let mut numbers = Sequence::new(alloc);
     for json in list {
-        numbers.push(id_of(json)?.0)?;
+        let number = id_of(told, json).0;
+        told.add(&mut numbers, number);
     }
-    Ok(numbers.into_vec())
+    numbers.into_vec()
 }
 
 /// Adds what a part comes to.
 fn put_part(
     alloc: Global,
-    text: &mut String,
+    told: &mut Told,
     schema: &Schema,
     keeper: &mut MemKeeper,
     part: &[Json],
-) -> Result<(), Undefined> {
+) {
     match part {
         [Json::String(word), steps @ ..] if word.as_str() == "run" => {
-            put_run(alloc, text, schema, keeper, steps)
+            put_run(alloc, told, schema, keeper, steps);
         }
-        _ => put_change(alloc, text, schema, keeper, part),
+        _ => put_change(alloc, told, schema, keeper, part),
     }
 }
 
 /// Adds what the steps of a run tell.
 fn put_run(
     alloc: Global,
-    text: &mut String,
+    told: &mut Told,
     schema: &Schema,
     keeper: &mut MemKeeper,
     steps: &[Json],
-) -> Result<(), Undefined> {
+) {
     match Engine::begin(alloc, keeper, schema, CAPACITY) {
         Ok(mut engine) => {
-            put_steps(alloc, text, &mut engine, steps)?;
+            put_steps(alloc, told, &mut engine, steps);
             let _keeper = engine.close();
-            Ok(())
         }
-        Err(unopened) => Ok(put_unopened(alloc, text, schema, unopened.fault)?),
+        Err(unopened) => put_unopened(alloc, told, schema, unopened.fault),
     }
 }
 
 /// Adds why what is kept isn't opened.
-fn put_unopened(
-    alloc: Global,
-    text: &mut String,
-    schema: &Schema,
-    fault: OpenFault,
-) -> Result<(), NoMemory> {
+fn put_unopened(alloc: Global, told: &mut Told, schema: &Schema, fault: OpenFault) {
+    told.put("{\"fault\":");
     match fault {
         OpenFault::Inconsistent(cell) => {
-            text.push_str("{\"fault\":[")?;
-            put_cell(alloc, text, schema, cell)?;
-            Ok(text.push_str("]}")?)
+            told.put("[");
+            put_cell(alloc, told, schema, cell);
+            told.put("]");
         }
-        fault => Ok(write!(text, "{{\"fault\":\"{fault}\"}}")?),
+        fault => put_fault(told, &fault),
     }
+    told.put("}");
 }

@@ -2,72 +2,105 @@
 //! of a line has the names of the modules, with `:` between two; each further word is a file
 //! of the folder `m`: its name, `=`, and its text. Words are written as in DEFINITIONS.
 
-use crate::told_models::told_schema;
-use ob_base::{NoMemory, Word};
+use crate::told_models::put_schema;
+use ob_base::{NoMemory, Sequence, Word};
 use ob_io::MemFiles;
 use ob_load::{LoadFault, load};
-use probe_parts::words::{told, unescaped};
+use probe_parts::told::Told;
+use probe_parts::words::{first_word, unescaped, word_of};
 use std::alloc::Global;
 
-/// The registry that the modules of a line mean, or their first fault.
-pub(crate) fn loaded(alloc: Global, times: u32, line: &str) -> Result<String, NoMemory> {
-    let (names, texts) = line.split_once(' ').unwrap_or((line, ""));
-    let names = names_of(alloc, names)?;
-    let mut files = files_of(alloc, texts, 0)?;
+/// Adds the registry that the modules of a line mean, or their first fault.
+pub(crate) fn put_loaded(alloc: Global, told: &mut Told, times: u32, line: &str) {
+    let (names, texts) = first_word(line);
+    let names = names_of(alloc, told, names);
+    match files_of(alloc, told, texts, 0) {
+        Ok(mut files) => put_load(alloc, told, times, &mut files, names.as_slice()),
+        Err(_) => told.lack(),
+    }
+}
+
+/// Adds the registry that modules mean, or their first fault.
+fn put_load(alloc: Global, told: &mut Told, times: u32, files: &mut MemFiles, names: &[Word]) {
     for _ in 1..times {
-        let _ = load(alloc, &mut files, "m", names.as_slice());
+        let _ = load(alloc, files, "m", names);
     }
-    match load(alloc, &mut files, "m", names.as_slice()) {
-        Ok(loaded) => told_schema(alloc, &loaded.schema),
-        Err(fault) => told_fault(alloc, fault),
+    match load(alloc, files, "m", names) {
+        Ok(loaded) => put_schema(alloc, told, &loaded.schema),
+        Err(fault) => put_fault(told, &fault),
     }
 }
 
-/// Whether the modules of a line are loaded, or their first fault, where the read of the number
-/// before them fails.
-pub(crate) fn read_through(alloc: Global, line: &str) -> Result<String, NoMemory> {
-    let (fails, line) = line.split_once(' ').unwrap_or(("", line));
-    let (names, texts) = line.split_once(' ').unwrap_or((line, ""));
-    let Ok(fails) = fails.parse() else {
-        return told(alloc, "no number");
+/// Adds whether the modules of a line are loaded, or their first fault, where the read of the
+/// number before them fails.
+pub(crate) fn put_reading(alloc: Global, told: &mut Told, line: &str) {
+    let (fails, line) = match line.split_once(' ') {
+        Some(both) => both,
+        None => ("", line),
     };
-    let names = names_of(alloc, names)?;
-    let mut files = files_of(alloc, texts, fails)?;
-    match load(alloc, &mut files, "m", names.as_slice()) {
-        Ok(_) => told(alloc, "loaded"),
-        Err(fault) => told_fault(alloc, fault),
+    let Ok(fails) = fails.parse() else {
+        return told.put("no number");
+    };
+    let (names, texts) = first_word(line);
+    let names = names_of(alloc, told, names);
+    match files_of(alloc, told, texts, fails) {
+        Ok(mut files) => put_read(alloc, told, &mut files, names.as_slice()),
+        Err(_) => told.lack(),
     }
 }
 
-/// A fault, where memory isn't wanting.
-fn told_fault(alloc: Global, fault: LoadFault) -> Result<String, NoMemory> {
+/// Adds whether modules are loaded, or their first fault.
+fn put_read(alloc: Global, told: &mut Told, files: &mut MemFiles, names: &[Word]) {
+    match load(alloc, files, "m", names) {
+        Ok(_) => told.put("loaded"),
+        Err(fault) => put_fault(told, &fault),
+    }
+}
+
+/// Adds a fault, where memory isn't wanting.
+fn put_fault(told: &mut Told, fault: &LoadFault) {
     match fault {
-        LoadFault::NoMemory => Err(NoMemory),
-        fault => Ok(format!(in alloc; "{fault}")?),
+        LoadFault::NoMemory => told.lack(),
+        fault => told.put_shown(fault),
     }
 }
 
 /// The names of modules, with `:` between two.
-fn names_of(alloc: Global, names: &str) -> Result<Vec<Word>, NoMemory> {
-    let mut all = Vec::new(alloc);
+fn names_of(alloc: Global, told: &mut Told, names: &str) -> Sequence<Word> {
+    let mut all = Sequence::new(alloc);
     for name in names.split(':') {
         if !name.is_empty() {
-            all.push(Word::new(unescaped(alloc, name)?))?;
+            let name = word_of(alloc, told, name);
+            told.add(&mut all, name);
         }
     }
-    Ok(all)
+    all
 }
 
 /// The files of a line, of which the read of this number fails.
-fn files_of(alloc: Global, line: &str, fails: u64) -> Result<MemFiles, NoMemory> {
-    let mut pairs = Vec::new(alloc);
+fn files_of(alloc: Global, told: &mut Told, line: &str, fails: u64) -> Result<MemFiles, NoMemory> {
+    let mut files = Sequence::new(alloc);
     for word in line.split(' ') {
         if let Some((name, text)) = word.split_once('=') {
-            let name = unescaped(alloc, name)?;
-            let path = format!(in alloc; "m/{}.toml", name.as_str())?;
-            let text = unescaped(alloc, text)?;
-            pairs.push((Word::new(path), text.into_bytes()))?;
+            add_file(alloc, told, &mut files, name, text);
         }
     }
-    MemFiles::new(alloc, pairs, vec![in alloc; fails]?)
+    MemFiles::new(alloc, files.into_vec(), vec![in alloc; fails]?)
+}
+
+/// Adds a file of the folder `m`.
+fn add_file(
+    alloc: Global,
+    told: &mut Told,
+    files: &mut Sequence<(Word, Vec<u8>)>,
+    name: &str,
+    text: &str,
+) {
+    let mut path = Told::new(alloc);
+    path.put("m/");
+    path.put(unescaped(alloc, told, name).as_str());
+    path.put(".toml");
+    let path = told.take(path);
+    let text = unescaped(alloc, told, text);
+    told.add(files, (Word::new(path), text.into_bytes()));
 }

@@ -1,49 +1,51 @@
 //! The registry that definitions make, or their first fault.
 
-use crate::told_models::{put_number, told_schema};
-use ob_base::NoMemory;
-use ob_schema::{Schema, SchemaFault, Spot};
+use crate::told_models::{put_number, put_schema};
+use ob_base::Sequence;
+use ob_schema::{ModelDef, Schema, SchemaFault, Spot};
 use probe_parts::definitions::definitions;
-use probe_parts::told::put_text;
-use probe_parts::undefined::Undefined;
-use probe_parts::words::told;
+use probe_parts::told::{Told, put_text};
 use std::alloc::Global;
 
-/// The registry that the definitions of a line make, or their first fault.
-pub(crate) fn built(alloc: Global, times: u32, line: &str) -> Result<String, NoMemory> {
-    let definitions = match definitions(alloc, line) {
-        Ok(definitions) => definitions,
-        Err(Undefined::Form) => return told(alloc, "not asked"),
-        Err(Undefined::NoMemory) => return Err(NoMemory),
-    };
+/// Adds the registry that the definitions of a line make, or their first fault.
+pub(crate) fn put_built(alloc: Global, told: &mut Told, times: u32, line: &str) {
+    let definitions = definitions(alloc, told, line);
+    if told.is_malformed() {
+        told.tell_instead(alloc, "not asked");
+    } else {
+        put_made(alloc, told, times, &definitions);
+    }
+}
+
+/// Adds the registry that definitions make, or their first fault.
+fn put_made(alloc: Global, told: &mut Told, times: u32, definitions: &Sequence<ModelDef>) {
     for _ in 1..times {
         let _ = Schema::build(alloc, definitions.as_slice());
     }
     match Schema::build(alloc, definitions.as_slice()) {
-        Ok(schema) => told_schema(alloc, &schema),
-        Err(fault) => told_fault(alloc, &fault),
+        Ok(schema) => put_schema(alloc, told, &schema),
+        Err(fault) => put_fault(alloc, told, &fault),
     }
 }
 
-/// A fault, with its variant's words.
-fn told_fault(alloc: Global, fault: &SchemaFault) -> Result<String, NoMemory> {
+/// Adds a fault, with its variant's words.
+fn put_fault(alloc: Global, told: &mut Told, fault: &SchemaFault) {
     let Some(spot) = fault.spot() else {
-        return Err(NoMemory);
+        return told.lack();
     };
-    let mut text = format!(in alloc; "{fault}")?;
-    put_spot(alloc, &mut text, spot)?;
+    told.put_shown(fault);
+    put_spot(alloc, told, spot);
     if let SchemaFault::Text(_, why) = fault {
-        write!(&mut text, ": {why}")?;
+        told.put(": ");
+        told.put_shown(why);
     }
-    Ok(text)
 }
 
 /// Adds where a fault is: the entry's place, and the field if it is at one.
-fn put_spot(alloc: Global, text: &mut String, spot: &Spot) -> Result<(), NoMemory> {
-    put_number(text, " at ", u64::from(spot.entry))?;
+fn put_spot(alloc: Global, told: &mut Told, spot: &Spot) {
+    put_number(told, " at ", u64::from(spot.entry));
     if !spot.field.is_empty() {
-        text.push_str(" ")?;
-        put_text(alloc, text, spot.field.as_str())?;
+        told.put(" ");
+        put_text(alloc, told, spot.field.as_str());
     }
-    Ok(())
 }

@@ -4,7 +4,7 @@
 //! (`asked`). `["not asked"]` is told of edits that don't fit, of those that make a row whose id
 //! is past the greatest one that a keeper keeps, and of a flush while edits are staged.
 
-ghost use Rattle.std.specs.Prelude.{All, IfOk, IsTrue, OnOk, false, true};
+ghost use Rattle.std.specs.Prelude.{All, IsTrue, false, true};
 ghost use Rattle.ob_base.specs.declared.id.ModelNo.{ModelNo};
 ghost use Rattle.ob_cache.specs.Standing.{max_next_id};
 ghost use Rattle.ob_tables.specs.Changes.{MakesBelow};
@@ -12,13 +12,13 @@ ghost use Rattle.probe_models.specs.Steps.{IsReady};
 
 use crate::asked::put_asked;
 use crate::edits::{do_fit, edits};
-use crate::told_tables::{NOT_ASKED, put_broken};
-use ob_base::{NoMemory, Silent, Steps};
+use crate::told_tables::{NOT_ASKED, put_broken, put_fault};
+use ob_base::{Silent, Steps};
 use ob_cache::{Engine, SettleFault};
 use ob_io::MemKeeper;
 use ob_tables::Edit;
 use probe_parts::parts::{Json, items_of};
-use probe_parts::undefined::Undefined;
+use probe_parts::told::Told;
 use std::alloc::Global;
 
 /// What a step tells that gives nothing else.
@@ -27,59 +27,61 @@ pub(crate) const DONE: &str = "\"done\"";
 /// Adds what the steps of a run tell.
 pub(crate) fn put_steps(
     alloc: Global,
-    text: &mut String,
+    told: &mut Told,
     engine: &mut Engine<'_, MemKeeper>,
     steps: &[Json],
-) -> Result<(), Undefined>
+)
     requires { IsReady true engine.old.held }
 {
-    text.push_str("[")?;
+    told.put("[");
     let mut is_settled = true;
     let mut between = "";
     for step in steps {
-        text.push_str(between)?;
-        is_settled = put_step(alloc, text, engine, is_settled, items_of(step)?)?;
+        told.put(between);
+        let step = items_of(told, step);
+        is_settled = put_step(alloc, told, engine, is_settled, step);
         between = ",";
     }
-    Ok(text.push_str("]")?)
+    told.put("]");
 }
 
 /// Adds what a step tells, and whether nothing is staged behind it.
 fn put_step(
     alloc: Global,
-    text: &mut String,
+    told: &mut Told,
     engine: &mut Engine<'_, MemKeeper>,
     is_settled: bool,
     step: &[Json],
-) -> Result<bool, Undefined>
+) -> bool
     requires { IsReady is_settled engine.old.held }
-    ensures { IfOk result (λ now. IsReady now engine.new.held) }
+    ensures { IsReady result engine.new.held }
 {
     let [Json::String(word), parts @ ..] = step else {
-        return Err(Undefined::Form);
+        told.refuse();
+        return is_settled;
     };
     match word.as_str() {
-        "stage" => put_staged(alloc, text, engine, is_settled, parts),
+        "stage" => put_staged(alloc, told, engine, is_settled, parts),
         "settle" => {
-            put_settled(alloc, text, engine)?;
-            Ok(true)
+            put_settled(alloc, told, engine);
+            true
         }
         "flush" if is_settled => {
-            put_flushed(text, engine)?;
-            Ok(true)
+            put_flushed(told, engine);
+            true
         }
         "flush" => {
-            text.push_str(NOT_ASKED)?;
-            Ok(is_settled)
+            told.put(NOT_ASKED);
+            is_settled
         }
         "forget" => {
             engine.forget();
-            text.push_str(DONE)?;
-            Ok(true)
+            told.put(DONE);
+            true
         }
         word => {
-            put_asked(alloc, text, engine, is_settled, word, parts)?;
-            Ok(is_settled)
+            put_asked(alloc, told, engine, is_settled, word, parts);
+            is_settled
         }
     }
 }
@@ -87,29 +89,29 @@ fn put_step(
 /// Adds what staging edits tells, and whether nothing is staged behind it.
 fn put_staged(
     alloc: Global,
-    text: &mut String,
+    told: &mut Told,
     engine: &mut Engine<'_, MemKeeper>,
     is_settled: bool,
     list: &[Json],
-) -> Result<bool, Undefined>
+) -> bool
     requires { IsReady is_settled engine.old.held }
-    ensures { IfOk result (λ now. IsReady now engine.new.held) }
+    ensures { IsReady result engine.new.held }
 {
     let schema = engine.schema();
-    let given = edits(alloc, schema, list)?;
+    let given = edits(alloc, told, schema, list);
     if !do_fit(schema, given.as_slice()) || !are_low(given.as_slice()) {
-        text.push_str(NOT_ASKED)?;
-        return Ok(is_settled);
+        told.put(NOT_ASKED);
+        return is_settled;
     }
     match engine.stage(given.as_slice()) {
         Ok(()) => {
-            text.push_str(DONE)?;
-            Ok(false)
+            told.put(DONE);
+            false
         }
         Err(fault) => {
             engine.forget();
-            write!(text, "\"{fault}\"")?;
-            Ok(true)
+            put_fault(told, &fault);
+            true
         }
     }
 }
@@ -137,37 +139,33 @@ fn is_low(edit: &Edit) -> bool
 }
 
 /// Adds what a settle tells.
-fn put_settled(
-    alloc: Global,
-    text: &mut String,
-    engine: &mut Engine<'_, MemKeeper>,
-) -> Result<(), NoMemory>
+fn put_settled(alloc: Global, told: &mut Told, engine: &mut Engine<'_, MemKeeper>)
     requires { IsReady false engine.old.held }
-    ensures { OnOk result (IsReady true engine.new.held) }
+    ensures { IsReady true engine.new.held }
 {
     match engine.settle(&mut Steps::new(Silent)) {
-        Ok(()) => Ok(text.push_str(DONE)?),
+        Ok(()) => told.put(DONE),
         Err(SettleFault::Broken(broken)) => {
             engine.forget();
-            put_broken(alloc, text, engine.schema(), broken)
+            put_broken(alloc, told, engine.schema(), broken);
         }
         Err(fault) => {
             engine.forget();
-            Ok(write!(text, "\"{fault}\"")?)
+            put_fault(told, &fault);
         }
     }
 }
 
 /// Adds what a flush tells.
-fn put_flushed(text: &mut String, engine: &mut Engine<'_, MemKeeper>) -> Result<(), NoMemory>
+fn put_flushed(told: &mut Told, engine: &mut Engine<'_, MemKeeper>)
     requires { IsReady true engine.old.held }
-    ensures { OnOk result (IsReady true engine.new.held) }
+    ensures { IsReady true engine.new.held }
 {
     match engine.flush() {
-        Ok(()) => Ok(text.push_str(DONE)?),
+        Ok(()) => told.put(DONE),
         Err(fault) => {
             engine.forget();
-            Ok(write!(text, "\"{fault}\"")?)
+            put_fault(told, &fault);
         }
     }
 }

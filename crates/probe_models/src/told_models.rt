@@ -3,98 +3,88 @@
 //! aren't set are left out.
 
 use crate::told_fields::put_field;
-use ob_base::{FieldNo, ModelNo, NoMemory};
+use ob_base::{FieldNo, ModelNo};
 use ob_schema::{ModelInfo, Schema};
+use probe_parts::told::Told;
 use std::alloc::Global;
 
-/// A whole registry.
-pub(crate) fn told_schema(alloc: Global, schema: &Schema) -> Result<String, NoMemory> {
-    let mut text = String::new(alloc);
+/// Adds a whole registry.
+pub(crate) fn put_schema(alloc: Global, told: &mut Told, schema: &Schema) {
     for number in 1..u16::MAX {
         let Some(model) = schema.find_model(ModelNo(number)) else {
             break;
         };
         if number > 1 {
-            text.push_str(" || ")?;
+            told.put(" || ");
         }
-        put_model(alloc, &mut text, model)?;
+        put_model(alloc, told, model);
     }
-    if text.is_empty() {
-        text.push_str("none")?;
+    if told.is_empty() {
+        told.put("none");
     }
-    Ok(text)
 }
 
 /// Adds a model with its fields.
-fn put_model(alloc: Global, text: &mut String, model: &ModelInfo) -> Result<(), NoMemory> {
-    text.push_str(model.name.as_str())?;
-    put_model_keys(text, model)?;
-    put_orders(text, model)?;
+fn put_model(alloc: Global, told: &mut Told, model: &ModelInfo) {
+    told.put(model.name.as_str());
+    put_model_keys(told, model);
+    put_orders(told, model);
     for field in model.fields.as_slice() {
-        text.push_str(" | ")?;
-        put_field(alloc, text, field)?;
+        told.put(" | ");
+        put_field(alloc, told, field);
     }
     for field in model.hidden.as_slice() {
-        text.push_str(" | hidden ")?;
-        put_field(alloc, text, field)?;
+        told.put(" | hidden ");
+        put_field(alloc, told, field);
     }
-    Ok(())
 }
 
 /// Adds what a model has beside its fields and its order.
-fn put_model_keys(text: &mut String, model: &ModelInfo) -> Result<(), NoMemory> {
-    put_flag(text, " managed", model.managed)?;
-    put_place(text, " parent=", model.parent)?;
+fn put_model_keys(told: &mut Told, model: &ModelInfo) {
+    put_flag(told, " managed", model.managed);
+    put_place(told, " parent=", model.parent);
     for parent in model.inherits.as_slice() {
-        put_number(text, " inherits=", u64::from(parent.link.0))?;
-        put_number(text, ":", u64::from(parent.model.0))?;
+        put_number(told, " inherits=", u64::from(parent.link.0));
+        put_number(told, ":", u64::from(parent.model.0));
     }
     for fields in model.unique.as_slice() {
-        put_places(text, " unique=", fields.as_slice())?;
+        put_places(told, " unique=", fields.as_slice());
     }
-    Ok(())
 }
 
 /// Adds the terms of a model's order.
-fn put_orders(text: &mut String, model: &ModelInfo) -> Result<(), NoMemory> {
+fn put_orders(told: &mut Told, model: &ModelInfo) {
     for term in model.order.as_slice() {
-        put_number(text, " order=", u64::from(term.field.0))?;
-        text.push_str(if term.descending { ":desc" } else { ":asc" })?;
+        put_number(told, " order=", u64::from(term.field.0));
+        told.put(if term.descending { ":desc" } else { ":asc" });
     }
-    Ok(())
 }
 
 /// Adds numbers of fields after what stands before them.
-fn put_places(text: &mut String, before: &str, fields: &[FieldNo]) -> Result<(), NoMemory> {
+fn put_places(told: &mut Told, before: &str, fields: &[FieldNo]) {
     let mut between = before;
     for field in fields {
-        put_number(text, between, u64::from(field.0))?;
+        put_number(told, between, u64::from(field.0));
         between = ",";
     }
-    Ok(())
 }
 
 /// Adds the number of a field after its key, where there is one.
-pub(crate) fn put_place(
-    text: &mut String,
-    key: &str,
-    field: Option<FieldNo>,
-) -> Result<(), NoMemory> {
-    match field {
-        Some(field) => put_number(text, key, u64::from(field.0)),
-        None => Ok(()),
+pub(crate) fn put_place(told: &mut Told, key: &str, field: Option<FieldNo>) {
+    if let Some(field) = field {
+        put_number(told, key, u64::from(field.0));
     }
 }
 
 /// Adds a flag's name, where it is set.
-pub(crate) fn put_flag(text: &mut String, name: &str, is_set: bool) -> Result<(), NoMemory> {
+pub(crate) fn put_flag(told: &mut Told, name: &str, is_set: bool) {
     if is_set {
-        text.push_str(name)?;
+        told.put(name);
     }
-    Ok(())
 }
 
 /// Adds a number after what stands before it.
-pub(crate) fn put_number(text: &mut String, before: &str, number: u64) -> Result<(), NoMemory> {
-    Ok(write!(text, "{before}{number}")?)
+pub(crate) fn put_number(told: &mut Told, before: &str, number: u64) {
+    told.put(before);
+    told.put_count(number);
 }

@@ -5,116 +5,167 @@
 //! Names and texts are written as `words` has them.
 
 use crate::items::{flag_of, number_of};
-use crate::undefined::Undefined;
-use crate::words::unescaped;
-use ob_base::{NoMemory, Sequence, Value, Word};
+use crate::told::Told;
+use crate::words::{first_word, word_of};
+use ob_base::{Sequence, Value, Word};
 use ob_schema::{
     Check, Choice, FieldDef, FieldType, Inherits, ModelDef, OnDelete, Schema, SchemaFault,
 };
 use std::alloc::Global;
 
-/// A key with the parts of its value.
-#[derive(Drop)]
+/// A key with its value, whose parts have `:` between them.
+#[derive(Clone, Copy)]
 struct Key<'a> {
     name: &'a str,
-    parts: Vec<&'a str>,
+    value: Option<&'a str>,
 }
 
 /// The registry that the definitions of a text make.
-pub fn schema_of(alloc: Global, text: &str) -> Result<Schema, Undefined> {
-    let definitions = definitions(alloc, text)?;
+pub fn schema_of(alloc: Global, told: &mut Told, text: &str) -> Option<Schema> {
+    let definitions = definitions(alloc, told, text);
     match Schema::build(alloc, definitions.as_slice()) {
-        Ok(schema) => Ok(schema),
-        Err(SchemaFault::NoMemory) => Err(Undefined::NoMemory),
-        Err(_) => Err(Undefined::Form),
+        Ok(schema) => Some(schema),
+        Err(SchemaFault::NoMemory) => {
+            told.lack();
+            None
+        }
+        Err(_) => {
+            told.refuse();
+            None
+        }
     }
 }
 
 /// The definitions of a line.
-pub fn definitions(alloc: Global, line: &str) -> Result<Sequence<ModelDef>, Undefined> {
+pub fn definitions(alloc: Global, told: &mut Told, line: &str) -> Sequence<ModelDef> {
     let mut definitions = Sequence::new(alloc);
     if line.is_empty() {
-        return Ok(definitions);
+        return definitions;
     }
     for entry in line.split(" || ") {
-        definitions.push(definition(alloc, entry)?)?;
+        let definition = definition(alloc, told, entry);
+        told.add(&mut definitions, definition);
     }
-    Ok(definitions)
+    definitions
 }
 
 /// The definition of an entry.
-fn definition(alloc: Global, entry: &str) -> Result<ModelDef, Undefined> {
-    let (keys, fields) = entry.split_once(" | ").unwrap_or((entry, ""));
-    let mut definition = ModelDef {
-        name: None,
-        ..ModelDef::plain(alloc, "")?
-    };
-    for word in keys.split(' ').filter(|word| !word.is_empty()) {
-        let key = key_of(alloc, word)?;
-        take_model_key(alloc, &mut definition, &key)?;
+fn definition(alloc: Global, told: &mut Told, entry: &str) -> ModelDef {
+    let mut definition = no_model(alloc);
+    match entry.split_once(" | ") {
+        Some((keys, fields)) => {
+            take_keys(alloc, told, &mut definition, keys);
+            take_fields(alloc, told, &mut definition, fields);
+        }
+        None => take_keys(alloc, told, &mut definition, entry),
     }
-    take_fields(alloc, &mut definition, fields)?;
-    Ok(definition)
+    definition
+}
+
+/// A definition without a key.
+fn no_model(alloc: Global) -> ModelDef {
+    ModelDef {
+        name: None,
+        inherit: None,
+        inherits: Sequence::new(alloc),
+        order: None,
+        parent: None,
+        unique: Sequence::new(alloc),
+        checks: Sequence::new(alloc),
+        locked: None,
+        managed: None,
+        fields: Sequence::new(alloc),
+    }
+}
+
+/// Takes keys, with spaces between them, into a definition.
+fn take_keys(alloc: Global, told: &mut Told, definition: &mut ModelDef, keys: &str) {
+    for word in keys.split(' ') {
+        if !word.is_empty() {
+            take_model_key(alloc, told, definition, key_of(word));
+        }
+    }
 }
 
 /// Takes fields, with ` | ` between them, into a definition.
-fn take_fields(alloc: Global, definition: &mut ModelDef, fields: &str) -> Result<(), Undefined> {
+fn take_fields(alloc: Global, told: &mut Told, definition: &mut ModelDef, fields: &str) {
     if fields.is_empty() {
-        return Ok(());
+        return;
     }
     for field in fields.split(" | ") {
-        definition.fields.push(field_definition(alloc, field)?)?;
+        let field = field_definition(alloc, told, field);
+        told.add(&mut definition.fields, field);
     }
-    Ok(())
 }
 
 /// The definition of a field.
-fn field_definition(alloc: Global, words: &str) -> Result<FieldDef, Undefined> {
-    let (name, words) = words.split_once(' ').ok_or(Undefined::Form)?;
-    let (type_name, keys) = words.split_once(' ').unwrap_or((words, ""));
-    let field_type = type_of(type_name).ok_or(Undefined::Form)?;
-    let name = unescaped(alloc, name)?;
-    let mut field = FieldDef::plain(alloc, name.as_str(), field_type)?;
-    for word in keys.split(' ').filter(|word| !word.is_empty()) {
-        let key = key_of(alloc, word)?;
-        take_field_key(alloc, &mut field, &key)?;
+fn field_definition(alloc: Global, told: &mut Told, words: &str) -> FieldDef {
+    let (name, words) = first_word(words);
+    let (type_name, keys) = first_word(words);
+    let field_type = told.found(type_of(type_name), FieldType::Char);
+    let mut field = no_key(word_of(alloc, told, name), field_type);
+    for word in keys.split(' ') {
+        if !word.is_empty() {
+            take_field_key(alloc, told, &mut field, key_of(word));
+        }
     }
-    Ok(field)
+    field
+}
+
+/// A field with no key but its type.
+fn no_key(name: Word, field_type: FieldType) -> FieldDef {
+    FieldDef {
+        name,
+        field_type,
+        string: None,
+        required: None,
+        default: None,
+        compute: None,
+        depends: None,
+        store: None,
+        recursive: None,
+        related: None,
+        relation: None,
+        inverse: None,
+        mirror: None,
+        ondelete: None,
+        selection: None,
+        groups: None,
+        managed: None,
+        fixed: None,
+        secret: None,
+    }
 }
 
 /// The key that a word is.
-fn key_of(alloc: Global, word: &str) -> Result<Key<'_>, NoMemory> {
-    Ok(match word.split_once('=') {
+fn key_of(word: &str) -> Key<'_> {
+    match word.split_once('=') {
         Some((name, value)) => Key {
             name,
-            parts: value.split(':').collect(alloc)?,
+            value: Some(value),
         },
         None => Key {
             name: word,
-            parts: Vec::new(alloc),
+            value: None,
         },
-    })
+    }
 }
 
 /// Takes a key into a model's definition.
-fn take_model_key(
-    alloc: Global,
-    definition: &mut ModelDef,
-    key: &Key<'_>,
-) -> Result<(), Undefined> {
+fn take_model_key(alloc: Global, told: &mut Told, definition: &mut ModelDef, key: Key<'_>) {
     if let Some(text) = model_text(definition, key.name) {
-        *text = Some(word(alloc, one_part(key)?)?);
-        return Ok(());
+        *text = Some(word(alloc, told, key));
+        return;
     }
     match key.name {
-        "inherits" => take_inherits(alloc, definition, key),
-        "check" => take_check(alloc, definition, key),
-        "unique" => Ok(definition.unique.push(words(alloc, key.parts.as_slice())?)?),
-        "managed" => {
-            definition.managed = Some(flag_of(one_part(key)?).ok_or(Undefined::Form)?);
-            Ok(())
+        "inherits" => take_inherits(alloc, told, &mut definition.inherits, key),
+        "check" => take_check(alloc, told, &mut definition.checks, key),
+        "unique" => {
+            let names = words(alloc, told, key);
+            told.add(&mut definition.unique, names);
         }
-        _ => Err(Undefined::Form),
+        "managed" => definition.managed = Some(flag(told, key)),
+        _ => told.refuse(),
     }
 }
 
@@ -131,40 +182,32 @@ fn model_text<'d>(definition: &'d mut ModelDef, name: &str) -> Option<&'d mut Op
 }
 
 /// Takes a model whose fields are had through a link.
-fn take_inherits(alloc: Global, definition: &mut ModelDef, key: &Key<'_>) -> Result<(), Undefined> {
-    let [model, link] = key.parts.as_slice() else {
-        return Err(Undefined::Form);
-    };
-    let model = word(alloc, model)?;
-    let link = word(alloc, link)?;
-    Ok(definition.inherits.push(Inherits { model, link })?)
+fn take_inherits(alloc: Global, told: &mut Told, all: &mut Sequence<Inherits>, key: Key<'_>) {
+    let (model, link) = two_parts(told, key);
+    let model = word_of(alloc, told, model);
+    let link = word_of(alloc, told, link);
+    told.add(all, Inherits { model, link });
 }
 
 /// Takes a condition.
-fn take_check(alloc: Global, definition: &mut ModelDef, key: &Key<'_>) -> Result<(), Undefined> {
-    let [name, text] = key.parts.as_slice() else {
-        return Err(Undefined::Form);
-    };
-    let name = word(alloc, name)?;
-    let expression = word(alloc, text)?;
-    Ok(definition.checks.push(Check { name, expression })?)
+fn take_check(alloc: Global, told: &mut Told, all: &mut Sequence<Check>, key: Key<'_>) {
+    let (name, text) = two_parts(told, key);
+    let name = word_of(alloc, told, name);
+    let expression = word_of(alloc, told, text);
+    told.add(all, Check { name, expression });
 }
 
 /// Takes a key into a field's definition.
-fn take_field_key(alloc: Global, field: &mut FieldDef, key: &Key<'_>) -> Result<(), Undefined> {
+fn take_field_key(alloc: Global, told: &mut Told, field: &mut FieldDef, key: Key<'_>) {
     if let Some(text) = field_text(field, key.name) {
-        *text = Some(word(alloc, one_part(key)?)?);
-        return Ok(());
+        *text = Some(word(alloc, told, key));
+    } else if let Some(names) = field_names(field, key.name) {
+        *names = Some(words(alloc, told, key));
+    } else if let Some(of_field) = field_flag(field, key.name) {
+        *of_field = Some(flag(told, key));
+    } else {
+        take_other_key(alloc, told, field, key);
     }
-    if let Some(names) = field_names(field, key.name) {
-        *names = Some(words(alloc, key.parts.as_slice())?);
-        return Ok(());
-    }
-    if let Some(flag) = field_flag(field, key.name) {
-        *flag = Some(flag_of(one_part(key)?).ok_or(Undefined::Form)?);
-        return Ok(());
-    }
-    take_other_key(alloc, field, key)
 }
 
 /// What a field's definition has of a key that is one text.
@@ -203,74 +246,121 @@ fn field_flag<'d>(field: &'d mut FieldDef, name: &str) -> Option<&'d mut Option<
 }
 
 /// Takes a key of a form of its own into a field's definition.
-fn take_other_key(alloc: Global, field: &mut FieldDef, key: &Key<'_>) -> Result<(), Undefined> {
+fn take_other_key(alloc: Global, told: &mut Told, field: &mut FieldDef, key: Key<'_>) {
     match key.name {
-        "default" => field.default = Some(default_of(alloc, key)?),
+        "default" => field.default = Some(constant(alloc, told, key)),
         "ondelete" => {
-            field.ondelete = Some(ondelete(one_part(key)?).ok_or(Undefined::Form)?);
+            let part = one_part(told, key);
+            field.ondelete = Some(told.found(ondelete(part), OnDelete::SetNull));
         }
-        "selection" => field.selection = Some(choices(alloc, key.parts.as_slice())?),
-        _ => return Err(Undefined::Form),
+        "selection" => field.selection = Some(choices(alloc, told, key)),
+        _ => told.refuse(),
     }
-    Ok(())
 }
 
 /// The one part of a key's value.
-fn one_part<'a>(key: &Key<'a>) -> Result<&'a str, Undefined> {
-    match key.parts.as_slice() {
-        [part] => Ok(part),
-        _ => Err(Undefined::Form),
+fn one_part<'a>(told: &mut Told, key: Key<'a>) -> &'a str {
+    match key.value {
+        Some(part) if !part.contains(':') => part,
+        _ => {
+            told.refuse();
+            ""
+        }
     }
 }
 
-/// A default: its kind and its value.
-fn default_of(alloc: Global, key: &Key<'_>) -> Result<Value, Undefined> {
-    match key.parts.as_slice() {
-        [kind, value] => constant(alloc, kind, value),
-        _ => Err(Undefined::Form),
+/// The two parts of a key's value.
+fn two_parts<'a>(told: &mut Told, key: Key<'a>) -> (&'a str, &'a str) {
+    let both = match key.value {
+        Some(value) => value.split_once(':'),
+        None => None,
+    };
+    match both {
+        Some((first, second)) if !second.contains(':') => (first, second),
+        _ => {
+            told.refuse();
+            ("", "")
+        }
     }
 }
 
-/// A part as it is meant.
-fn word(alloc: Global, part: &str) -> Result<Word, NoMemory> {
-    Ok(Word::new(unescaped(alloc, part)?))
+/// What a key says that is `yes` or `no`.
+fn flag(told: &mut Told, key: Key<'_>) -> bool {
+    let part = one_part(told, key);
+    told.found(flag_of(part), false)
 }
 
-/// Parts as they are meant.
-fn words(alloc: Global, parts: &[&str]) -> Result<Sequence<Word>, NoMemory> {
+/// The one part of a key's value, as it is meant.
+fn word(alloc: Global, told: &mut Told, key: Key<'_>) -> Word {
+    let part = one_part(told, key);
+    word_of(alloc, told, part)
+}
+
+/// The parts of a key's value as they are meant.
+fn words(alloc: Global, told: &mut Told, key: Key<'_>) -> Sequence<Word> {
     let mut words = Sequence::new(alloc);
-    for part in parts {
-        words.push(word(alloc, part)?)?;
+    if let Some(value) = key.value {
+        for part in value.split(':') {
+            let word = word_of(alloc, told, part);
+            told.add(&mut words, word);
+        }
     }
-    Ok(words)
+    words
 }
 
 /// The keys of a selection, each with its words behind it.
-fn choices(alloc: Global, parts: &[&str]) -> Result<Sequence<Choice>, Undefined> {
+fn choices(alloc: Global, told: &mut Told, key: Key<'_>) -> Sequence<Choice> {
     let mut choices = Sequence::new(alloc);
-    for pair in parts.chunks(2) {
-        let [key, label] = pair else {
-            return Err(Undefined::Form);
-        };
-        choices.push(Choice {
-            key: word(alloc, key)?,
-            label: word(alloc, label)?,
-        })?;
+    if let Some(value) = key.value {
+        add_choices(alloc, told, &mut choices, value);
     }
-    Ok(choices)
+    choices
 }
 
-/// The constant of a kind that a part is.
-fn constant(alloc: Global, kind: &str, part: &str) -> Result<Value, Undefined> {
-    let value = match kind {
-        "bool" => flag_of(part).map(Value::Bool),
-        "int" => number_of(part).map(Value::Int),
-        "day" => part.parse().ok().map(Value::Day),
-        "moment" => number_of(part).map(Value::Moment),
-        "word" => Some(Value::Word(word(alloc, part)?)),
-        _ => None,
-    };
-    value.ok_or(Undefined::Form)
+/// Adds the choices of a value.
+fn add_choices(alloc: Global, told: &mut Told, choices: &mut Sequence<Choice>, value: &str) {
+    let mut before = None;
+    for part in value.split(':') {
+        before = match before {
+            None => Some(part),
+            Some(key) => {
+                add_choice(alloc, told, choices, key, part);
+                None
+            }
+        };
+    }
+    if before.is_some() {
+        told.refuse();
+    }
+}
+
+/// Adds a choice.
+fn add_choice(
+    alloc: Global,
+    told: &mut Told,
+    choices: &mut Sequence<Choice>,
+    key: &str,
+    label: &str,
+) {
+    let key = word_of(alloc, told, key);
+    let label = word_of(alloc, told, label);
+    told.add(choices, Choice { key, label });
+}
+
+/// A constant: its kind and its value.
+fn constant(alloc: Global, told: &mut Told, key: Key<'_>) -> Value {
+    let (kind, part) = two_parts(told, key);
+    match kind {
+        "bool" => Value::Bool(told.found(flag_of(part), false)),
+        "int" => Value::Int(told.found(number_of(part), 0)),
+        "day" => Value::Day(told.found(part.parse().ok(), 0)),
+        "moment" => Value::Moment(told.found(number_of(part), 0)),
+        "word" => Value::Word(word_of(alloc, told, part)),
+        _ => {
+            told.refuse();
+            Value::Nil
+        }
+    }
 }
 
 /// What becomes of a row whose many2one names a row that is deleted.

@@ -1,9 +1,10 @@
 //! What the probes share: programs that answer each line of their input by calls of the
 //! libraries. It has no rules of its own; what stands in two of the probes belongs here.
 //!
-//! Rooms: `program` (the loop over the lines, and what a probe is to it), `words` (texts as lines
-//! write them), `items` (parts of words), `parts` (parts of JSON), `undefined` (why there
-//! are none), `definitions` (models from a line), `told` (how answers write values).
+//! Rooms: `told` (the answer to a line while it is told, what stands against it, and how values
+//! are written), `program` (the loop over the lines, and what a probe is to it), `words` (texts
+//! as lines write them), `items` (parts of words), `parts` (parts of JSON), `definitions` (models
+//! from a line).
 #![tactic(auto)]
 
 pub mod definitions;
@@ -11,5 +12,4 @@ pub mod items;
 pub mod parts;
 pub mod program;
 pub mod told;
-pub mod undefined;
 pub mod words;

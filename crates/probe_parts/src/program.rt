@@ -1,8 +1,8 @@
 //! A probe as a program: each line of its input is answered on one line. A line that is empty
 //! or begins with `#` is a remark, and told again as it is. What ends a probe early is here.
 
-use crate::words::told;
-use ob_base::NoMemory;
+use crate::told::Told;
+use crate::words::first_word;
 use std::alloc::Global;
 use std::io;
 use std::io::Input;
@@ -10,8 +10,9 @@ use std::process::ExitCode;
 
 /// What a probe answers.
 pub trait Probe {
-    /// The answer to a line of this word, whose call is made so many times; the last counts.
-    fn answer(&self, alloc: Global, times: u32, word: &str, rest: &str) -> Result<String, NoMemory>;
+    /// Tells the answer to a line of this word, whose call is made so many times; the last
+    /// counts.
+    fn answer(&self, alloc: Global, told: &mut Told, times: u32, word: &str, rest: &str);
 }
 
 /// Why a probe stops before the end of its input.
@@ -24,12 +25,6 @@ enum Stop {
 impl From<io::Error> for Stop {
     fn from(_error: io::Error) -> Stop {
         Stop::Outside
-    }
-}
-
-impl From<NoMemory> for Stop {
-    fn from(_error: NoMemory) -> Stop {
-        Stop::NoMemory
     }
 }
 
@@ -50,29 +45,34 @@ fn each_line<R: Alloc<A = Global> + Input + Print, P: Probe>(
     let alloc = rt.alloc();
     for line in rt.lines(alloc) {
         let line = line?;
-        let answer = answer_to(alloc, probe, line.as_str())?;
+        let mut told = Told::new(alloc);
+        answer_to(alloc, &mut told, probe, line.as_str());
+        if told.lacks_memory() {
+            return Err(Stop::NoMemory);
+        }
+        let answer = told.as_str();
         println!(rt; "{answer}")?;
     }
     Ok(())
 }
 
-/// The answer to a line.
-fn answer_to<P: Probe>(alloc: Global, probe: &P, line: &str) -> Result<String, NoMemory> {
+/// Tells the answer to a line.
+fn answer_to<P: Probe>(alloc: Global, told: &mut Told, probe: &P, line: &str) {
     if line.is_empty() || line.starts_with('#') {
-        return told(alloc, line);
+        return told.put(line);
     }
     let (times, line) = times_of(line);
-    let (word, rest) = line.split_once(' ').unwrap_or((line, ""));
-    probe.answer(alloc, times, word, rest)
+    let (word, rest) = first_word(line);
+    probe.answer(alloc, told, times, word, rest);
 }
 
 /// How often a call is to be made, and the line that asks for it: `times N` may stand before
 /// the word.
 fn times_of(line: &str) -> (u32, &str) {
-    let Some((count, rest)) = line
-        .strip_prefix("times ")
-        .and_then(|rest| rest.split_once(' '))
-    else {
+    let Some(rest) = line.strip_prefix("times ") else {
+        return (1, line);
+    };
+    let Some((count, rest)) = rest.split_once(' ') else {
         return (1, line);
     };
     match count.parse() {

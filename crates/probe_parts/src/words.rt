@@ -1,30 +1,55 @@
 //! Texts as lines write them: `\s` stands for a space, `\c` for a colon, `\n` and `\r` for the
 //! ends of lines, and `\` before another character for it; bytes are hexadecimal digits.
 
+use crate::told::Told;
 use hex::FromHexError;
-use ob_base::NoMemory;
+use ob_base::Word;
 use std::alloc::Global;
 
-/// An answer of these words.
-pub fn told(alloc: Global, words: &str) -> Result<String, NoMemory> {
-    Ok(String::from_str(alloc, words)?)
+/// The first word of a line, and what is behind the space after it.
+pub fn first_word(line: &str) -> (&str, &str) {
+    match line.split_once(' ') {
+        Some(both) => both,
+        None => (line, ""),
+    }
 }
 
 /// A text as it is meant.
-pub fn unescaped(alloc: Global, text: &str) -> Result<String, NoMemory> {
+pub fn unescaped(alloc: Global, told: &mut Told, text: &str) -> String {
     let mut plain = String::new(alloc);
     let mut follows = false;
     for c in text.chars() {
-        if follows {
-            plain.push(meant(c))?;
-            follows = false;
-        } else if c == '\\' {
-            follows = true;
-        } else {
-            plain.push(c)?;
+        follows = add_meant(told, &mut plain, follows, c);
+    }
+    plain
+}
+
+/// Adds what a character stands for, which may follow a backslash; tells whether it is one that
+/// another character is to follow.
+fn add_meant(told: &mut Told, plain: &mut String, follows: bool, c: char) -> bool {
+    if c == '\\' && !follows {
+        return true;
+    }
+    if plain.push(if follows { meant(c) } else { c }).is_err() {
+        told.lack();
+    }
+    false
+}
+
+/// A word as it is meant.
+pub fn word_of(alloc: Global, told: &mut Told, text: &str) -> Word {
+    Word::new(unescaped(alloc, told, text))
+}
+
+/// A word as it stands.
+pub fn plain_word(alloc: Global, told: &mut Told, text: &str) -> Word {
+    match Word::from_text(alloc, text) {
+        Ok(word) => word,
+        Err(_) => {
+            told.lack();
+            Word::new(String::new(alloc))
         }
     }
-    Ok(plain)
 }
 
 /// What a character behind a backslash stands for.
@@ -38,28 +63,38 @@ fn meant(c: char) -> char {
     }
 }
 
-/// The text that `COUNT*TEXT` stands for, so many times as it is meant; none where that is of
-/// another form.
-pub fn repeated(alloc: Global, part: &str) -> Result<Option<String>, NoMemory> {
-    let Some((count, text)) = part.split_once('*') else {
-        return Ok(None);
-    };
-    let Ok(count) = count.parse::<u32>() else {
-        return Ok(None);
-    };
-    let text = unescaped(alloc, text)?;
+/// The text that `COUNT*TEXT` stands for, so many times as it is meant.
+pub fn repeated(alloc: Global, told: &mut Told, part: &str) -> String {
     let mut whole = String::new(alloc);
-    for _ in 0..count {
-        whole.push_str(text.as_str())?;
-    }
-    Ok(Some(whole))
+    add_repeated(alloc, told, &mut whole, part);
+    whole
 }
 
-/// The bytes that hexadecimal digits write, where they write some.
-pub fn bytes_of(alloc: Global, digits: &str) -> Result<Option<Vec<u8>>, NoMemory> {
+/// Adds the text that `COUNT*TEXT` stands for.
+fn add_repeated(alloc: Global, told: &mut Told, whole: &mut String, part: &str) {
+    let Some((count, text)) = part.split_once('*') else {
+        return told.refuse();
+    };
+    let count: u32 = told.found(count.parse().ok(), 0);
+    let text = unescaped(alloc, told, text);
+    for _ in 0..count {
+        if whole.push_str(text.as_str()).is_err() {
+            return told.lack();
+        }
+    }
+}
+
+/// The bytes that hexadecimal digits write.
+pub fn bytes_of(alloc: Global, told: &mut Told, digits: &str) -> Vec<u8> {
     match hex::decode(alloc, digits) {
-        Ok(bytes) => Ok(Some(bytes)),
-        Err(FromHexError::OutOfMemory) => Err(NoMemory),
-        Err(_) => Ok(None),
+        Ok(bytes) => bytes,
+        Err(FromHexError::OutOfMemory) => {
+            told.lack();
+            Vec::new(alloc)
+        }
+        Err(_) => {
+            told.refuse();
+            Vec::new(alloc)
+        }
     }
 }

@@ -3,7 +3,7 @@
 //! | line | answer |
 //! |---|---|
 //! | `takes ORDER WANT STOCK ..` | `quant:amount` of each take |
-//! | `lines NOW NEXT QUANT .. \| LINE ..` | the quants after the lines, or `short at` a line's number |
+//! | `lines NOW NEXT QUANT .. \| LINE ..` | the quants after the lines, or `short at` or `overflow at` a line's number `of` a quant's id |
 //! | `state RESERVED DEMAND WAITS` | the state of such a move |
 //! | `split DEMAND DONE` | the done part and the rest |
 //! | `chain PLACE RULE ..` | the ids of the chain of pull rules, or `too deep` |
@@ -39,49 +39,34 @@ use crate::moves::{put_parts, put_state};
 use crate::quants::put_moved;
 use crate::removals::put_taken;
 use crate::routes::{put_chain, put_push};
-use ob_base::NoMemory;
 use probe_parts::program::Probe;
+use probe_parts::told::Told;
 use std::alloc::Global;
 
 /// What tells the words about stock and messages from one another.
 pub(crate) struct StockProbe {}
 
 impl Probe for StockProbe {
-    fn answer(
-        &self,
-        alloc: Global,
-        times: u32,
-        word: &str,
-        rest: &str,
-    ) -> Result<String, NoMemory> {
-        let mut text = String::new(alloc);
-        match put_answer(alloc, times, word, rest, &mut text) {
-            Ok(()) => Ok(text),
-            Err(NoMemory) => Err(NoMemory),
+    fn answer(&self, alloc: Global, told: &mut Told, times: u32, word: &str, rest: &str) {
+        match word {
+            "takes" => put_taken(alloc, told, times, rest),
+            "lines" => put_moved(alloc, told, times, rest),
+            "state" => put_state(told, rest),
+            "split" => put_parts(told, rest),
+            "chain" => put_chain(alloc, told, times, rest),
+            "push" => put_push(alloc, told, rest),
+            _ => put_of_messages(alloc, told, times, word, rest),
         }
     }
 }
 
-/// Adds the answer to a line of this word. The rooms add to the answer's text, so that few
-/// values are theirs to let go.
-fn put_answer(
-    alloc: Global,
-    times: u32,
-    word: &str,
-    rest: &str,
-    text: &mut String,
-) -> Result<(), NoMemory> {
+/// Tells the answer to a line about messages.
+fn put_of_messages(alloc: Global, told: &mut Told, times: u32, word: &str, rest: &str) {
     match word {
-        "takes" => put_taken(alloc, times, rest, text),
-        "lines" => put_moved(alloc, times, rest, text),
-        "state" => put_state(rest, text),
-        "split" => put_parts(rest, text),
-        "chain" => put_chain(alloc, times, rest, text),
-        "push" => put_push(alloc, rest, text),
-        "http" => put_connections(alloc, times, rest, text),
-        "written" => put_replies(alloc, rest, text),
-        "envelope" => put_envelope_of(alloc, rest, text),
-        "reply" => put_reply_of(alloc, rest, text),
-        _ => Ok(text.push_str("no word")?),
+        "http" => put_connections(alloc, told, times, rest),
+        "written" => put_replies(alloc, told, rest),
+        "envelope" => put_envelope_of(alloc, told, rest),
+        "reply" => put_reply_of(alloc, told, rest),
+        _ => told.put("no word"),
     }
 }

@@ -1,21 +1,15 @@
 //! What quants and lines `move_lines` may be asked for: ids that differ and lie below the
-//! next one, and numbers so small that each sum fits.
+//! next one, which leaves room for those of new quants.
 
-ghost use Rattle.std.specs.Prelude.{◌≡◌, true, ◌<◌, ◌≤◌, ◌^◌, nat_eq, map, length, All, IfOk, pos};
+ghost use Rattle.std.specs.Prelude.{◌≡◌, true, ◌<◌, ◌≤◌, ◌^◌, nat_eq, map, length, All, IfOk};
 ghost use Rattle.std.specs.List.{IsDistinct};
-ghost use Rattle.wh_quant.specs.Moves.{AreSmall};
 ghost use Rattle.std.specs.Ordering.{nat_cmp};
 ghost use Rattle.std.specs.BTreeSet.{IsFromIterResult};
-ghost use Rattle.wh_quant.specs.Sums.{IsBounded};
-ghost use Rattle.probe_stock.specs.Amounts.{IsAmount};
 
 use ob_base::NoMemory;
 use std::alloc::Global;
 use std::collections::BTreeSet;
 use wh_quant::{Line, Quant};
-
-/// The greatest amount, and the greatest distance of a quant's numbers from zero: 2^40.
-const GREATEST_NUMBER: i64 = 1 << 40;
 
 /// The greatest number of lines: 2^20.
 const MOST_LINES: usize = 1 << 20;
@@ -34,10 +28,9 @@ pub(crate) fn may_be_asked(
     ensures below { IfOk result (λ may. may ≡ true → All (λ q. q.id.0 < next) quants.now) }
     ensures ids { IfOk result (λ may. may ≡ true → next ≤ 2 ^ 63) }
     ensures few { IfOk result (λ may. may ≡ true → length lines.now ≤ 2 ^ 20) }
-    ensures small { IfOk result (λ may. may ≡ true → AreSmall (2 ^ 40) quants.now lines.now) }
 {
     let differ = ids_differ(alloc, quants)?;
-    Ok(differ && are_below(quants, next) && next <= GREATEST_NEXT && are_small(quants, lines))
+    Ok(differ && are_below(quants, next) && next <= GREATEST_NEXT && lines.len() <= MOST_LINES)
 }
 
 /// Whether no two quants share an id.
@@ -60,36 +53,4 @@ fn are_below(quants: &[Quant], next: u64) -> bool
     ensures { result ≡ true → All (λ q. q.id.0 < next) quants.now }
 {
     quants.iter().all(|quant| quant.id.0 < next)
-}
-
-/// Whether the numbers are so small that each sum fits.
-fn are_small(quants: &[Quant], lines: &[Line]) -> bool
-    ensures small { result ≡ true → AreSmall (2 ^ 40) quants.now lines.now }
-    ensures few { result ≡ true → length lines.now ≤ 2 ^ 20 }
-{
-    if lines.len() > MOST_LINES || !are_bounded(quants) {
-        return false;
-    }
-    are_amounts(lines)
-}
-
-/// Whether no number of a quant is further from zero than the greatest.
-fn are_bounded(quants: &[Quant]) -> bool
-    ensures { result ≡ true → All (IsBounded (pos (2 ^ 40))) quants.now }
-{
-    quants.iter().all(|quant| {
-        -GREATEST_NUMBER <= quant.quantity
-            && quant.quantity <= GREATEST_NUMBER
-            && -GREATEST_NUMBER <= quant.reserved
-            && quant.reserved <= GREATEST_NUMBER
-    })
-}
-
-/// Whether each amount lies from zero to the greatest.
-fn are_amounts(lines: &[Line]) -> bool
-    ensures { result ≡ true → All IsAmount lines.now }
-{
-    lines
-        .iter()
-        .all(|line| 0 <= line.amount && line.amount <= GREATEST_NUMBER)
 }

@@ -3,7 +3,8 @@
 use ob_base::NoMemory;
 use ob_http::{Held, HttpFault, Inlet, next_request, write_reply};
 use ob_io::{Door, MemDoor};
-use probe_parts::words::bytes_of;
+use probe_parts::told::Told;
+use probe_parts::words::{bytes_of, first_word};
 use std::alloc::Global;
 
 /// The body of the reply to each message.
@@ -16,7 +17,7 @@ const LONGEST_TOLD: usize = 256;
 const CHECKSUM_FACTOR: u64 = 1_000_003;
 
 /// What a connection sends, and how.
-#[derive(Drop)]
+#[derive(Clone, Copy)]
 struct Sender<'b> {
     bytes: &'b [u8],
     /// How many bytes a read gives at most.
@@ -38,46 +39,39 @@ struct Served {
 
 /// Adds the items of the connection that a line names, with what is written at each, for each
 /// length of the pieces.
-pub(crate) fn put_connections(
-    alloc: Global,
-    times: u32,
-    asked: &str,
-    text: &mut String,
-) -> Result<(), NoMemory> {
-    let (cuts, rest) = asked.split_once(' ').unwrap_or((asked, ""));
-    let (fails, parts) = rest.split_once(' ').unwrap_or((rest, ""));
-    let Ok(fails) = fails.parse() else {
-        return Ok(text.push_str("no connection")?);
-    };
-    match all_bytes(alloc, parts)? {
-        Some(bytes) => put_cuts(alloc, times, cuts, fails, bytes.as_slice(), text),
-        None => Ok(text.push_str("no bytes")?),
+pub(crate) fn put_connections(alloc: Global, told: &mut Told, times: u32, asked: &str) {
+    let (cuts, rest) = first_word(asked);
+    let (fails, parts) = first_word(rest);
+    let fails = told.found(fails.parse().ok(), 0);
+    if told.is_malformed() {
+        return told.put("no connection");
+    }
+    let bytes = all_bytes(alloc, told, parts);
+    if told.is_malformed() {
+        told.put("no bytes");
+    } else {
+        put_cuts(alloc, told, times, cuts, fails, bytes.as_slice());
     }
 }
 
 /// Adds the answer for each length of the pieces, where it is another than that before.
-fn put_cuts(
-    alloc: Global,
-    times: u32,
-    cuts: &str,
-    fails: u64,
-    bytes: &[u8],
-    text: &mut String,
-) -> Result<(), NoMemory> {
-    let mut before = String::new(alloc);
+fn put_cuts(alloc: Global, told: &mut Told, times: u32, cuts: &str, fails: u64, bytes: &[u8]) {
+    let mut before = Told::new(alloc);
     for cut in cuts.split(',') {
-        let mut answer = String::new(alloc);
+        let mut answer = Told::new(alloc);
         match cut_of(cut) {
-            Some(cut) => put_connection(alloc, times, &Sender { bytes, cut, fails }, &mut answer)?,
-            None => answer.push_str("no connection")?,
+            Some(cut) => put_connection(alloc, &mut answer, times, Sender { bytes, cut, fails }),
+            None => answer.put("no connection"),
+        }
+        if answer.lacks_memory() {
+            return told.lack();
         }
         if answer.as_str() != before.as_str() {
-            text.push_str(if text.is_empty() { "" } else { " | " })?;
-            text.push_str(answer.as_str())?;
+            told.put(if told.is_empty() { "" } else { " | " });
+            told.put(answer.as_str());
             before = answer;
         }
     }
-    Ok(())
 }
 
 /// How many bytes a read gives at most.
@@ -88,46 +82,48 @@ fn cut_of(cut: &str) -> Option<usize> {
     }
 }
 
-/// The bytes of all parts, where they write some.
-fn all_bytes(alloc: Global, parts: &str) -> Result<Option<Vec<u8>>, NoMemory> {
+/// The bytes of all parts.
+fn all_bytes(alloc: Global, told: &mut Told, parts: &str) -> Vec<u8> {
     let mut bytes = Vec::new(alloc);
     for part in parts.split_whitespace() {
-        let (count, digits) = part.split_once('*').unwrap_or(("1", part));
-        let (Ok(count), Some(piece)) = (count.parse(), bytes_of(alloc, digits)?) else {
-            return Ok(None);
-        };
-        add_pieces(&mut bytes, count, piece.as_slice())?;
+        add_part(alloc, told, &mut bytes, part);
     }
-    Ok(Some(bytes))
+    bytes
 }
 
-/// Adds bytes so many times.
-fn add_pieces(bytes: &mut Vec<u8>, count: u32, piece: &[u8]) -> Result<(), NoMemory> {
+/// Adds the bytes of a part.
+fn add_part(alloc: Global, told: &mut Told, bytes: &mut Vec<u8>, part: &str) {
+    let (count, digits) = match part.split_once('*') {
+        Some(both) => both,
+        None => ("1", part),
+    };
+    let count: u32 = told.found(count.parse().ok(), 0);
+    let piece = bytes_of(alloc, told, digits);
     for _ in 0..count {
-        bytes.extend_from_slice(piece)?;
+        if bytes.extend_from_slice(piece.as_slice()).is_err() {
+            return told.lack();
+        }
     }
-    Ok(())
 }
 
 /// Adds the items of a connection, which is served so many times, and how many of its bytes
 /// were taken.
-fn put_connection(
-    alloc: Global,
-    times: u32,
-    sender: &Sender<'_>,
-    text: &mut String,
-) -> Result<(), NoMemory> {
+fn put_connection(alloc: Global, told: &mut Told, times: u32, sender: Sender<'_>) {
     for _ in 1..times {
-        let mut door = door_of(alloc, sender)?;
-        serve(alloc, &mut door, sender.bytes.len())?;
+        match door_of(alloc, sender) {
+            Ok(mut door) => serve(alloc, told, &mut door, sender.bytes.len()),
+            Err(_) => return told.lack(),
+        }
     }
-    let mut door = door_of(alloc, sender)?;
-    put_items(alloc, &mut door, sender.bytes.len(), text)
+    match door_of(alloc, sender) {
+        Ok(mut door) => put_items(alloc, told, &mut door, sender.bytes.len()),
+        Err(_) => told.lack(),
+    }
 }
 
 /// A door whose one connection has come. There is room for each reply, since no message is
 /// shorter than half of one.
-fn door_of(alloc: Global, sender: &Sender<'_>) -> Result<MemDoor, NoMemory> {
+fn door_of(alloc: Global, sender: Sender<'_>) -> Result<MemDoor, NoMemory> {
     let bytes = Vec::from_slice(alloc, sender.bytes)?;
     let room = sender.bytes.len().saturating_mul(3).saturating_add(256);
     let fails = vec![in alloc; sender.fails]?;
@@ -137,50 +133,48 @@ fn door_of(alloc: Global, sender: &Sender<'_>) -> Result<MemDoor, NoMemory> {
 }
 
 /// Takes all messages of a connection, at most so many and one, and answers them.
-fn serve(alloc: Global, door: &mut MemDoor, most: usize) -> Result<(), NoMemory> {
+fn serve(alloc: Global, told: &mut Told, door: &mut MemDoor, most: usize) {
     let mut held = Held::new(alloc);
     for _ in 0..=most {
-        if !serve_next(door, &mut held)?.goes_on {
+        if !serve_next(told, door, &mut held).goes_on {
             break;
         }
     }
-    Ok(())
 }
 
 /// Adds all items of a connection, at most so many and one, and how many bytes were taken.
-fn put_items(
-    alloc: Global,
-    door: &mut MemDoor,
-    most: usize,
-    text: &mut String,
-) -> Result<(), NoMemory> {
+fn put_items(alloc: Global, told: &mut Told, door: &mut MemDoor, most: usize) {
     let mut held = Held::new(alloc);
     for _ in 0..=most {
-        if !put_item(door, &mut held, text)? {
+        if !put_item(told, door, &mut held) {
             break;
         }
     }
-    let taken = held.taken();
-    Ok(write!(text, "taken:{taken}")?)
+    told.put("taken:");
+    told.put_shown(&held.taken());
 }
 
 /// Adds the next item of a connection with what is written at it, and tells whether another
 /// may follow.
-fn put_item(door: &mut MemDoor, held: &mut Held, text: &mut String) -> Result<bool, NoMemory> {
+fn put_item(told: &mut Told, door: &mut MemDoor, held: &mut Held) -> bool {
     let start = written_from(door, 0).len();
-    let served = serve_next(door, held)?;
-    put_inlet(text, &served.inlet)?;
+    let served = serve_next(told, door, held);
+    put_inlet(told, &served.inlet);
     let written = written_from(door, start);
-    put_written(text, written, served.before.saturating_sub(start))?;
-    Ok(served.goes_on)
+    put_written(told, written, served.before.saturating_sub(start));
+    served.goes_on
 }
 
-/// Takes the next message of a connection and answers it.
-fn serve_next(door: &mut MemDoor, held: &mut Held) -> Result<Served, NoMemory> {
+/// Takes the next message of a connection and answers it; none where it failed before one
+/// was there.
+fn serve_next(told: &mut Told, door: &mut MemDoor, held: &mut Held) -> Served {
     let inlet = match next_request(door, held) {
         Ok(inlet) => Some(inlet),
         Err(HttpFault::Failed) => None,
-        Err(HttpFault::NoMemory) => return Err(NoMemory),
+        Err(HttpFault::NoMemory) => {
+            told.lack();
+            None
+        }
     };
     let before = written_from(door, 0).len();
     let goes_on = match &inlet {
@@ -191,11 +185,11 @@ fn serve_next(door: &mut MemDoor, held: &mut Held) -> Result<Served, NoMemory> {
         }
         _ => false,
     };
-    Ok(Served {
+    Served {
         inlet,
         before,
         goes_on,
-    })
+    }
 }
 
 /// What was written to the connection, from this byte on.
@@ -207,30 +201,38 @@ fn written_from(door: &MemDoor, start: usize) -> &[u8] {
 }
 
 /// Adds what came in.
-fn put_inlet(text: &mut String, inlet: &Option<Inlet>) -> Result<(), NoMemory> {
+fn put_inlet(told: &mut Told, inlet: &Option<Inlet>) {
     match inlet {
         Some(Inlet::Post { body, keep }) => {
-            text.push_str(if *keep { "post:keep:" } else { "post:close:" })?;
-            put_body(text, body.as_slice())?;
+            told.put(if *keep { "post:keep:" } else { "post:close:" });
+            put_body(told, body.as_slice());
         }
-        Some(Inlet::Bad(status)) => write!(text, "bad:{status}")?,
-        Some(Inlet::Ended) => text.push_str("ended")?,
-        Some(Inlet::Cut) => text.push_str("cut")?,
-        None => text.push_str("failed")?,
+        Some(Inlet::Bad(status)) => {
+            told.put("bad:");
+            told.put_shown(status);
+        }
+        Some(Inlet::Ended) => told.put("ended"),
+        Some(Inlet::Cut) => told.put("cut"),
+        None => told.put("failed"),
     }
-    Ok(())
 }
 
 /// Adds a body, or of a long one its length and its checksum.
-fn put_body(text: &mut String, body: &[u8]) -> Result<(), NoMemory> {
+fn put_body(told: &mut Told, body: &[u8]) {
     if body.len() <= LONGEST_TOLD {
-        let body = body.escape_ascii();
-        write!(text, "\"{body}\"")?;
+        put_quoted(told, body);
     } else {
-        let (length, sum) = (body.len(), checksum(body));
-        write!(text, "{length}:{sum}")?;
+        told.put_shown(&body.len());
+        told.put(":");
+        told.put_count(checksum(body));
     }
-    Ok(())
+}
+
+/// Adds bytes as text, in quotes.
+fn put_quoted(told: &mut Told, bytes: &[u8]) {
+    told.put("\"");
+    told.put_shown(&bytes.escape_ascii());
+    told.put("\"");
 }
 
 /// A number in which each byte counts by its place, so that bytes that change places change it.
@@ -243,28 +245,33 @@ fn checksum(bytes: &[u8]) -> u64 {
 }
 
 /// Adds what was written while a message came in, so many bytes, and its reply.
-fn put_written(text: &mut String, written: &[u8], before: usize) -> Result<(), NoMemory> {
+fn put_written(told: &mut Told, written: &[u8], before: usize) {
     let (interim, reply) = written.split_at(before.min(written.len()));
-    let (interim, reply) = (interim.escape_ascii(), reply.escape_ascii());
-    write!(text, " \"{interim}\" \"{reply}\" ")?;
-    Ok(())
+    told.put(" ");
+    put_quoted(told, interim);
+    told.put(" ");
+    put_quoted(told, reply);
+    told.put(" ");
 }
 
 /// Adds what two replies write: one with a body, and one that tells a fault and closes.
-pub(crate) fn put_replies(alloc: Global, body: &str, text: &mut String) -> Result<(), NoMemory> {
+pub(crate) fn put_replies(alloc: Global, told: &mut Told, body: &str) {
     let sender = Sender {
         bytes: body.as_bytes(),
         cut: 1,
         fails: 0,
     };
-    let mut door = door_of(alloc, &sender)?;
-    put_both(&mut door, sender.bytes, text)
+    match door_of(alloc, sender) {
+        Ok(mut door) => put_both(told, &mut door, sender.bytes),
+        Err(_) => told.lack(),
+    }
 }
 
 /// Adds whether two replies are written, and their bytes.
-fn put_both(door: &mut MemDoor, body: &[u8], text: &mut String) -> Result<(), NoMemory> {
-    let first = write_reply(door, 200, body, true).is_ok();
-    let second = write_reply(door, 405, b"", false).is_ok();
-    let written = written_from(door, 0).escape_ascii();
-    Ok(write!(text, "{first} {second} \"{written}\"")?)
+fn put_both(told: &mut Told, door: &mut MemDoor, body: &[u8]) {
+    told.put_bool(write_reply(door, 200, body, true).is_ok());
+    told.put(" ");
+    told.put_bool(write_reply(door, 405, b"", false).is_ok());
+    told.put(" ");
+    put_quoted(told, written_from(door, 0));
 }

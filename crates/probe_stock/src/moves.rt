@@ -1,19 +1,24 @@
 //! The state of a move, and what is left of its demand.
 
-use ob_base::NoMemory;
 use probe_parts::items::{flag_of, number_of};
+use probe_parts::told::Told;
 use wh_move::{MoveState, next_state, split};
 
 /// Adds the state of a move by its reserved quantity, its demand and whether it waits.
-pub(crate) fn put_state(asked: &str, text: &mut String) -> Result<(), NoMemory> {
-    let (numbers, waits) = asked.rsplit_once(' ').unwrap_or((asked, ""));
-    let (Some((reserved, demand)), Some(waits)) = (two_numbers(numbers), flag_of(waits)) else {
-        return Ok(text.push_str("no move")?);
+pub(crate) fn put_state(told: &mut Told, asked: &str) {
+    let (numbers, waits) = match asked.rsplit_once(' ') {
+        Some(both) => both,
+        None => (asked, ""),
     };
-    if reserved < 0 || reserved > demand || demand < 1 {
-        return Ok(text.push_str("not asked")?);
+    let (reserved, demand) = two_numbers(told, numbers);
+    let waits = told.found(flag_of(waits), false);
+    if told.is_malformed() {
+        told.put("no move");
+    } else if reserved < 0 || reserved > demand || demand < 1 {
+        told.put("not asked");
+    } else {
+        told.put(state_name(next_state(reserved, demand, waits)));
     }
-    Ok(text.push_str(state_name(next_state(reserved, demand, waits)))?)
 }
 
 /// The name of a state.
@@ -30,22 +35,30 @@ fn state_name(state: MoveState) -> &'static str {
 }
 
 /// Adds the done part of a demand and the rest.
-pub(crate) fn put_parts(asked: &str, text: &mut String) -> Result<(), NoMemory> {
-    let Some((demand, done)) = two_numbers(asked) else {
-        return Ok(text.push_str("no demand")?);
-    };
-    if done < 0 || done > demand {
-        return Ok(text.push_str("not asked")?);
+pub(crate) fn put_parts(told: &mut Told, asked: &str) {
+    let (demand, done) = two_numbers(told, asked);
+    if told.is_malformed() {
+        told.put("no demand");
+    } else if done < 0 || done > demand {
+        told.put("not asked");
+    } else {
+        let (done, left) = split(demand, done);
+        told.put_number(done);
+        told.put(" ");
+        told.put_number(left);
     }
-    let (done, left) = split(demand, done);
-    Ok(write!(text, "{done} {left}")?)
 }
 
 /// Two numbers with a space between them.
-fn two_numbers(text: &str) -> Option<(i64, i64)> {
-    let (first, second) = text.split_once(' ')?;
-    match (number_of(first), number_of(second)) {
-        (Some(first), Some(second)) => Some((first, second)),
-        _ => None,
+fn two_numbers(told: &mut Told, text: &str) -> (i64, i64) {
+    match text.split_once(' ') {
+        Some((first, second)) => (
+            told.found(number_of(first), 0),
+            told.found(number_of(second), 0),
+        ),
+        None => {
+            told.refuse();
+            (0, 0)
+        }
     }
 }

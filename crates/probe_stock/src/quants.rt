@@ -1,161 +1,145 @@
 //! What lines of goods that move make of quants.
 
-ghost use Rattle.std.specs.Prelude.{◌<◌, ◌≤◌, ◌^◌, nat_eq, map, length, All};
-ghost use Rattle.std.specs.List.{IsDistinct};
-ghost use Rattle.wh_quant.specs.Moves.{AreSmall};
-
 use crate::askable::may_be_asked;
 use crate::items::{Item, items_of};
-use ob_base::{NoMemory, RecId, Sequence};
-use probe_parts::items::{flag_of, id_of, number_of, some_id_of};
+use ob_base::RecId;
+use probe_parts::items::{Parts, id_of, number_of};
+use probe_parts::told::Told;
+use probe_parts::words::first_word;
 use std::alloc::Global;
-use wh_quant::{Line, LineFault, Quant, move_lines, small_sums_fit};
+use wh_quant::{Line, LineFault, Quant, move_lines};
 
 impl Item for Quant {
     /// A quant is `id:product:place:lot:quantity:reserved:in_date:guarded`.
-    fn of_parts(_alloc: Global, parts: &[&str]) -> Result<Option<Quant>, NoMemory> {
-        let [a, b, c, d, e, f, g, h] = parts else {
-            return Ok(None);
-        };
-        let (
-            (Some(id), Some(product), Some(place), Some(lot)),
-            (Some(quantity), Some(reserved), Some(in_date), Some(guarded)),
-        ) = (
-            (id_of(a), id_of(b), id_of(c), some_id_of(d)),
-            (number_of(e), number_of(f), number_of(g), flag_of(h)),
-        ) else {
-            return Ok(None);
-        };
-        Ok(Some(Quant {
-            id,
-            product,
-            place,
-            lot,
-            quantity,
-            reserved,
-            in_date,
-            guarded,
-        }))
+    fn of_parts(_alloc: Global, _told: &mut Told, parts: &mut Parts<'_>) -> Quant {
+        Quant {
+            id: parts.id(),
+            product: parts.id(),
+            place: parts.id(),
+            lot: parts.some_id(),
+            quantity: parts.number(),
+            reserved: parts.number(),
+            in_date: parts.number(),
+            guarded: parts.flag(),
+        }
     }
 }
 
 impl Item for Line {
     /// A line is `product:from:to:lot:amount:guarded_from:guarded_to`.
-    fn of_parts(_alloc: Global, parts: &[&str]) -> Result<Option<Line>, NoMemory> {
-        let [a, b, c, d, e, f, g] = parts else {
-            return Ok(None);
-        };
-        let (
-            (Some(product), Some(from), Some(to), Some(lot)),
-            (Some(amount), Some(guarded_from), Some(guarded_to)),
-        ) = (
-            (id_of(a), id_of(b), id_of(c), some_id_of(d)),
-            (number_of(e), flag_of(f), flag_of(g)),
-        ) else {
-            return Ok(None);
-        };
-        Ok(Some(Line {
-            product,
-            from,
-            to,
-            lot,
-            amount,
-            guarded_from,
-            guarded_to,
-        }))
+    fn of_parts(_alloc: Global, _told: &mut Told, parts: &mut Parts<'_>) -> Line {
+        Line {
+            product: parts.id(),
+            from: parts.id(),
+            to: parts.id(),
+            lot: parts.some_id(),
+            amount: parts.number(),
+            guarded_from: parts.flag(),
+            guarded_to: parts.flag(),
+        }
     }
 }
 
 /// Adds the quants after the lines that a line of input names behind a `|`.
-pub(crate) fn put_moved(
-    alloc: Global,
-    times: u32,
-    asked: &str,
-    text: &mut String,
-) -> Result<(), NoMemory> {
-    let (now, rest) = asked.split_once(' ').unwrap_or((asked, ""));
-    let (next, rest) = rest.split_once(' ').unwrap_or((rest, ""));
-    let (Some(now), Some(RecId(next))) = (number_of(now), id_of(next)) else {
-        return Ok(text.push_str("no moment and id")?);
-    };
-    let (quants, lines) = rest.split_once('|').unwrap_or((rest, ""));
-    let quants = items_of::<Quant>(alloc, quants)?;
-    match (quants, items_of::<Line>(alloc, lines)?) {
-        (Some(quants), Some(lines)) => put_tested(
-            alloc,
-            times,
-            quants.as_slice(),
-            lines.as_slice(),
-            now,
-            next,
-            text,
-        ),
-        _ => Ok(text.push_str("no quants and lines")?),
+pub(crate) fn put_moved(alloc: Global, told: &mut Told, times: u32, asked: &str) {
+    let (now, rest) = first_word(asked);
+    let (next, rest) = first_word(rest);
+    let now = told.found(number_of(now), 0);
+    let next = told.found(id_of(next), RecId(0));
+    if told.is_malformed() {
+        return told.put("no moment and id");
     }
+    let (quants, lines) = match rest.split_once('|') {
+        Some(both) => both,
+        None => (rest, ""),
+    };
+    let quants = items_of::<Quant>(alloc, told, quants);
+    let lines = items_of::<Line>(alloc, told, lines);
+    put_tested(
+        alloc,
+        told,
+        times,
+        quants.as_slice(),
+        lines.as_slice(),
+        now,
+        next.0,
+    );
 }
 
 /// Adds the quants after the lines, where they may be asked for.
 fn put_tested(
     alloc: Global,
+    told: &mut Told,
     times: u32,
     quants: &[Quant],
     lines: &[Line],
     now: i64,
     next: u64,
-    text: &mut String,
-) -> Result<(), NoMemory> {
-    if !may_be_asked(alloc, quants, lines, next)? {
-        return Ok(text.push_str("not asked")?);
+) {
+    if told.is_malformed() {
+        return told.put("no quants and lines");
+    }
+    match may_be_asked(alloc, quants, lines, next) {
+        Ok(true) => {}
+        Ok(false) => return told.put("not asked"),
+        Err(_) => return told.lack(),
     }
     for _ in 1..times {
-        let _ = moved(alloc, quants, lines, now, next);
+        let _ = move_lines(alloc, quants, lines, now, next);
     }
-    match moved(alloc, quants, lines, now, next) {
-        Ok(quants) => put_all(quants.as_slice(), text),
-        Err(LineFault::NoMemory) => Err(NoMemory),
-        Err(LineFault::Short(number)) => Ok(write!(text, "short at {number}")?),
+    match move_lines(alloc, quants, lines, now, next) {
+        Ok(quants) => put_all(told, quants.as_slice()),
+        Err(LineFault::NoMemory) => told.lack(),
+        Err(LineFault::Short(number, quant)) => put_fault(told, "short", number, quant),
+        Err(LineFault::Overflow(number, quant)) => put_fault(told, "overflow", number, quant),
     }
 }
 
-/// The quants after the lines, whose sums fit since all numbers are small.
-fn moved(
-    alloc: Global,
-    quants: &[Quant],
-    lines: &[Line],
-    now: i64,
-    next: u64,
-) -> Result<Sequence<Quant>, LineFault>
-    requires distinct { IsDistinct nat_eq (map (λ q. q.id.0) quants.now) }
-    requires below { All (λ q. q.id.0 < next) quants.now }
-    requires ids { next ≤ 2 ^ 63 }
-    requires few { length lines.now ≤ 2 ^ 20 }
-    requires small { AreSmall (2 ^ 40) quants.now lines.now }
-{
-    small_sums_fit();
-    move_lines(alloc, quants, lines, now, next)
+/// Adds why a line of this number can't move its goods, and at which quant.
+fn put_fault(told: &mut Told, why: &str, number: u64, quant: RecId) {
+    told.put(why);
+    told.put(" at ");
+    told.put_count(number);
+    told.put(" of ");
+    told.put_count(quant.0);
 }
 
 /// Adds quants with spaces between them, as they are asked.
-fn put_all(quants: &[Quant], text: &mut String) -> Result<(), NoMemory> {
+fn put_all(told: &mut Told, quants: &[Quant]) {
+    let mut between = "";
     for quant in quants {
-        text.push_str(if text.is_empty() { "" } else { " " })?;
-        put_quant(text, quant)?;
+        told.put(between);
+        put_quant(told, quant);
+        between = " ";
     }
-    if text.is_empty() {
-        text.push_str("none")?;
+    if quants.is_empty() {
+        told.put("none");
     }
-    Ok(())
 }
 
 /// Adds a quant.
-fn put_quant(text: &mut String, quant: &Quant) -> Result<(), NoMemory> {
-    let (id, product, place) = (quant.id.0, quant.product.0, quant.place.0);
-    write!(text, "{id}:{product}:{place}:")?;
+fn put_quant(told: &mut Told, quant: &Quant) {
+    told.put_count(quant.id.0);
+    put_id(told, quant.product);
+    put_id(told, quant.place);
     match quant.lot {
-        Some(RecId(lot)) => write!(text, "{lot}")?,
-        None => text.push_str("-")?,
+        Some(lot) => put_id(told, lot),
+        None => told.put(":-"),
     }
-    let (quantity, reserved, in_date) = (quant.quantity, quant.reserved, quant.in_date);
-    let guarded = if quant.guarded { "yes" } else { "no" };
-    Ok(write!(text, ":{quantity}:{reserved}:{in_date}:{guarded}")?)
+    put_number(told, quant.quantity);
+    put_number(told, quant.reserved);
+    put_number(told, quant.in_date);
+    told.put(if quant.guarded { ":yes" } else { ":no" });
+}
+
+/// Adds a part that is an id.
+fn put_id(told: &mut Told, id: RecId) {
+    told.put(":");
+    told.put_count(id.0);
+}
+
+/// Adds a part that is a number.
+fn put_number(told: &mut Told, number: i64) {
+    told.put(":");
+    told.put_number(number);
 }

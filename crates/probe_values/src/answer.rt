@@ -53,20 +53,21 @@
 //! `times N` before `row`, `body`, `value`, `expression`, `kinds` or `evaluate` makes that call N
 //! times and tells the last answer; `evaluate` then reads and checks its text once.
 
-use crate::arguments::{arguments, below, id};
-use crate::base::{ids, laws, limits, operations, place, sequence, ticks, word};
-use crate::evaluations::evaluated;
-use crate::expressions::{expression, kinds, long_expression, tree};
+use crate::arguments::{put_arguments_of, put_below, put_id_of};
+use crate::base::{
+    call_laws, put_ids_of, put_limits, put_operations, put_place, put_sequence, put_ticks, put_word,
+};
+use crate::evaluations::put_evaluation;
+use crate::expressions::{put_expression, put_kinds, put_long_expression, put_tree};
 use crate::fields::Fields;
-use crate::orders::{broken, values};
+use crate::orders::{put_broken, put_values};
 use crate::registry::MODEL;
-use crate::rows::{body_again, kept, row_values};
-use crate::texts::{day, moment};
-use crate::values::of_field;
-use ob_base::NoMemory;
+use crate::rows::{put_body, put_kept, put_row};
+use crate::texts::{put_day, put_moment};
+use crate::values::put_of_field;
 use ob_schema::Schema;
 use probe_parts::program::Probe;
-use probe_parts::words::told;
+use probe_parts::told::Told;
 use std::alloc::Global;
 
 /// The probe, with the registry and the fields that it asks about.
@@ -77,66 +78,68 @@ pub(crate) struct Values {
 }
 
 impl Probe for Values {
-    fn answer(
-        &self,
-        alloc: Global,
-        times: u32,
-        name: &str,
-        rest: &str,
-    ) -> Result<String, NoMemory> {
+    fn answer(&self, alloc: Global, told: &mut Told, times: u32, name: &str, rest: &str) {
         let schema = &self.schema;
         let Some(model) = schema.model(MODEL) else {
-            return told(alloc, "no model");
+            return told.put("no model");
         };
         match name {
-            "row" => row_values(alloc, schema, model, times, rest),
-            "body" => body_again(alloc, schema, model, times, rest),
-            "kept" => kept(alloc, rest),
+            "row" => put_row(alloc, told, schema, model, times, rest),
+            "body" => put_body(alloc, told, schema, model, times, rest),
+            "kept" => put_kept(alloc, told, rest),
             "value" | "given" | "order" | "targets" => {
-                of_field(alloc, schema, model, times, name, rest)
+                put_of_field(alloc, told, schema, model, times, name, rest);
             }
-            "arguments" => arguments(alloc, schema, model, rest),
-            "day" => day(alloc, rest),
-            "moment" => moment(alloc, rest),
-            _ => of_expressions(alloc, &self.fields, times, name, rest),
+            "arguments" => put_arguments_of(alloc, told, schema, model, rest),
+            _ => put_of_expressions(alloc, told, &self.fields, times, name, rest),
         }
     }
 }
 
-/// The answer to a line about expressions.
-fn of_expressions(
+/// Tells the answer to a line about expressions.
+fn put_of_expressions(
     alloc: Global,
+    told: &mut Told,
     fields: &Fields,
     times: u32,
     name: &str,
     rest: &str,
-) -> Result<String, NoMemory> {
+) {
     match name {
-        "expression" => expression(alloc, times, rest),
-        "long" => long_expression(alloc, rest),
-        "tree" => tree(alloc, rest),
-        "kinds" => kinds(alloc, fields, times, false, rest),
-        "swapped" => kinds(alloc, fields, times, true, rest),
-        "evaluate" => evaluated(alloc, fields, times, rest),
-        _ => of_base(alloc, name, rest),
+        "expression" => put_expression(alloc, told, times, rest),
+        "long" => put_long_expression(alloc, told, rest),
+        "tree" => put_tree(alloc, told, rest),
+        "kinds" => put_kinds(alloc, told, fields, times, false, rest),
+        "swapped" => put_kinds(alloc, told, fields, times, true, rest),
+        "evaluate" => put_evaluation(alloc, told, fields, times, rest),
+        _ => put_of_base(alloc, told, name, rest),
     }
 }
 
-/// The answer to a line about the words that all libraries speak.
-fn of_base(alloc: Global, name: &str, rest: &str) -> Result<String, NoMemory> {
+/// Tells the answer to a line about the words that all libraries speak.
+fn put_of_base(alloc: Global, told: &mut Told, name: &str, rest: &str) {
     match name {
-        "word" => word(alloc, rest),
-        "sequence" => sequence(alloc, rest),
-        "ids" => ids(alloc, rest),
-        "ticks" => ticks(alloc, rest),
-        "place" => place(alloc, rest),
-        "values" => values(alloc, rest),
-        "broken" => broken(alloc, rest),
-        "operations" => operations(alloc),
-        "limits" => limits(alloc),
-        "laws" => laws(alloc),
-        "below" => below(alloc, rest),
-        "id" => id(alloc, rest),
-        _ => told(alloc, "no word"),
+        "word" => put_word(alloc, told, rest),
+        "sequence" => put_sequence(alloc, told, rest),
+        "ids" => put_ids_of(alloc, told, rest),
+        "ticks" => put_ticks(told, rest),
+        "place" => put_place(alloc, told, rest),
+        "values" => put_values(alloc, told, rest),
+        "broken" => put_broken(alloc, told, rest),
+        "below" => put_below(alloc, told, rest),
+        "id" => put_id_of(alloc, told, rest),
+        _ => put_rest(alloc, told, name, rest),
+    }
+}
+
+/// Tells the answer to a line of one of the other words.
+fn put_rest(alloc: Global, told: &mut Told, name: &str, rest: &str) {
+    match name {
+        "day" => put_day(alloc, told, rest),
+        "moment" => put_moment(alloc, told, rest),
+        "operations" => put_operations(told),
+        "limits" => put_limits(told),
+        "laws" => call_laws(told),
+        _ => told.put("no word"),
     }
 }

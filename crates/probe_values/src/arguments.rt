@@ -6,38 +6,41 @@ ghost use Rattle.ob_call.specs.ArgumentsSteps.{names_of};
 ghost use Rattle.ob_schema.specs.Models.{HasModel};
 
 use crate::base::place_of;
-use ob_base::{ModelNo, NoMemory, Refusal};
+use ob_base::{ModelNo, Refusal};
 use ob_call::{
     Below, FieldNames, Form, Given, Ids, Parameter, Spot, Unread, arguments_of, id_of, malformed,
     malformed_below,
 };
 use ob_schema::Schema;
-use probe_parts::parts::Json;
-use probe_parts::words::told;
+use probe_parts::parts::{Json, json_of};
+use probe_parts::told::Told;
+use probe_parts::words::first_word;
 use std::alloc::Global;
 
-/// What is told of arguments of a form: `ids` must be given and `more` may be, or `fields` may
-/// be, or `load` may be, which is any value.
-pub(crate) fn arguments(
+/// Adds what is told of arguments of a form: `ids` must be given and `more` may be, or `fields`
+/// may be, or `load` may be, which is any value.
+pub(crate) fn put_arguments_of(
     alloc: Global,
+    told: &mut Told,
     schema: &Schema,
     model: ModelNo,
     asked: &str,
-) -> Result<String, NoMemory>
+)
     requires { HasModel schema.now model }
 {
-    let (form, text) = asked.split_once(' ').unwrap_or((asked, ""));
-    let Ok(json) = Json::from_str(alloc, text) else {
-        return told(alloc, "no JSON");
-    };
+    let (form, text) = first_word(asked);
+    let json = json_of(alloc, told, text);
+    if told.is_malformed() {
+        return told.put("no JSON");
+    }
     match form {
-        "ids" => told_ids(alloc, &json),
-        "fields" => told_fields(alloc, schema, model, &json),
-        _ => told_any(alloc, &json),
+        "ids" => put_of_ids(alloc, told, &json),
+        "fields" => put_of_fields(alloc, told, schema, model, &json),
+        _ => put_of_any(alloc, told, &json),
     }
 }
 
-fn told_ids(alloc: Global, json: &Json) -> Result<String, NoMemory> {
+fn put_of_ids(alloc: Global, told: &mut Told, json: &Json) {
     let expected = [
         Parameter {
             name: "ids",
@@ -50,15 +53,10 @@ fn told_ids(alloc: Global, json: &Json) -> Result<String, NoMemory> {
             form: Ids,
         },
     ];
-    told_arguments(alloc, &expected, json)
+    put_arguments(alloc, told, &expected, json);
 }
 
-fn told_fields(
-    alloc: Global,
-    schema: &Schema,
-    model: ModelNo,
-    json: &Json,
-) -> Result<String, NoMemory>
+fn put_of_fields(alloc: Global, told: &mut Told, schema: &Schema, model: ModelNo, json: &Json)
     requires { HasModel schema.now model }
 {
     let expected = [Parameter {
@@ -66,92 +64,103 @@ fn told_fields(
         required: false,
         form: FieldNames { schema, model },
     }];
-    told_arguments(alloc, &expected, json)
+    put_arguments(alloc, told, &expected, json);
 }
 
-fn told_any(alloc: Global, json: &Json) -> Result<String, NoMemory> {
+fn put_of_any(alloc: Global, told: &mut Told, json: &Json) {
     let expected = [Parameter {
         name: "load",
         required: false,
         form: Unread,
     }];
-    told_arguments(alloc, &expected, json)
+    put_arguments(alloc, told, &expected, json);
 }
 
-/// Where each argument is given, or the place of the first that is wrong.
-fn told_arguments<F: Form>(
-    alloc: Global,
-    expected: &[Parameter<F>],
-    json: &Json,
-) -> Result<String, NoMemory>
+/// Adds where each argument is given, or the place of the first that is wrong.
+fn put_arguments<F: Form>(alloc: Global, told: &mut Told, expected: &[Parameter<F>], json: &Json)
     requires { are_apart (codes "context" ∷ names_of expected.now) ≡ true }
 {
     let Json::Array(parts) = json else {
-        return told(alloc, "no list");
+        return told.put("no list");
     };
     let [args, kw] = parts.as_slice() else {
-        return told(alloc, "no pair");
+        return told.put("no pair");
     };
     match arguments_of(alloc, expected, args, kw) {
-        Ok(given) => spots(alloc, given.as_slice()),
-        Err(refusal) => told_refusal(alloc, &refusal),
+        Ok(given) => put_spots(told, given.as_slice()),
+        Err(refusal) => put_refusal(told, &refusal),
     }
 }
 
-/// Where each argument is given, a word for each.
-fn spots(alloc: Global, given: &[Option<Given<'_>>]) -> Result<String, NoMemory> {
-    let mut text = String::new(alloc);
+/// Adds where each argument is given, a word for each.
+fn put_spots(told: &mut Told, given: &[Option<Given<'_>>]) {
+    let mut between = "";
     for argument in given {
-        if !text.is_empty() {
-            text.push_str(" ")?;
+        told.put(between);
+        match argument {
+            Some(given) => put_spot(told, given),
+            None => told.put("-"),
         }
-        let Some(given) = argument else {
-            text.push_str("-")?;
-            continue;
-        };
-        match given.spot {
-            Spot::Position(number) => write!(&mut text, "{number}")?,
-            Spot::Name(name) => text.push_str(name)?,
-        }
+        between = " ";
     }
-    Ok(text)
 }
 
-/// The place of a refusal.
-fn told_refusal(alloc: Global, refusal: &Refusal) -> Result<String, NoMemory> {
+/// Adds where an argument is given.
+fn put_spot(told: &mut Told, given: &Given<'_>) {
+    match given.spot {
+        Spot::Position(number) => told.put_shown(&number),
+        Spot::Name(name) => told.put(name),
+    }
+}
+
+/// Adds the place of a refusal.
+fn put_refusal(told: &mut Told, refusal: &Refusal) {
     match refusal {
-        Refusal::Request(place) => Ok(format!(in alloc; "{place}")?),
-        _ => Err(NoMemory),
+        Refusal::Request(place) => told.put_shown(place),
+        _ => told.lack(),
     }
 }
 
-/// The places of a part of an argument, and of a place below it: the line has the argument's
-/// number or its name, then an item's number, a key or `-`, then the steps below that.
-pub(crate) fn below(alloc: Global, asked: &str) -> Result<String, NoMemory> {
-    let (spot, rest) = asked.split_once(' ').unwrap_or((asked, "-"));
-    let (part, steps) = rest.split_once(' ').unwrap_or((rest, ""));
-    let spot = match spot.parse() {
-        Ok(number) => Spot::Position(number),
-        Err(_) => Spot::Name(spot),
+/// Adds the places of a part of an argument, and of a place below it: the line has the
+/// argument's number or its name, then an item's number, a key or `-`, then the steps below that.
+pub(crate) fn put_below(alloc: Global, told: &mut Told, asked: &str) {
+    let (spot, rest) = match asked.split_once(' ') {
+        Some(both) => both,
+        None => (asked, "-"),
     };
-    let below = match part.parse() {
-        Ok(number) => Below::Item(number),
-        Err(_) if part == "-" => Below::Whole,
-        Err(_) => Below::Key(part),
-    };
-    let steps = place_of(alloc, steps)?;
-    let whole = told_refusal(alloc, &malformed(alloc, spot, below))?;
-    let further = told_refusal(alloc, &malformed_below(alloc, spot, below, &steps))?;
-    Ok(format!(in alloc; "{whole} {further}")?)
+    let (part, steps) = first_word(rest);
+    let (spot, below) = (spot_of(spot), below_of(part));
+    let steps = place_of(alloc, told, steps);
+    put_refusal(told, &malformed(alloc, spot, below));
+    told.put(" ");
+    put_refusal(told, &malformed_below(alloc, spot, below, &steps));
 }
 
-/// The id that a value is.
-pub(crate) fn id(alloc: Global, text: &str) -> Result<String, NoMemory> {
-    let Ok(json) = Json::from_str(alloc, text) else {
-        return told(alloc, "no JSON");
-    };
+/// The spot that a word names.
+fn spot_of(word: &str) -> Spot<'_> {
+    match word.parse() {
+        Ok(number) => Spot::Position(number),
+        Err(_) => Spot::Name(word),
+    }
+}
+
+/// The part of an argument that a word names.
+fn below_of(word: &str) -> Below<'_> {
+    match word.parse() {
+        Ok(number) => Below::Item(number),
+        Err(_) if word == "-" => Below::Whole,
+        Err(_) => Below::Key(word),
+    }
+}
+
+/// Adds the id that a value is.
+pub(crate) fn put_id_of(alloc: Global, told: &mut Told, text: &str) {
+    let json = json_of(alloc, told, text);
+    if told.is_malformed() {
+        return told.put("no JSON");
+    }
     match id_of(&json) {
-        Some(id) => Ok(format!(in alloc; "{id}")?),
-        None => told(alloc, "none"),
+        Some(id) => told.put_shown(&id),
+        None => told.put("none"),
     }
 }

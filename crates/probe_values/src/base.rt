@@ -7,106 +7,162 @@ use ob_base::limits::{
     MAX_MODULES, MAX_MOMENT, MAX_MOVE_QUANTITY, MAX_PATH_STEPS, MAX_STRATUM, MAX_TARGETS,
     MAX_TEXT_BYTES, MAX_TREE_DEPTH, MIN_DAY, MIN_MOMENT,
 };
-use ob_base::{Counted, NoMemory, Op, PathStep, Place, Sequence, Silent, Steps, Word};
+use ob_base::{Counted, Op, PathStep, Place, Sequence, Silent, Steps, Word, call_order};
 use ob_codec::{command_forms, one_body, one_json, one_row, reads_back};
 use ob_dates::{one_day_text, one_moment_text};
 use ob_expr::{values_from_cells, values_of_kinds};
-use ob_syntax::{call_order, one_tree};
-use probe_parts::parts::{Json, ids_of};
-use probe_parts::told::put_ids;
-use probe_parts::words::told;
+use ob_syntax::one_tree;
+use probe_parts::parts::{ids_of, json_of};
+use probe_parts::told::{Told, put_ids};
+use probe_parts::words::{first_word, plain_word};
 use std::alloc::Global;
+use std::fmt::Display;
 
-/// A word's length, whether it is empty, and its text again.
-pub(crate) fn word(alloc: Global, text: &str) -> Result<String, NoMemory> {
-    let word = Word::from_text(alloc, text)?;
-    let (len, empty) = (word.len(), word.is_empty());
-    let again = Word::new(word.try_clone(alloc)?.into_string());
-    let text = word.as_str();
-    Ok(format!(in alloc; "{len} {empty} {text} <{again}>")?)
+/// Adds a word's length, whether it is empty, its text and that of a copy.
+pub(crate) fn put_word(alloc: Global, told: &mut Told, text: &str) {
+    let word = plain_word(alloc, told, text);
+    put_length(told, word.len(), word.is_empty());
+    told.put(word.as_str());
+    match word.try_clone(alloc) {
+        Ok(copy) => put_copy(told, copy),
+        Err(_) => told.lack(),
+    }
 }
 
-/// The length of a sequence of texts, whether it is empty, and its items.
-pub(crate) fn sequence(alloc: Global, text: &str) -> Result<String, NoMemory> {
+/// Adds a word that is made of a copy's text.
+fn put_copy(told: &mut Told, copy: Word) {
+    told.put(" <");
+    told.put_shown(&Word::new(copy.into_string()));
+    told.put(">");
+}
+
+/// Adds a length, and whether there is nothing.
+fn put_length(told: &mut Told, length: usize, is_empty: bool) {
+    told.put_shown(&length);
+    told.put(" ");
+    told.put_bool(is_empty);
+    told.put(" ");
+}
+
+/// Adds the length of a sequence of texts, whether it is empty, and its items.
+pub(crate) fn put_sequence(alloc: Global, told: &mut Told, text: &str) {
     let mut items = Sequence::new(alloc);
     for item in text.split_whitespace() {
-        items.push(item)?;
+        told.add(&mut items, item);
     }
-    let (len, empty) = (items.len(), items.is_empty());
-    let mut answer = format!(in alloc; "{len} {empty}")?;
+    put_items(told, items);
+}
+
+/// Adds the length of a sequence, whether it is empty, and the items of one that is made of it.
+fn put_items(told: &mut Told, items: Sequence<&str>) {
+    told.put_shown(&items.len());
+    told.put(" ");
+    told.put_bool(items.is_empty());
     let again = Sequence::from_vec(items.into_vec());
     for item in again.as_slice() {
-        write!(&mut answer, " {item}")?;
+        told.put(" ");
+        told.put(item);
     }
-    Ok(answer)
 }
 
-/// The length of a list of ids, whether it is empty, and the ids of its copy.
-pub(crate) fn ids(alloc: Global, text: &str) -> Result<String, NoMemory> {
-    let Ok(json) = Json::from_str(alloc, text) else {
-        return told(alloc, "no JSON");
-    };
-    let Ok(ids) = ids_of(alloc, &json) else {
-        return told(alloc, "no ids");
-    };
-    let again = ids.try_clone(alloc)?;
-    let (len, empty) = (again.len(), ids.is_empty());
-    let mut answer = format!(in alloc; "{len} {empty} ")?;
-    put_ids(&mut answer, "", again.as_slice())?;
-    Ok(answer)
+/// Adds the length of a list of ids, whether it is empty, and the ids of its copy.
+pub(crate) fn put_ids_of(alloc: Global, told: &mut Told, text: &str) {
+    let json = json_of(alloc, told, text);
+    if told.is_malformed() {
+        return told.put("no JSON");
+    }
+    let ids = ids_of(alloc, told, &json);
+    if told.is_malformed() {
+        return told.put("no ids");
+    }
+    match ids.try_clone(alloc) {
+        Ok(again) => {
+            put_length(told, again.len(), ids.is_empty());
+            put_ids(told, "", again.as_slice());
+        }
+        Err(_) => told.lack(),
+    }
 }
 
-/// What a ledger tells that begins with a total, after so many ticks; and a silent one.
-pub(crate) fn ticks(alloc: Global, text: &str) -> Result<String, NoMemory> {
-    let (total, count) = text.split_once(' ').unwrap_or((text, ""));
-    let (Ok(total), Ok(count)) = (total.parse::<u64>(), count.parse::<u32>()) else {
-        return told(alloc, "not asked");
-    };
+/// Adds what a ledger tells that begins with a total, after so many ticks; and a silent one.
+pub(crate) fn put_ticks(told: &mut Told, text: &str) {
+    let (total, count) = first_word(text);
+    let total: u64 = told.found(total.parse().ok(), 0);
+    let count: u32 = told.found(count.parse().ok(), 0);
+    if told.is_malformed() {
+        return told.put("not asked");
+    }
     let mut steps = Steps::new(Counted { total });
     let mut silent = Steps::new(Silent);
     for _ in 0..count {
         steps.tick();
         silent.tick();
     }
-    let (told, quiet) = (steps.ledger().total, silent.ledger());
-    Ok(format!(in alloc; "{told} {quiet:?}")?)
+    told.put_count(steps.ledger().total);
+    told.put(" ");
+    told.put_debug(silent.ledger());
 }
 
-/// The number of a place's steps and its text. ` | ` stands before the steps by which it is
+/// Adds the number of a place's steps and its text. ` | ` stands before the steps by which it is
 /// extended.
-pub(crate) fn place(alloc: Global, text: &str) -> Result<String, NoMemory> {
-    let (first, further) = text.split_once(" | ").unwrap_or((text, ""));
-    let mut place = place_of(alloc, first)?;
-    place.extend(alloc, &place_of(alloc, further)?)?;
-    let (len, text) = (place.steps().len(), place.to_word(alloc)?);
-    Ok(format!(in alloc; "{len} <{text}> <{place}>")?)
+pub(crate) fn put_place(alloc: Global, told: &mut Told, text: &str) {
+    let (first, further) = match text.split_once(" | ") {
+        Some(both) => both,
+        None => (text, ""),
+    };
+    let mut place = place_of(alloc, told, first);
+    let further = place_of(alloc, told, further);
+    if place.extend(alloc, &further).is_err() {
+        told.lack();
+    }
+    put_whole_place(alloc, told, &place);
+}
+
+/// Adds the number of a place's steps, its text as a word, and as it is shown.
+fn put_whole_place(alloc: Global, told: &mut Told, place: &Place) {
+    told.put_shown(&place.steps().len());
+    told.put(" <");
+    match place.to_word(alloc) {
+        Ok(word) => told.put(word.as_str()),
+        Err(_) => told.lack(),
+    }
+    told.put("> <");
+    told.put_shown(place);
+    told.put(">");
 }
 
 /// The place whose steps these words are: a number is an item, any other a key.
-pub(crate) fn place_of(alloc: Global, text: &str) -> Result<Place, NoMemory> {
+pub(crate) fn place_of(alloc: Global, told: &mut Told, text: &str) -> Place {
     let mut place = Place::whole(alloc);
     for word in text.split_whitespace() {
-        match word.parse() {
-            Ok(number) => place.push(PathStep::Item(number))?,
-            Err(_) => place.push_key(alloc, word)?,
-        }
+        add_step(alloc, told, &mut place, word);
     }
-    Ok(place)
+    place
 }
 
-/// The names of the operations.
-pub(crate) fn operations(alloc: Global) -> Result<String, NoMemory> {
-    let mut answer = String::new(alloc);
+/// Adds the step that a word is.
+fn add_step(alloc: Global, told: &mut Told, place: &mut Place, word: &str) {
+    let added = match word.parse() {
+        Ok(number) => place.push(PathStep::Item(number)),
+        Err(_) => place.push_key(alloc, word),
+    };
+    if added.is_err() {
+        told.lack();
+    }
+}
+
+/// Adds the names of the operations.
+pub(crate) fn put_operations(told: &mut Told) {
     for op in [Op::Read, Op::Create, Op::Write, Op::Unlink] {
-        let name = op.name();
-        write!(&mut answer, "{op}:{name} ")?;
+        told.put_shown(&op);
+        told.put(":");
+        told.put(op.name());
+        told.put(" ");
     }
-    Ok(answer)
 }
 
-/// The limits: of counts and lengths, then of the others.
-pub(crate) fn limits(alloc: Global) -> Result<String, NoMemory> {
-    let mut answer = String::new(alloc);
+/// Adds the limits: of counts and lengths, then of the others.
+pub(crate) fn put_limits(told: &mut Told) {
     let counts = [
         MAX_TARGETS,
         MAX_CHAR_BYTES,
@@ -129,19 +185,27 @@ pub(crate) fn limits(alloc: Global) -> Result<String, NoMemory> {
         MAX_JSON_DEPTH,
     ];
     for count in counts {
-        write!(&mut answer, "{count} ")?;
+        put_limit(told, &count);
     }
-    write!(
-        &mut answer,
-        "{MAX_ID} {MAX_INPUT_BYTES} {MAX_STRATUM} {MAX_MOVE_QUANTITY} "
-    )?;
-    write!(&mut answer, "{MIN_DAY} {MAX_DAY} {MIN_MOMENT} {MAX_MOMENT}")?;
-    Ok(answer)
+    put_limit(told, &MAX_ID);
+    put_limit(told, &MAX_INPUT_BYTES);
+    put_limit(told, &MAX_STRATUM);
+    put_limit(told, &MAX_MOVE_QUANTITY);
+    put_limit(told, &MIN_DAY);
+    put_limit(told, &MAX_DAY);
+    put_limit(told, &MIN_MOMENT);
+    told.put_shown(&MAX_MOMENT);
+}
+
+/// Adds a limit, with a space behind it.
+fn put_limit<T: Display>(told: &mut Told, limit: &T) {
+    told.put_shown(limit);
+    told.put(" ");
 }
 
 /// Calls each law of the libraries that no other line needs. Laws do nothing: what they say
 /// stands in their contracts.
-pub(crate) fn laws(alloc: Global) -> Result<String, NoMemory> {
+pub(crate) fn call_laws(told: &mut Told) {
     Counted::counts_each_tick();
     one_day_text();
     one_moment_text();
@@ -154,5 +218,5 @@ pub(crate) fn laws(alloc: Global) -> Result<String, NoMemory> {
     command_forms();
     one_row();
     one_body();
-    told(alloc, "called")
+    told.put("called");
 }

@@ -9,11 +9,11 @@ ghost use Rattle.ob_expr.specs.Kinds.{HasKind};
 ghost use Rattle.probe_values.specs.Fields.{has_kind, kind_of_field};
 
 use crate::fields::{Fields, kind_of, model_name, model_of};
-use ob_base::{Cell, NoMemory, RecId, RefList, Value, Word};
+use ob_base::{Cell, FieldNo, ModelNo, NoMemory, RecId, RefList, Value, Word};
 use ob_expr::{Kind, Reads};
-use probe_parts::items::{flag_of, id_of, number_of as integer_of};
+use probe_parts::items::{Parts, flag_of, id_of, number_of as integer_of};
 use probe_parts::parts::add_id;
-use probe_parts::undefined::Undefined;
+use probe_parts::told::Told;
 use probe_parts::words::repeated;
 use std::alloc::Global;
 use std::collections::BTreeMap;
@@ -43,24 +43,26 @@ pub(crate) struct Cells {
 
 impl Cells {
     /// The cells of a text, `MODEL:ID:FIELD:VALUE` each; the last value of a cell counts.
-    pub(crate) fn of(
-        alloc: Global,
-        fields: &Fields,
-        text: &str,
-    ) -> Result<Option<Cells>, NoMemory> {
-        let mut values = BTreeMap::new(alloc);
-        for word in text.split_whitespace() {
-            let Some((cell, value)) = given(alloc, fields, word)? else {
-                return Ok(None);
-            };
-            values.insert(cell, value)?;
-        }
-        Ok(Some(Cells {
+    pub(crate) fn of(alloc: Global, told: &mut Told, fields: &Fields, text: &str) -> Cells {
+        let mut cells = Cells {
             alloc,
-            values,
+            values: BTreeMap::new(alloc),
             keeps: false,
             read: Vec::new(alloc),
-        }))
+        };
+        for word in text.split_whitespace() {
+            cells.add(told, fields, word);
+        }
+        cells
+    }
+
+    /// Adds the cell of a word and its value.
+    fn add(&mut self, told: &mut Told, fields: &Fields, word: &str) {
+        let (cell, part) = cell_and_part(told, fields, word);
+        let value = value_of(self.alloc, told, kind_of(cell.field), part);
+        if self.values.insert(cell, value).is_err() {
+            told.lack();
+        }
     }
 
     /// A law for whoever evaluates over them: what a cell holds is of its field's kind.
@@ -74,13 +76,15 @@ impl Cells {
     }
 
     /// Adds the cells that were read.
-    pub(crate) fn put_reads(&self, text: &mut String, fields: &Fields) -> Result<(), NoMemory> {
+    pub(crate) fn put_reads(&self, told: &mut Told, fields: &Fields) {
         for cell in &self.read {
-            let (model, id) = (model_name(cell.model), cell.id.0);
-            let name = fields.name_of(cell.field);
-            write!(text, " {model}:{id}:{name}")?;
+            told.put(" ");
+            told.put(model_name(cell.model));
+            told.put(":");
+            told.put_count(cell.id.0);
+            told.put(":");
+            told.put(fields.name_of(cell.field));
         }
-        Ok(())
     }
 }
 
@@ -123,52 +127,43 @@ fn has_kind(kind: Kind, value: &Value) -> bool
     }
 }
 
-/// A cell and its value; none where the word is of another form.
-fn given(alloc: Global, fields: &Fields, word: &str) -> Result<Option<(Cell, Value)>, NoMemory> {
-    let parts: Vec<&str> = word.split(':').collect(alloc)?;
-    let [model, id, name, value] = parts.as_slice() else {
-        return Ok(None);
-    };
-    let (Some(model), Some(id), Some(field)) = (model_of(model), id_of(id), fields.number_of(name))
-    else {
-        return Ok(None);
-    };
-    match value_of(alloc, kind_of(field), value)? {
-        Some(value) => Ok(Some((Cell { model, id, field }, value))),
-        None => Ok(None),
+/// A cell, and the part of its word that is its value.
+fn cell_and_part<'a>(told: &mut Told, fields: &Fields, word: &'a str) -> (Cell, &'a str) {
+    let mut parts = Parts::of(word);
+    let model = told.found(model_of(parts.text()), ModelNo(0));
+    let id = parts.id();
+    let field = told.found(fields.number_of(parts.text()), FieldNo(0));
+    let part = parts.text();
+    if !parts.are_read() {
+        told.refuse();
     }
+    (Cell { model, id, field }, part)
 }
 
 /// The value that a part gives a field of the kind.
-pub(crate) fn value_of(alloc: Global, kind: Kind, part: &str) -> Result<Option<Value>, NoMemory> {
+pub(crate) fn value_of(alloc: Global, told: &mut Told, kind: Kind, part: &str) -> Value {
     if part == "-" {
-        return Ok(Some(Value::Nil));
+        return Value::Nil;
     }
-    Ok(match kind {
-        Kind::Bool => flag_of(part).map(Value::Bool),
-        Kind::Int => integer_of(part).map(Value::Int),
-        Kind::Word => match repeated(alloc, part)? {
-            Some(text) => Some(Value::Word(Word::new(text))),
-            None => None,
-        },
-        Kind::Day => part.parse().ok().map(Value::Day),
-        Kind::Moment => integer_of(part).map(Value::Moment),
-        Kind::Ref(_) => id_of(part).map(Value::Ref),
-        Kind::Refs(_) => match ids_of(alloc, part) {
-            Ok(ids) => Some(Value::Refs(ids)),
-            Err(Undefined::Form) => None,
-            Err(Undefined::NoMemory) => return Err(NoMemory),
-        },
-    })
+    match kind {
+        Kind::Bool => Value::Bool(told.found(flag_of(part), false)),
+        Kind::Int => Value::Int(told.found(integer_of(part), 0)),
+        Kind::Word => Value::Word(Word::new(repeated(alloc, told, part))),
+        Kind::Day => Value::Day(told.found(part.parse().ok(), 0)),
+        Kind::Moment => Value::Moment(told.found(integer_of(part), 0)),
+        Kind::Ref(_) => Value::Ref(told.found(id_of(part), RecId(0))),
+        Kind::Refs(_) => Value::Refs(ids_of(alloc, told, part)),
+    }
 }
 
 /// The ids of a part, which rise.
-fn ids_of(alloc: Global, part: &str) -> Result<RefList, Undefined> {
+fn ids_of(alloc: Global, told: &mut Told, part: &str) -> RefList {
     let mut ids = RefList::new(alloc);
     for word in part.split(',') {
         if !word.is_empty() {
-            add_id(&mut ids, id_of(word).ok_or(Undefined::Form)?)?;
+            let id = told.found(id_of(word), RecId(0));
+            add_id(told, &mut ids, id);
         }
     }
-    Ok(ids)
+    ids
 }

@@ -7,34 +7,51 @@ ghost use Rattle.ob_expr.specs.TypedTree.{IsWellKinded, typed_tree_of};
 use crate::cells::{Cells, Unread};
 use crate::expressions::{checked, put_kind};
 use crate::fields::{Fields, model_of};
-use ob_base::{Cell, Counted, FieldNo, NoMemory, Steps};
+use ob_base::{Cell, Counted, FieldNo, Steps};
 use ob_expr::{EvalFault, Fresh, Scope, Typed, eval, reads_along_paths};
 use probe_parts::items::id_of;
-use probe_parts::told::put_value;
-use probe_parts::words::{told, unescaped};
+use probe_parts::told::{Told, put_value};
+use probe_parts::words::unescaped;
 use std::alloc::Global;
 
-/// The value of an expression in a row, over the cells of the line.
-pub(crate) fn evaluated(
+/// Adds the value of an expression in a row, over the cells of the line.
+pub(crate) fn put_evaluation(
     alloc: Global,
+    told: &mut Told,
     fields: &Fields,
     times: u32,
     asked: &str,
-) -> Result<String, NoMemory> {
+) {
     let Some((row, text)) = asked.split_once(" | ") else {
-        return told(alloc, "not asked");
+        return told.put("not asked");
     };
-    let (row, given) = row.split_once(" with ").unwrap_or((row, ""));
+    let (row, given) = match row.split_once(" with ") {
+        Some(both) => both,
+        None => (row, ""),
+    };
     let Some(cell) = row_cell(row) else {
-        return told(alloc, "not asked");
+        return told.put("not asked");
     };
-    let Some(mut cells) = Cells::of(alloc, fields, given)? else {
-        return told(alloc, "not asked");
-    };
-    let text = unescaped(alloc, text)?;
-    match checked(alloc, fields, cell.model, text.as_str())? {
-        Ok(typed) => value_told(alloc, fields, times, &typed, cell, &mut cells),
-        Err(why) => Ok(why),
+    put_over(alloc, told, fields, times, cell, given, text);
+}
+
+/// Adds the value of an expression in a row, over the cells that are given.
+fn put_over(
+    alloc: Global,
+    told: &mut Told,
+    fields: &Fields,
+    times: u32,
+    cell: Cell,
+    given: &str,
+    text: &str,
+) {
+    let mut cells = Cells::of(alloc, told, fields, given);
+    if told.is_malformed() {
+        return told.put("not asked");
+    }
+    let text = unescaped(alloc, told, text);
+    if let Some(typed) = checked(alloc, told, fields, cell.model, text.as_str()) {
+        put_evaluated(alloc, told, fields, times, &typed, cell, &mut cells);
     }
 }
 
@@ -48,15 +65,16 @@ fn row_cell(row: &str) -> Option<Cell> {
     })
 }
 
-/// What a checked expression comes to, and the cells that are read for it.
-fn value_told(
+/// Adds what a checked expression comes to, and the cells that are read for it.
+fn put_evaluated(
     alloc: Global,
+    told: &mut Told,
     fields: &Fields,
     times: u32,
     typed: &Typed,
     cell: Cell,
     cells: &mut Cells,
-) -> Result<String, NoMemory>
+)
     requires kinded { IsWellKinded (typed_tree_of typed.now) }
     requires found { AreFound (⟦<Fields as Scope>⟧.finds fields.now) cell.model (typed_tree_of typed.now) }
 {
@@ -68,13 +86,12 @@ fn value_told(
     cells.keep_reads();
     let outcome = value_in(alloc, fields, typed, cell, cells, &mut steps);
     let ticks = steps.ledger().total.wrapping_sub(before);
-    let mut text = String::new(alloc);
-    put_kind(&mut text, typed.kind())?;
-    text.push_str(" ")?;
-    put_outcome(alloc, &mut text, cell, outcome)?;
-    write!(&mut text, " ticks:{ticks}")?;
-    cells.put_reads(&mut text, fields)?;
-    Ok(text)
+    put_kind(told, typed.kind());
+    told.put(" ");
+    put_outcome(alloc, told, cell, outcome);
+    told.put(" ticks:");
+    told.put_count(ticks);
+    cells.put_reads(told, fields);
 }
 
 /// The value of a checked expression over the cells.
@@ -99,16 +116,16 @@ fn value_in(
 /// Adds a value, or why there is none.
 fn put_outcome(
     alloc: Global,
-    text: &mut String,
+    told: &mut Told,
     cell: Cell,
     outcome: Result<Fresh, EvalFault<Unread>>,
-) -> Result<(), NoMemory> {
+) {
     match outcome {
-        Ok(fresh) if fresh.cell() == cell => put_value(alloc, text, fresh.value()),
-        Ok(_) => Ok(text.push_str("another cell")?),
-        Err(EvalFault::ZeroDivisor) => Ok(text.push_str("zero divisor")?),
-        Err(EvalFault::Read(Unread::NoValue)) => Ok(text.push_str("no value")?),
-        Err(EvalFault::Read(Unread::NoMemory) | EvalFault::NoMemory) => Err(NoMemory),
-        Err(fault) => Ok(write!(text, "{fault}")?),
+        Ok(fresh) if fresh.cell() == cell => put_value(alloc, told, fresh.value()),
+        Ok(_) => told.put("another cell"),
+        Err(EvalFault::ZeroDivisor) => told.put("zero divisor"),
+        Err(EvalFault::Read(Unread::NoValue)) => told.put("no value"),
+        Err(EvalFault::Read(Unread::NoMemory) | EvalFault::NoMemory) => told.lack(),
+        Err(fault) => told.put_shown(&fault),
     }
 }

@@ -34,7 +34,7 @@ use std::process::ExitCode;
 fn main(rt: HostRuntime) -> ExitCode {
     let alloc = rt.alloc();
     match (registry(alloc), Fields::new(alloc)) {
-        (Ok(schema), Ok(fields)) => answer_lines(&rt, &Values { schema, fields }),
+        (Some(schema), Ok(fields)) => answer_lines(&rt, &Values { schema, fields }),
         _ => ExitCode::from(7),
     }
 }

@@ -2,12 +2,11 @@
 
 use crate::cells::value_of;
 use ob_base::{
-    Broken, BrokenKind, Cell, FieldNo, ModelNo, NoMemory, RecId, Value, broken_cmp, cell_cmp,
-    value_cmp, value_eq,
+    Broken, BrokenKind, Cell, FieldNo, ModelNo, Value, broken_cmp, cell_cmp, value_cmp, value_eq,
 };
 use ob_expr::Kind;
-use probe_parts::told::put_value;
-use probe_parts::words::told;
+use probe_parts::items::Parts;
+use probe_parts::told::{Told, put_value};
 use std::alloc::Global;
 use std::cmp::Ordering;
 
@@ -35,60 +34,91 @@ const KINDS: [BrokenKind; 20] = [
     BrokenKind::Outside,
 ];
 
-/// The broken cell of these parts: the numbers of its model, its row, its field and its kind.
-fn broken_of(parts: &[&str]) -> Option<Broken> {
-    let [model, id, field, kind] = parts else {
-        return None;
-    };
-    let number: usize = kind.parse().ok()?;
-    Some(Broken {
-        kind: *KINDS.get(number)?,
-        cell: Cell {
-            model: ModelNo(model.parse().ok()?),
-            id: RecId(id.parse().ok()?),
-            field: FieldNo(field.parse().ok()?),
-        },
-    })
+/// The broken cell of a word: the numbers of its model, its row, its field and its kind.
+fn broken_of(told: &mut Told, word: &str) -> Broken {
+    let mut parts = Parts::of(word);
+    let model = ModelNo(told.found(parts.text().parse().ok(), 0));
+    let id = parts.id();
+    let field = FieldNo(told.found(parts.text().parse().ok(), 0));
+    let number = told.found(parts.text().parse().ok(), 0);
+    let kind = told.found(kind_at(number), BrokenKind::Required);
+    if !parts.are_read() {
+        told.refuse();
+    }
+    Broken {
+        kind,
+        cell: Cell { model, id, field },
+    }
 }
 
-/// The kinds of broken cells, and between two of them how the cells stand to each other and
+/// The kind of being broken of a number.
+fn kind_at(number: usize) -> Option<BrokenKind> {
+    match KINDS.get(number) {
+        Some(kind) => Some(*kind),
+        None => None,
+    }
+}
+
+/// Adds the kinds of broken cells, and between two of them how the cells stand to each other and
 /// then how the broken cells do.
-pub(crate) fn broken(alloc: Global, text: &str) -> Result<String, NoMemory> {
-    let mut answer = String::new(alloc);
+pub(crate) fn put_broken(alloc: Global, told: &mut Told, text: &str) {
     let mut before: Option<Broken> = None;
     for word in text.split(' ') {
-        let parts: Vec<&str> = word.split(':').collect(alloc)?;
-        let Some(broken) = broken_of(parts.as_slice()) else {
-            return told(alloc, "not asked");
-        };
-        if let Some(before) = before {
-            let cells = sign(cell_cmp(&before.cell, &broken.cell));
-            let both = sign(broken_cmp(&before, &broken));
-            write!(&mut answer, " {cells}{both} ")?;
-        }
-        answer.push_str(broken.kind.name())?;
+        let broken = broken_of(told, word);
+        put_standing(told, before, &broken);
         before = Some(broken);
     }
-    Ok(answer)
+    if told.is_malformed() {
+        told.tell_instead(alloc, "not asked");
+    }
 }
 
-/// Values, and between two of them how a copy of the one stands to the other.
-pub(crate) fn values(alloc: Global, text: &str) -> Result<String, NoMemory> {
-    let mut answer = String::new(alloc);
+/// Adds a broken cell's kind, behind how the one before stands to it.
+fn put_standing(told: &mut Told, before: Option<Broken>, broken: &Broken) {
+    if let Some(before) = before {
+        told.put(" ");
+        told.put(sign(cell_cmp(&before.cell, &broken.cell)));
+        told.put(sign(broken_cmp(&before, broken)));
+        told.put(" ");
+    }
+    told.put(broken.kind.name());
+}
+
+/// Adds values, and between two of them how a copy of the one stands to the other.
+pub(crate) fn put_values(alloc: Global, told: &mut Told, text: &str) {
     let mut before: Option<Value> = None;
     for word in text.split(' ') {
-        let (kind, part) = word.split_once(':').unwrap_or(("", word));
-        let Some(value) = value_of(alloc, kind_of(kind), part)? else {
-            return told(alloc, "not asked");
-        };
+        let value = value_in(alloc, told, word);
         if let Some(before) = &before {
-            let sign = sign_of(before, &value);
-            write!(&mut answer, " {sign} ")?;
+            told.put(" ");
+            told.put(sign_of(before, &value));
+            told.put(" ");
         }
-        put_value(alloc, &mut answer, &value)?;
-        before = Some(value.try_clone(alloc)?);
+        put_value(alloc, told, &value);
+        before = copy_of(alloc, told, &value);
     }
-    Ok(answer)
+    if told.is_malformed() {
+        told.tell_instead(alloc, "not asked");
+    }
+}
+
+/// The value of a word.
+fn value_in(alloc: Global, told: &mut Told, word: &str) -> Value {
+    match word.split_once(':') {
+        Some((kind, part)) => value_of(alloc, told, kind_of(kind), part),
+        None => value_of(alloc, told, kind_of(""), word),
+    }
+}
+
+/// A copy of a value.
+fn copy_of(alloc: Global, told: &mut Told, value: &Value) -> Option<Value> {
+    match value.try_clone(alloc) {
+        Ok(copy) => Some(copy),
+        Err(_) => {
+            told.lack();
+            None
+        }
+    }
 }
 
 /// The kind whose values a word names.

@@ -1,28 +1,31 @@
 //! The texts of days and moments.
 
-use ob_base::NoMemory;
 use ob_dates::{day_of, day_text, moment_of, moment_text};
-use probe_parts::words::told;
+use probe_parts::told::Told;
 use std::alloc::Global;
 
-/// The day that a text names, and its text again.
-pub(crate) fn day(alloc: Global, text: &str) -> Result<String, NoMemory> {
-    match day_of(text) {
-        Some(day) => {
-            let again = day_text(alloc, day)?;
-            Ok(format!(in alloc; "{day} {again}")?)
-        }
-        None => told(alloc, "none"),
+/// Adds the day that a text names, and its text again.
+pub(crate) fn put_day(alloc: Global, told: &mut Told, text: &str) {
+    let Some(day) = day_of(text) else {
+        return told.put("none");
+    };
+    told.put_shown(&day);
+    told.put(" ");
+    match day_text(alloc, day) {
+        Ok(again) => told.put_shown(&again),
+        Err(_) => told.lack(),
     }
 }
 
-/// The moment that a text names, and its text again.
-pub(crate) fn moment(alloc: Global, text: &str) -> Result<String, NoMemory> {
-    match moment_of(text) {
-        Some(moment) => {
-            let again = moment_text(alloc, moment)?;
-            Ok(format!(in alloc; "{moment} {again}")?)
-        }
-        None => told(alloc, "none"),
+/// Adds the moment that a text names, and its text again.
+pub(crate) fn put_moment(alloc: Global, told: &mut Told, text: &str) {
+    let Some(moment) = moment_of(text) else {
+        return told.put("none");
+    };
+    told.put_shown(&moment);
+    told.put(" ");
+    match moment_text(alloc, moment) {
+        Ok(again) => told.put_shown(&again),
+        Err(_) => told.lack(),
     }
 }

@@ -1,8 +1,7 @@
 //! How answers write commands, and what they write of a text that is very long.
 
-use ob_base::NoMemory;
 use ob_codec::Command;
-use probe_parts::told::{put_id, put_ids, put_json};
+use probe_parts::told::{Told, put_id, put_ids, put_json};
 use probe_parts::words::repeated;
 use std::alloc::Global;
 
@@ -10,47 +9,54 @@ use std::alloc::Global;
 const LONG: usize = 1_000;
 
 /// Adds a command.
-pub(crate) fn put_command(
-    alloc: Global,
-    text: &mut String,
-    command: &Command,
-) -> Result<(), NoMemory> {
+pub(crate) fn put_command(alloc: Global, told: &mut Told, command: &Command) {
     match command {
         Command::Create(values) => {
-            text.push_str("create:")?;
-            put_json(alloc, text, values)
+            told.put("create:");
+            put_json(alloc, told, values);
         }
         Command::Update(id, values) => {
-            put_id(text, "update:", *id)?;
-            text.push_str(":")?;
-            put_json(alloc, text, values)
+            put_id(told, "update:", *id);
+            told.put(":");
+            put_json(alloc, told, values);
         }
-        Command::Delete(id) => put_id(text, "delete:", *id),
-        Command::Unlink(id) => put_id(text, "unlink:", *id),
-        Command::Link(id) => put_id(text, "link:", *id),
-        Command::Clear => Ok(text.push_str("clear")?),
-        Command::Set(ids) => put_ids(text, "set:", ids.as_slice()),
+        Command::Delete(id) => put_id(told, "delete:", *id),
+        Command::Unlink(id) => put_id(told, "unlink:", *id),
+        Command::Link(id) => put_id(told, "link:", *id),
+        Command::Clear => told.put("clear"),
+        Command::Set(ids) => put_ids(told, "set:", ids.as_slice()),
     }
 }
 
-/// An answer as it is, or its length where it is long.
-pub(crate) fn shortened(alloc: Global, answer: String) -> Result<String, NoMemory> {
-    let len = answer.len();
-    if len < LONG {
-        return Ok(answer);
+/// Adds an answer as it is, or its length where it is long.
+pub(crate) fn put_shortened(told: &mut Told, answer: Told) {
+    let answer = told.take(answer);
+    let length = answer.len();
+    if length < LONG {
+        told.put(answer.as_str());
+    } else {
+        told.put_shown(&length);
+        told.put(" bytes");
     }
-    Ok(format!(in alloc; "{len} bytes")?)
 }
 
 /// The text that pieces make, with `|` between them: `COUNT*TEXT` is a text so many times,
 /// any other piece stands for itself.
-pub(crate) fn joined(alloc: Global, pieces: &str) -> Result<String, NoMemory> {
-    let mut whole = String::new(alloc);
+pub(crate) fn joined(alloc: Global, told: &mut Told, pieces: &str) -> String {
+    let mut whole = Told::new(alloc);
     for piece in pieces.split('|') {
-        match repeated(alloc, piece)? {
-            Some(text) => whole.push_str(text.as_str())?,
-            None => whole.push_str(piece)?,
-        }
+        put_piece(alloc, &mut whole, piece);
     }
-    Ok(whole)
+    told.take(whole)
+}
+
+/// Adds the text that a piece is.
+fn put_piece(alloc: Global, whole: &mut Told, piece: &str) {
+    match piece.split_once('*') {
+        Some((count, _)) if count.parse::<u32>().is_ok() => {
+            let text = repeated(alloc, whole, piece);
+            whole.put(text.as_str());
+        }
+        _ => whole.put(piece),
+    }
 }

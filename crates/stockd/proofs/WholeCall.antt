@@ -7,7 +7,7 @@ use Rattle.ob_cache.specs.Standing.{Holding, RestsAt}
 use Rattle.ob_io.specs.Cause.{Rose}
 use Rattle.ob_io.specs.Store.{Store}
 use Rattle.ob_load.specs.Loading.{IsFirstFault, IsLoaded}
-use Rattle.ob_load.specs.Texts.{text_in}
+use Rattle.ob_load.specs.Texts.{AgreesWith, FileTexts, text_in}
 use Rattle.ob_load.specs.declared.fault.FaultyModule.{FaultyModule}
 use Rattle.ob_schema.specs.Broken.{AreSound}
 use Rattle.ob_schema.specs.Tables.{Tables}
@@ -34,11 +34,16 @@ stops_told text_of names rose faulty ending.KeeperFault first told = absurd told
 stops_told text_of names rose faulty (ending.Store cell) first told = absurd told
 stops_told text_of names rose faulty (ending.TooLong number) first told = absurd told
 
+-- what is known of texts that the files may hold is known of those that they tell
+pub of_told : (told : Option FileTexts) (P : FileTexts → Type 0) → (texts : FileTexts) × AgreesWith told texts × P texts → IfSome told P
+of_told None P is = tt
+of_told (Some own) P (texts, same, is) = subst P (sym same) is
+
 -- of files that tell their texts
-pub loading_stops : (texts : Option (List ℕ → Option (List ℕ))) (folder : List ℕ) (names : List (List ℕ)) (rose : Type 0) (faulty : FaultyModule) (why : Ending)
-    → IfSome texts (λ texts. IsFirstFault (text_in texts folder) names faulty) → TellsFault faulty why → IfSome texts (λ texts. EndsLoading (text_in texts folder) names rose why)
-loading_stops None folder names rose faulty why first told = tt
-loading_stops (Some texts) folder names rose faulty why first told = stops_told (text_in texts folder) names rose faulty why first told
+pub loading_stops : (told : Option FileTexts) (folder : List ℕ) (names : List (List ℕ)) (rose : Type 0) (faulty : FaultyModule) (why : Ending)
+    → (texts : FileTexts) × AgreesWith told texts × IsFirstFault (text_in texts folder) names faulty → TellsFault faulty why → IfSome told (λ texts. EndsLoading (text_in texts folder) names rose why)
+loading_stops told folder names rose faulty why (texts, agree, first) tells =
+    of_told told (λ t. EndsLoading (text_in t folder) names rose why) (texts, agree, stops_told (text_in texts folder) names rose faulty why first tells)
 
 -- a session from a later count of the keeper's faults on is one from an earlier one on
 session_from : (models : List ModelInfo) (first : Tables) (why : Ending) (start : Start) (faults : ℕ) (left_now : Option (List ℕ)) (now : Surroundings) → start.faults ≤ faults

@@ -1,7 +1,7 @@
 -- Why a run stops before its session: its modules aren't loaded, or its store isn't opened.
 use Rattle.std.specs.Prelude.{◌≡◌, ℕ, List, Option, ⊤}
 use Rattle.ob_base.specs.declared.id.Cell.{Cell}
-use Rattle.ob_cache.specs.Opening.{IsInconsistent}
+use Rattle.ob_cache.specs.Opening.{IsFirstInconsistent}
 use Rattle.ob_cache.specs.declared.fault.OpenFault.{OpenFault}
 use Rattle.ob_cache.specs.declared.fault.OpenFault.TheVariants as open_fault
 use Rattle.ob_io.specs.Store.{Store}
@@ -31,9 +31,9 @@ MayEndLoading rose ending.ReadFault = rose
 MayEndLoading rose ending.NoMemory = ⊤
 MayEndLoading rose _ = ⊥
 
--- a cell is told that shows that no sound tables have the rows
+-- the first cell is told that shows that no sound tables have the rows
 abbrev pub TellsCell : List ModelInfo → Store → List ℕ → Type 0
-TellsCell models store text = (cell : Cell) × IsInconsistent models store cell × (text ≡ cell_text models cell)
+TellsCell models store text = (cell : Cell) × IsFirstInconsistent models store cell × (text ≡ cell_text models cell)
 
 -- what an opening ends with where it doesn't lead to a session
 abbrev pub EndsOpening : List ModelInfo → Store → Type 0 → Ending → Type 0

@@ -12,6 +12,7 @@ mod kept;
 mod loaded;
 mod modules;
 mod opened;
+mod pieces;
 mod places;
 
 use case::play;

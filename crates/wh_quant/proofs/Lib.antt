@@ -9,6 +9,6 @@ pub mod Exact
 pub mod Kept
 pub mod Order
 pub mod Laws
+pub mod Single
+pub mod Touched
 pub mod Only
-pub mod Small
-pub mod Examples

@@ -1,9 +1,9 @@
 -- A list in strict order is the only one of its members: so the answers are the only ones.
-use Rattle.std.proofs.Common.{◌≡◌, ℕ, zero, suc, ℤ, pos, None, take, cond, ◌+◌, ◌<◌, List, [], ◌∷◌, length, get_or, map, Bool, true, false, refl, sym, ◌∙◌, ap, nat_eq, inl, inr, ◌⊎◌, arith}
+use Rattle.std.proofs.Common.{◌≡◌, ℕ, zero, suc, ℤ, pos, None, Some, take, cond, ◌+◌, ◌-ℤ◌, ◌<◌, List, [], ◌∷◌, length, get_or, map, Bool, true, false, refl, sym, ◌∙◌, ap, nat_eq, inl, inr, ◌⊎◌, arith}
 use Rattle.std.specs.declared.cmp.Ordering.{Ordering}
 use Rattle.std.specs.declared.cmp.Ordering.TheVariants.{Less, Equal, Greater}
 use Rattle.std.specs.Cmp.{IsTotalOrder}
-use Rattle.std.specs.Prelude.{int_lt}
+use Rattle.std.specs.Prelude.{int_lt, slice_get}
 use Rattle.std.specs.List.{AllByRecursion as ByRecursion, Contains, IsDistinct, filter}
 use Rattle.std.specs.List.Sorted.{IsPermutation, IsStrictlySortedBy}
 use Rattle.std.specs.Cmp.Lexicographic.{slice_cmp}
@@ -12,23 +12,27 @@ use Rattle.std.specs.Ordering.{is_lt, ordering_reverse, nat_cmp, int_cmp, on}
 use Rattle.std.proofs.lemmas.Cmp.{tied_itself, on_total, nat_cmp_total, nat_eq_equiv}
 use Rattle.std.proofs.lemmas.Int.{ints}
 use Rattle.std.proofs.lemmas.List.{get_or-map, length-map}
-use Rattle.std.proofs.lemmas.Option.{slice_get_within}
+use Rattle.std.proofs.lemmas.Option.{slice_get_within, same_Some}
+use Rattle.std.proofs.lemmas.Bool.{cases_lt}
 use Rattle.std.proofs.lemmas.List.Elements.{All-contains, All-from_recursion}
 use Rattle.std.proofs.lemmas.List.Sorted.{IsPermutation-sym, IsPermutation-trans, IsPermutation-map, Contains-permutation}
 use Rattle.std.proofs.lemmas.Map.Keys.{sorted_head, sorted_tail, sorted_from_all_adjacent, sorted_from_strictly_increasing, Less-from_sorted}
 use Rattle.std.proofs.lemmas.Map.Keys.{apart_from_distinct, IsDistinct-head, IsDistinct-tail, IsDistinct-cons, IsDistinct-IsPermutation}
+use Rattle.ob_base.specs.declared.id.RecId.{RecId}
 use Rattle.wh_quant.specs.declared.quant.Quant.{Quant}
 use Rattle.wh_quant.specs.declared.quant.Line.{Line}
+use Rattle.wh_quant.specs.declared.quant.LineFault.{LineFault}
+use Rattle.wh_quant.specs.declared.quant.LineFault.TheVariants.{Short, Overflow, NoMemory}
 use Rattle.wh_quant.specs.declared.stock.Stock.{Stock}
 use Rattle.wh_quant.specs.declared.stock.Take.{Take}
 use Rattle.wh_quant.specs.declared.stock.Removal.{Removal}
 use Rattle.wh_quant.specs.declared.stock.Removal.TheVariants.{Fifo, Lifo, Fefo, Closest}
-use Rattle.wh_quant.specs.Takes.{date_cmp, removal_cmp, IsRanked, takes_from, AreTakes}
-use Rattle.wh_quant.specs.Moves.{Holdings, RiseById, IsStart, source_quant, holdings_after, FallsShort, IsMoved, IsShortAt}
+use Rattle.wh_quant.specs.Takes.{date_cmp, removal_cmp, IsRanked, gifts, takes_from, AreTakes}
+use Rattle.wh_quant.specs.Moves.{Holdings, RiseById, IsStart, source_quant, holdings_after, Suffices, FallsShort, MovesGoods, AllMove, is_left}
+use Rattle.wh_quant.specs.Moves.{OverflowsAt, IsMoved, IsShortAt, IsOverflowAt, IsFault}
 use Rattle.wh_quant.proofs.Removals.{removal_cmp_total}
 use Rattle.wh_quant.proofs.Starts.{id_of}
 use Rattle.wh_quant.proofs.Exact.{both_equal}
-use Rattle.wh_quant.proofs.Kept.{is_left}
 
 -- the number of a stock's quant
 abbrev stock_id : Stock → ℕ
@@ -95,25 +99,36 @@ tied_ids Lifo a b e = sym (nat_cmp-IsAntisymmetric (stock_id b) (stock_id a) (bo
 tied_ids Fefo a b e = nat_cmp-IsAntisymmetric (stock_id a) (stock_id b) (both_equal (int_cmp a.in_date b.in_date) _ (both_equal (date_cmp a.removal b.removal) _ e).1).1
 tied_ids Closest a b e = nat_cmp-IsAntisymmetric (stock_id a) (stock_id b) (both_equal (slice_cmp nat_cmp a.place b.place) _ e).1
 
-kept_apart : (P : ℕ → Type 0) (b : Bool) (s : Stock) (stocks : List Stock) → P (stock_id s) → ByRecursion P (map stock_id stocks) → ByRecursion P (map stock_id (cond b (s ∷ stocks) stocks))
-kept_apart P true s stocks here rest = (here, rest)
-kept_apart P false s stocks here rest = rest
+module _ {X : Type 0} (id_in : X → ℕ) where
+  kept_apart : (P : ℕ → Type 0) (b : Bool) (x : X) (xs : List X) → P (id_in x) → ByRecursion P (map id_in xs) → ByRecursion P (map id_in (cond b (x ∷ xs) xs))
+  kept_apart P true x xs here rest = (here, rest)
+  kept_apart P false x xs here rest = rest
 
-all-filter : (P : ℕ → Type 0) (p : Stock → Bool) (stocks : List Stock) → ByRecursion P (map stock_id stocks) → ByRecursion P (map stock_id (filter p stocks))
-all-filter P p [] all = all
-all-filter P p (s ∷ stocks) all = kept_apart P (p s) s (filter p stocks) all.0 (all-filter P p stocks all.1)
+  all-filter : (P : ℕ → Type 0) (p : X → Bool) (xs : List X) → ByRecursion P (map id_in xs) → ByRecursion P (map id_in (filter p xs))
+  all-filter P p [] all = all
+  all-filter P p (x ∷ xs) all = kept_apart P (p x) x (filter p xs) all.0 (all-filter P p xs all.1)
 
-distinct_cons : (b : Bool) (s : Stock) (stocks : List Stock) → ByRecursion (λ id. nat_eq (stock_id s) id ≡ false) (map stock_id stocks) → IsDistinct nat_eq (map stock_id stocks) →
-    IsDistinct nat_eq (map stock_id (cond b (s ∷ stocks) stocks))
-distinct_cons true s stocks apart rest = IsDistinct-cons nat_eq (stock_id s) (map stock_id stocks) apart rest
-distinct_cons false s stocks apart rest = rest
+  distinct_cons : (b : Bool) (x : X) (xs : List X) → ByRecursion (λ id. nat_eq (id_in x) id ≡ false) (map id_in xs) → IsDistinct nat_eq (map id_in xs) →
+      IsDistinct nat_eq (map id_in (cond b (x ∷ xs) xs))
+  distinct_cons true x xs apart rest = IsDistinct-cons nat_eq (id_in x) (map id_in xs) apart rest
+  distinct_cons false x xs apart rest = rest
 
-distinct-filter : (p : Stock → Bool) (stocks : List Stock) → IsDistinct nat_eq (map stock_id stocks) → IsDistinct nat_eq (map stock_id (filter p stocks))
-distinct-filter p [] distinct = distinct
-distinct-filter p (s ∷ stocks) distinct =
-    distinct_cons (p s) s (filter p stocks)
-    (all-filter (λ id. nat_eq (stock_id s) id ≡ false) p stocks (IsDistinct-head nat_eq (stock_id s) (map stock_id stocks) distinct))
-    (distinct-filter p stocks (IsDistinct-tail nat_eq (stock_id s) (map stock_id stocks) distinct))
+  -- what a test keeps of a list whose ids differ has ids that differ
+  distinct-filter : (p : X → Bool) (xs : List X) → IsDistinct nat_eq (map id_in xs) → IsDistinct nat_eq (map id_in (filter p xs))
+  distinct-filter p [] distinct = distinct
+  distinct-filter p (x ∷ xs) distinct =
+      distinct_cons (p x) x (filter p xs)
+      (all-filter (λ id. nat_eq (id_in x) id ≡ false) p xs (IsDistinct-head nat_eq (id_in x) (map id_in xs) distinct))
+      (distinct-filter p xs (IsDistinct-tail nat_eq (id_in x) (map id_in xs) distinct))
+
+-- the number of the quant that a take is of
+abbrev take_id : Take → ℕ
+take_id t = t.quant.0
+
+-- each stock gives in its own name
+gift_ids : (want : ℤ) (ranked : List Stock) → map take_id (gifts want ranked) ≡ map stock_id ranked
+gift_ids want [] = refl
+gift_ids want (s ∷ rest) = ap (λ ids. stock_id s ∷ ids) (gift_ids (want -ℤ s.free) rest)
 
 -- a stock, where a list has none
 abbrev nothing : Stock
@@ -125,11 +140,15 @@ less_or_tied Equal s e h apart = absurd (apart refl)
 less_or_tied Greater s e h apart = e
 
 module _ (order : Removal) (stocks : List Stock) (distinct : IsDistinct nat_eq (map stock_id stocks)) where
+  ranked_apart : (ranked : List Stock) → IsRanked order stocks ranked → IsDistinct nat_eq (map stock_id ranked)
+  ranked_apart ranked is =
+      let candidates = filter (λ s. int_lt (pos 0) s.free) stocks in
+      IsDistinct-IsPermutation nat_eq nat_eq_equiv.symm (map stock_id candidates) (map stock_id ranked)
+      (IsPermutation-map stock_id candidates ranked is.same) (distinct-filter stock_id (λ s. int_lt (pos 0) s.free) stocks distinct)
+
   ranked_strictly : (ranked : List Stock) → IsRanked order stocks ranked → IsStrictlySortedBy (removal_cmp order) ranked
   ranked_strictly ranked is =
-      let candidates = filter (λ s. int_lt (pos 0) s.free) stocks in
-      let ids : IsDistinct nat_eq (map stock_id ranked) = IsDistinct-IsPermutation nat_eq nat_eq_equiv.symm (map stock_id candidates) (map stock_id ranked)
-      (IsPermutation-map stock_id candidates ranked is.same) (distinct-filter (λ s. int_lt (pos 0) s.free) stocks distinct) in
+      let ids = ranked_apart ranked is in
       sorted_from_all_adjacent (removal_cmp_total order) ranked nothing (λ k within.
       less_or_tied (removal_cmp order (get_or ranked (k + 1) nothing) (get_or ranked k nothing)) _ ((removal_cmp_total order).antisymm _ _) (is.sorted k nothing (omega arith) within)
       (λ tied. let far : k + 1 < length (map stock_id ranked) = rw length-map within in
@@ -145,6 +164,11 @@ module _ (order : Removal) (stocks : List Stock) (distinct : IsDistinct nat_eq (
   -- where ids differ there is one list of takes
   pub taken_only : (want : ℤ) (a b : List Take) → AreTakes order stocks want a → AreTakes order stocks want b → a ≡ b
   taken_only want a b (ranked, is, e) (ranked', is', e') = e ∙ ap (takes_from want) (ranked_only ranked ranked' is is') ∙ sym e'
+
+  -- and no two of them are of one quant
+  pub takes_apart : (want : ℤ) (ranked : List Stock) → IsRanked order stocks ranked → IsDistinct nat_eq (map take_id (takes_from want ranked))
+  takes_apart want ranked is =
+      distinct-filter take_id (λ t. int_lt (pos 0) t.amount) (gifts want ranked) (rw (gift_ids want ranked) (ranked_apart ranked is))
 
 -- ---- quants by id
 
@@ -168,14 +192,109 @@ start_only quants next a b is is' =
 -- there is one list of quants after lines
 pub moved_only : (now : ℤ) (next : ℕ) (quants : List Quant) (lines : List Line) (a b : List Quant) → IsMoved now next quants lines a → IsMoved now next quants lines b → a ≡ b
 moved_only now next quants lines a b is is' =
-    is.left ∙ ap (λ start. filter is_left (holdings_after now start lines).quants) (start_only quants next is.start is'.start is.starts is'.starts) ∙ sym is'.left
+    is.left ∙ ap (λ start. filter (is_left lines) (holdings_after now start lines).quants) (start_only quants next is.start is'.start is.starts is'.starts) ∙ sym is'.left
 
--- and where there is one, no line falls short
-pub moved_not_short : (now : ℤ) (next : ℕ) (quants : List Quant) (lines : List Line) (moved : List Quant) (i : ℕ) → IsMoved now next quants lines moved → IsShortAt now next quants lines i → ⊥
-moved_not_short now next quants lines moved i is short =
-    let same : short.start ≡ is.start = start_only quants next short.start is.start short.starts is.starts in
-    let within = slice_get_within lines i short.line short.is in
-    let enough = is.suffice i short.line within short.is in
-    let lacks : FallsShort short.line (source_quant now short.line (holdings_after now is.start (take i lines))) = rw (sym same) short.short in
+-- ---- faults
+
+-- a line of this number that doesn't move its goods, where those before it do
+record Stops (now : ℤ) (start : Holdings) (lines : List Line) (number : ℕ) : Type 0 where
+  before : AllMove now start lines number
+  line : Line
+  is : slice_get lines number ≡ Some line
+  stops : MovesGoods now line (holdings_after now start (take number lines)) → ⊥
+
+not_both : (line : Line) (source : Quant) → FallsShort line source → Suffices line source → ⊥
+not_both line source lacks enough =
     let most = enough lacks.0 in
     elim lacks.1 [ inl h ↦ absurd (omega (arith, ints, h, most.0)) | inr h ↦ absurd (omega (arith, ints, h, most.1)) ]
+
+not_within : (now : ℤ) (line : Line) (stock : Holdings) (q : RecId) → OverflowsAt now line stock q → MovesGoods now line stock → ⊥
+not_within now line stock q (inl over) moves = over.0 moves.source
+not_within now line stock q (inr over) moves = over.1 moves.destination
+
+-- of a line one quant is the first that leaves 64 bits
+one_overflows : (now : ℤ) (line : Line) (stock : Holdings) (p q : RecId) → OverflowsAt now line stock p → OverflowsAt now line stock q → p ≡ q
+one_overflows now line stock p q (inl a) (inl b) = a.1 ∙ sym b.1
+one_overflows now line stock p q (inl a) (inr b) = absurd (a.0 b.0)
+one_overflows now line stock p q (inr a) (inl b) = absurd (b.0 a.0)
+one_overflows now line stock p q (inr a) (inr b) = a.2 ∙ sym b.2
+
+module _ (now : ℤ) (next : ℕ) (quants : List Quant) (lines : List Line) where
+  short_stops : (i : ℕ) (q : RecId) (is : IsShortAt now next quants lines i q) → Stops now is.start lines i
+  short_stops i q is = record {
+    before = is.before;
+    line = is.line;
+    is = is.is;
+    stops = λ moves. not_both is.line (source_quant now is.line (holdings_after now is.start (take i lines))) is.short moves.enough;
+  }
+
+  overflow_stops : (i : ℕ) (q : RecId) (is : IsOverflowAt now next quants lines i q) → Stops now is.start lines i
+  overflow_stops i q is = record {
+    before = is.before;
+    line = is.line;
+    is = is.is;
+    stops = not_within now is.line (holdings_after now is.start (take i lines)) q is.overflows;
+  }
+
+  not_before : (start : Holdings) (i j : ℕ) → Stops now start lines i → Stops now start lines j → i < j → ⊥
+  not_before start i j a b h = a.stops (b.before i a.line h a.is)
+
+  stops_once : (start start' : Holdings) (i j : ℕ) → start ≡ start' → Stops now start lines i → Stops now start' lines j → i ≡ j
+  stops_once start start' i j same a b' =
+      let b : Stops now start lines j = rw same b' in
+      elim (cases_lt i j) [
+        | inl h ↦ absurd (not_before start i j a b h)
+        | inr h ↦ elim (cases_lt j i) [
+          | inl k ↦ absurd (not_before start j i b a k)
+          | inr k ↦ omega arith
+        ]
+      ]
+
+  -- lists that are moved have no line that stops
+  moves_all : (moved : List Quant) (start : Holdings) (i : ℕ) (is : IsMoved now next quants lines moved) → start ≡ is.start → Stops now start lines i → ⊥
+  moves_all moved start i is same a' =
+      let a : Stops now is.start lines i = rw (sym same) a' in
+      a.stops (is.each i a.line (slice_get_within lines i a.line a.is) a.is)
+
+  -- where lists are moved no line has a fault
+  pub moved_without_fault : (moved : List Quant) (fault : LineFault) → IsMoved now next quants lines moved → IsFault now next quants lines fault → ⊥
+  moved_without_fault moved NoMemory is h = h
+  moved_without_fault moved (Short i q) is h = moves_all moved h.start i is (start_only quants next h.start is.start h.starts is.starts) (short_stops i q h)
+  moved_without_fault moved (Overflow i q) is h = moves_all moved h.start i is (start_only quants next h.start is.start h.starts is.starts) (overflow_stops i q h)
+
+  same_line : (i j : ℕ) (a b : Line) → i ≡ j → slice_get lines i ≡ Some a → slice_get lines j ≡ Some b → a ≡ b
+  same_line i j a b e at at' = same_Some a b (sym at ∙ ap (slice_get lines) e ∙ at')
+
+  short_once : (i j : ℕ) (p q : RecId) → IsShortAt now next quants lines i p → IsShortAt now next quants lines j q → ◌≡◌ {A = LineFault} (Short i p) (Short j q)
+  short_once i j p q a b =
+      let start : a.start ≡ b.start = start_only quants next a.start b.start a.starts b.starts in
+      let number : i ≡ j = stops_once a.start b.start i j start (short_stops i p a) (short_stops j q b) in
+      let line : a.line ≡ b.line = same_line i j a.line b.line number a.is b.is in
+      let quant : p ≡ q = a.source ∙ rw (start, line, number) (sym b.source) in
+      cc
+
+  overflow_once : (i j : ℕ) (p q : RecId) → IsOverflowAt now next quants lines i p → IsOverflowAt now next quants lines j q → ◌≡◌ {A = LineFault} (Overflow i p) (Overflow j q)
+  overflow_once i j p q a b =
+      let start : a.start ≡ b.start = start_only quants next a.start b.start a.starts b.starts in
+      let number : i ≡ j = stops_once a.start b.start i j start (overflow_stops i p a) (overflow_stops j q b) in
+      let line : a.line ≡ b.line = same_line i j a.line b.line number a.is b.is in
+      let over : OverflowsAt now b.line (holdings_after now b.start (take j lines)) p = rw (sym start, sym line, sym number) a.overflows in
+      let quant : p ≡ q = one_overflows now b.line (holdings_after now b.start (take j lines)) p q over b.overflows in
+      cc
+
+  short_or_overflow : (i j : ℕ) (p q : RecId) → IsShortAt now next quants lines i p → IsOverflowAt now next quants lines j q → ⊥
+  short_or_overflow i j p q a b =
+      let start : a.start ≡ b.start = start_only quants next a.start b.start a.starts b.starts in
+      let number : i ≡ j = stops_once a.start b.start i j start (short_stops i p a) (overflow_stops j q b) in
+      let line : a.line ≡ b.line = same_line i j a.line b.line number a.is b.is in
+      not_both b.line (source_quant now b.line (holdings_after now b.start (take j lines))) (rw (sym start, sym line, sym number) a.short) b.enough
+
+  -- there is one fault
+  pub fault_only : (a b : LineFault) → IsFault now next quants lines a → IsFault now next quants lines b → a ≡ b
+  fault_only NoMemory b h k = absurd h
+  fault_only (Short i p) NoMemory h k = absurd k
+  fault_only (Short i p) (Short j q) h k = short_once i j p q h k
+  fault_only (Short i p) (Overflow j q) h k = absurd (short_or_overflow i j p q h k)
+  fault_only (Overflow i p) NoMemory h k = absurd k
+  fault_only (Overflow i p) (Short j q) h k = absurd (short_or_overflow j i q p k h)
+  fault_only (Overflow i p) (Overflow j q) h k = overflow_once i j p q h k

@@ -106,19 +106,19 @@ spot_cmp_total =
     (then_total (on_total (λ (s : Spot). s.place.0) nat_cmp_total)
     (on_total (λ (s : Spot). s.lot) (options_total (on_total (λ (id : RecId). id.0) nat_cmp_total))))
 
-pub same_spot : IsEquivalence (eq_by_cmp spot_cmp)
-same_spot = eq_by_cmp_equiv spot_cmp_total
+pub spots_alike : IsEquivalence (eq_by_cmp spot_cmp)
+spots_alike = eq_by_cmp_equiv spot_cmp_total
 
 -- what one spot finds another that is the same finds
 alike_at : (a b : Spot) → eq_by_cmp spot_cmp a b ≡ true → (q : Quant) → is_at a q ≡ is_at b q
-alike_at a b e q = same_spot.congr a b (spot_of q) e
+alike_at a b e q = spots_alike.congr a b (spot_of q) e
 
 -- a quant that takes the place of the first of its spot
 pub indexed_set : (places : tree.BTreeMap Spot ℕ) (qs : List Quant) (q : Quant) (i : ℕ) → AreFirstPlaces places qs → tree.get spot_cmp places (spot_of q) ≡ Some i → AreFirstPlaces places (set qs i q)
 indexed_set places qs q i index h = λ spot.
     let at = at_first (is_at (spot_of q)) qs i (sym (index (spot_of q)) ∙ h) in
     let old = get_or qs i q in
-    let alike : is_at spot q ≡ is_at spot (get_or qs i q) = same_spot.symm spot (spot_of q) ∙ same_spot.congr (spot_of q) (spot_of old) spot (at.1 q).0 ∙ same_spot.symm (spot_of old) spot in
+    let alike : is_at spot q ≡ is_at spot (get_or qs i q) = spots_alike.symm spot (spot_of q) ∙ spots_alike.congr (spot_of q) (spot_of old) spot (at.1 q).0 ∙ spots_alike.symm (spot_of old) spot in
     index spot ∙ sym (first_place-set (is_at spot) qs i q q alike at.0)
 
 or_none : (o : Option ℕ) → option_or o None ≡ o
@@ -148,7 +148,7 @@ indexed_push places more qs q index h updates = λ spot.
       | true ↦ λ e. let none : first_place (is_at spot) qs ≡ None = first_place-same (is_at spot) (is_at (spot_of q)) (alike_at spot (spot_of q) e) qs ∙ had in rw none refl
       | false ↦ λ e. sym (or_none (first_place (is_at spot) qs))
     ] in
-    updates spot ∙ ap (λ b. cond b (Some (length qs)) (tree.get spot_cmp places spot)) (same_spot.symm (spot_of q) spot)
+    updates spot ∙ ap (λ b. cond b (Some (length qs)) (tree.get spot_cmp places spot)) (spots_alike.symm (spot_of q) spot)
     ∙ ap (cond (is_at spot q) (Some (length qs))) (index spot) ∙ go (is_at spot q) refl ∙ sym (first_place-push (is_at spot) qs q)
 
 none_from_test : (o : Option ℕ) → is_some o ≡ false → o ≡ None

@@ -9,9 +9,9 @@ use Rattle.std.proofs.lemmas.Bool.{cases_lt}
 use Rattle.wh_quant.specs.declared.quant.Quant.{Quant}
 use Rattle.wh_quant.specs.declared.quant.Line.{Line}
 use Rattle.wh_quant.specs.Spots.{spot_of, is_at}
+use Rattle.ob_base.specs.declared.id.RecId.{RecId}
 use Rattle.wh_quant.specs.Moves.{Holdings, with_quant, source_quant, lowered, destination_after, after_taking, after_line, holdings_after}
-use Rattle.wh_quant.specs.Moves.{Suffices, FallsShort, AllSuffice, IsStart, IsMoved, IsShortAt, LineFits, SumsFit}
-use Rattle.wh_quant.proofs.Kept.{is_left}
+use Rattle.wh_quant.specs.Moves.{Suffices, FallsShort, OverflowsAt, MovesGoods, AllMove, IsStart, IsMoved, IsShortAt, IsOverflowAt, is_left}
 
 one_more_at_most : (b : Bool) (n : ℕ) → cond b n (n + 1) ≤ n + 1
 one_more_at_most true n = omega arith
@@ -34,44 +34,62 @@ pub holdings_after-more : (now : ℤ) (start stock more : Holdings) (lines : Lis
 holdings_after-more now start stock more lines n d within is moved =
     moved ∙ ap (λ stock. after_line now stock (get_or lines n d)) is ∙ sym (fold_more (after_line now) start lines n d within)
 
--- the sources of the first lines suffice, and that of one more
-pub AllSuffice-more : (now : ℤ) (start : Holdings) (lines : List Line) (n : ℕ) (line : Line) → AllSuffice now start lines n → slice_get lines n ≡ Some line →
-    Suffices line (source_quant now line (holdings_after now start (take n lines))) → AllSuffice now start lines (n + 1)
-AllSuffice-more now start lines n line so_far is enough k other below at =
+-- the first lines move their goods, and one more does
+pub AllMove-more : (now : ℤ) (start : Holdings) (lines : List Line) (n : ℕ) (line : Line) → AllMove now start lines n → slice_get lines n ≡ Some line →
+    MovesGoods now line (holdings_after now start (take n lines)) → AllMove now start lines (n + 1)
+AllMove-more now start lines n line so_far is moves k other below at =
     elim (cases_lt k n) [
       | inl before ↦ so_far k other before at
       | inr past ↦
           let here : k ≡ n = omega arith in
           let same : line ≡ other = same_Some line other (sym is ∙ rw (sym here) at) in
-          rw (here, ← same) enough
+          rw (here, ← same) moves
     ]
 
--- at a line whose source suffices, the sums that it makes fit
-pub fits_at : (now m : ℤ) (next : ℕ) (quants : List Quant) (lines : List Line) (start stock : Holdings) (n : ℕ) (line : Line) → m ≡ now → SumsFit now next quants lines →
-    IsStart quants next start → stock ≡ holdings_after m start (take n lines) → AllSuffice m start lines n → slice_get lines n ≡ Some line →
-    Suffices line (source_quant m line stock) → LineFits m line stock
-fits_at now m next quants lines start stock n line e fits starts is so_far at enough =
-    let P : ℤ → Type 0 = λ m. stock ≡ holdings_after m start (take n lines) → AllSuffice m start lines n → Suffices line (source_quant m line stock) → LineFits m line stock in
-    subst P (sym e) (λ is so_far enough. rw is (fits start n line starts (AllSuffice-more now start lines n line so_far at (rw (sym is) enough)) at)) is so_far enough
+-- a line whose source falls short is the first one that doesn't move its goods
+pub short_at : (now m : ℤ) (next : ℕ) (quants : List Quant) (lines : List Line) (start stock : Holdings) (n : ℕ) (line : Line) (q : RecId) → m ≡ now → IsStart quants next start →
+    stock ≡ holdings_after m start (take n lines) → AllMove m start lines n → slice_get lines n ≡ Some line → FallsShort line (source_quant m line stock) →
+    q ≡ (source_quant m line stock).id → IsShortAt now next quants lines n q
+short_at now m next quants lines start stock n line q e starts is so_far at short source =
+    let P : ℤ → Type 0 = λ m. stock ≡ holdings_after m start (take n lines) → AllMove m start lines n → FallsShort line (source_quant m line stock) →
+    q ≡ (source_quant m line stock).id → IsShortAt now next quants lines n q in
+    subst P (sym e) (λ is so_far short source. record {
+      start = start;
+      starts = starts;
+      before = so_far;
+      line = line;
+      is = at;
+      short = rw (sym is) short;
+      source = rw (sym is) source;
+    }) is so_far short source
 
--- a line whose source falls short is the first one
-pub short_at : (now m : ℤ) (next : ℕ) (quants : List Quant) (lines : List Line) (start stock : Holdings) (n : ℕ) (line : Line) → m ≡ now → IsStart quants next start →
-    stock ≡ holdings_after m start (take n lines) → AllSuffice m start lines n → slice_get lines n ≡ Some line → FallsShort line (source_quant m line stock) →
-    IsShortAt now next quants lines n
-short_at now m next quants lines start stock n line e starts is so_far at short =
-    let P : ℤ → Type 0 = λ m. stock ≡ holdings_after m start (take n lines) → AllSuffice m start lines n → FallsShort line (source_quant m line stock) → IsShortAt now next quants lines n in
-    subst P (sym e) (λ is so_far short. record { start = start; starts = starts; suffice = so_far; line = line; is = at; short = rw (sym is) short }) is so_far short
+-- and so is one that leads a quant out of 64 bits
+pub overflow_at : (now m : ℤ) (next : ℕ) (quants : List Quant) (lines : List Line) (start stock : Holdings) (n : ℕ) (line : Line) (q : RecId) → m ≡ now → IsStart quants next start →
+    stock ≡ holdings_after m start (take n lines) → AllMove m start lines n → slice_get lines n ≡ Some line → Suffices line (source_quant m line stock) →
+    OverflowsAt m line stock q → IsOverflowAt now next quants lines n q
+overflow_at now m next quants lines start stock n line q e starts is so_far at enough over =
+    let P : ℤ → Type 0 = λ m. stock ≡ holdings_after m start (take n lines) → AllMove m start lines n → Suffices line (source_quant m line stock) →
+    OverflowsAt m line stock q → IsOverflowAt now next quants lines n q in
+    subst P (sym e) (λ is so_far enough over. record {
+      start = start;
+      starts = starts;
+      before = so_far;
+      line = line;
+      is = at;
+      enough = rw (sym is) enough;
+      overflows = rw (sym is) over;
+    }) is so_far enough over
 
 -- after the last line
 pub moved_all : (now m : ℤ) (next : ℕ) (quants : List Quant) (lines : List Line) (start stock : Holdings) (n : ℕ) (moved : List Quant) → m ≡ now → IsStart quants next start →
-    stock ≡ holdings_after m start (take n lines) → AllSuffice m start lines n → n ≡ length lines → moved ≡ filter is_left stock.quants → IsMoved now next quants lines moved
+    stock ≡ holdings_after m start (take n lines) → AllMove m start lines n → n ≡ length lines → moved ≡ filter (is_left lines) stock.quants → IsMoved now next quants lines moved
 moved_all now m next quants lines start stock n moved e starts is so_far end left =
-    let P : ℤ → Type 0 = λ m. stock ≡ holdings_after m start (take n lines) → AllSuffice m start lines n → IsMoved now next quants lines moved in
+    let P : ℤ → Type 0 = λ m. stock ≡ holdings_after m start (take n lines) → AllMove m start lines n → IsMoved now next quants lines moved in
     let whole : take n lines ≡ lines = take_all n lines (omega arith) in
     subst P (sym e) (λ is so_far. record {
       start = start;
       starts = starts;
-      suffice = rw (sym end) so_far;
-      left = left ∙ ap (λ (stock : Holdings). filter is_left stock.quants)
+      each = rw (sym end) so_far;
+      left = left ∙ ap (λ (stock : Holdings). filter (is_left lines) stock.quants)
           (is ∙ ap (holdings_after now start) whole);
     }) is so_far

@@ -1,11 +1,14 @@
--- Private: quants with an index by spot, and what they stand for.
-use Rattle.std.specs.Prelude.{◌≡◌, ℕ, suc, Bool, List, [], ◌∷◌, Option, Some, None, if◌then◌else◌}
+-- Private: quants with an index by spot, and what they stand for; the spots of lines as a set.
+use Rattle.std.specs.Prelude.{◌≡◌, ℕ, suc, Bool, not, ◌||◌, pos, List, [], ◌∷◌, Option, Some, None, if◌then◌else◌}
 use Rattle.std.specs.Option.{option_map}
+use Rattle.std.specs.Ordering.{int_eq}
 use Rattle.std.specs.BTreeMap as tree
+use Rattle.std.specs.BTreeSet as tree_set
 use Rattle.wh_quant.specs.declared.quant.Quant.{Quant}
+use Rattle.wh_quant.specs.declared.quant.Line.{Line}
 use Rattle.wh_quant.specs.declared.spot.Spot.{Spot}
 use Rattle.wh_quant.specs.declared.indexed.IndexedQuants.{IndexedQuants}
-use Rattle.wh_quant.specs.Spots.{spot_cmp, is_at}
+use Rattle.wh_quant.specs.Spots.{spot_of, spot_cmp, is_at, is_touched}
 use Rattle.wh_quant.specs.Moves.{Holdings}
 
 -- the quants and the next id, without the index
@@ -24,3 +27,11 @@ AreFirstPlaces places quants = (spot : Spot) → tree.get spot_cmp places spot �
 -- the index is that of the quants
 abbrev pub IsIndexed : IndexedQuants → Type 0
 IsIndexed stock = AreFirstPlaces stock.places stock.quants.items
+
+-- the set has the spots where the lines take and bring goods
+abbrev pub AreTouched : tree_set.BTreeSet Spot → List Line → Type 0
+AreTouched spots lines = (spot : Spot) → tree_set.contains spot_cmp spots spot ≡ is_touched lines spot
+
+-- whether the quant is left where these are the spots of the lines
+abbrev pub stays_beside : tree_set.BTreeSet Spot → Quant → Bool
+stays_beside spots q = not (int_eq q.quantity (pos 0)) || not (tree_set.contains spot_cmp spots (spot_of q))

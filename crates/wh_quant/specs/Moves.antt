@@ -1,5 +1,5 @@
 -- What lines of goods that move make of quants, one line after the other.
-use Rattle.std.specs.Prelude.{◌≡◌, ℕ, ℤ, pos, ◌+◌, ◌^◌, ◌<◌, ◌+ℤ◌, ◌-ℤ◌, ◌<ℤ◌, ◌≤ℤ◌, ◌⊎◌, not, Bool, true}
+use Rattle.std.specs.Prelude.{◌≡◌, ℕ, ℤ, pos, ◌+◌, ◌<◌, ◌+ℤ◌, ◌-ℤ◌, ◌<ℤ◌, ◌≤ℤ◌, ◌⊎◌, not, ◌||◌, Bool, true}
 use Rattle.std.specs.Prelude.{if◌then◌else◌, List, [], ◌∷◌, filter, find, fold, take, map, length, slice_get, All, IsPermutation, Some, unwrap_or, is_some, FitsSigned}
 use Rattle.std.specs.Int.{int_min, w64}
 use Rattle.std.specs.Ordering.{int_eq}
@@ -7,9 +7,10 @@ use Rattle.std.specs.List.Sorted.{IsStrictlyIncreasing}
 use Rattle.ob_base.specs.declared.id.RecId.{RecId}
 use Rattle.wh_quant.specs.declared.quant.Quant.{Quant}
 use Rattle.wh_quant.specs.declared.quant.Line.{Line}
+use Rattle.wh_quant.specs.declared.quant.LineFault.{LineFault}
+use Rattle.wh_quant.specs.declared.quant.LineFault.TheVariants.{Short, Overflow}
 use Rattle.wh_quant.specs.declared.spot.Spot.{Spot}
-use Rattle.wh_quant.specs.Sums.{total, IsBounded}
-use Rattle.wh_quant.specs.Spots.{spot_of, source_spot, destination_spot, is_at}
+use Rattle.wh_quant.specs.Spots.{spot_of, source_spot, destination_spot, is_at, is_touched}
 
 -- quants that rise by id, and the id of the next new one
 pub record Holdings : Type 0 where
@@ -101,44 +102,61 @@ Suffices line source = line.guarded_from ≡ true → (line.amount ≤ℤ source
 abbrev pub FallsShort : Line → Quant → Type 0
 FallsShort line source = (line.guarded_from ≡ true) × ((source.quantity <ℤ line.amount) ⊎ (source.reserved <ℤ line.amount))
 
--- the source suffices at each of the first so many lines
-abbrev pub AllSuffice : ℤ → Holdings → List Line → ℕ → Type 0
-AllSuffice now start lines n = (k : ℕ) (line : Line) → k < n → slice_get lines k ≡ Some line → Suffices line (source_quant now line (holdings_after now start (take k lines)))
-
--- the quants after all lines, without those of quantity zero, where each line's source suffices
-pub record IsMoved (now : ℤ) (next : ℕ) (quants : List Quant) (lines : List Line) (moved : List Quant) : Type 0 where
-  pub start : Holdings
-  pub starts : IsStart quants next start
-  pub suffice : AllSuffice now start lines (length lines)
-  pub left : moved ≡ filter (λ q. not (int_eq q.quantity (pos 0))) (holdings_after now start lines).quants
-
--- the number of the first line that takes too much
-pub record IsShortAt (now : ℤ) (next : ℕ) (quants : List Quant) (lines : List Line) (number : ℕ) : Type 0 where
-  pub start : Holdings
-  pub starts : IsStart quants next start
-  pub suffice : AllSuffice now start lines number
-  pub line : Line
-  pub is : slice_get lines number ≡ Some line
-  pub short : FallsShort line (source_quant now line (holdings_after now start (take number lines)))
-
 -- a quant's numbers are within 64 bits
 abbrev pub Fits64 : Quant → Type 0
 Fits64 q = FitsSigned w64 q.quantity × FitsSigned w64 q.reserved
 
--- the sums that a line makes fit
-abbrev pub LineFits : ℤ → Line → Holdings → Type 0
-LineFits now line stock = Fits64 (lowered line (source_quant now line stock)) × Fits64 (destination_after now line stock)
+-- the line moves its goods: its source suffices, and the sums that it makes are within 64 bits
+pub record MovesGoods (now : ℤ) (line : Line) (stock : Holdings) : Type 0 where
+  pub enough : Suffices line (source_quant now line stock)
+  pub source : Fits64 (lowered line (source_quant now line stock))
+  pub destination : Fits64 (destination_after now line stock)
 
--- each sum that is made fits, up to the first line that takes too much
-abbrev pub SumsFit : ℤ → ℕ → List Quant → List Line → Type 0
-SumsFit now next quants lines = (start : Holdings) (k : ℕ) (line : Line) → IsStart quants next start → AllSuffice now start lines (k + 1)
-    → slice_get lines k ≡ Some line → LineFits now line (holdings_after now start (take k lines))
+-- each of the first so many lines moves its goods
+abbrev pub AllMove : ℤ → Holdings → List Line → ℕ → Type 0
+AllMove now start lines n = (k : ℕ) (line : Line) → k < n → slice_get lines k ≡ Some line → MovesGoods now line (holdings_after now start (take k lines))
 
--- no amount is below zero, and no number of a quant is further from zero than so much, which twice all amounts keep below 2^63
-pub record AreSmall (most : ℕ) (quants : List Quant) (lines : List Line) : Type 0 where
-  pub bounded : All (IsBounded (pos most)) quants
-  pub amounts : All (λ line. pos 0 ≤ℤ line.amount) lines
-  pub within : ((pos most +ℤ total (λ line. line.amount) lines) +ℤ total (λ line. line.amount) lines) <ℤ pos (2 ^ 63)
+-- whether the quant is left after the lines: it isn't of quantity zero, or none of them takes or brings goods where it stands
+abbrev pub is_left : List Line → Quant → Bool
+is_left lines q = not (int_eq q.quantity (pos 0)) || not (is_touched lines (spot_of q))
+
+-- the quants that are left after all lines, where each moves its goods
+pub record IsMoved (now : ℤ) (next : ℕ) (quants : List Quant) (lines : List Line) (moved : List Quant) : Type 0 where
+  pub start : Holdings
+  pub starts : IsStart quants next start
+  pub each : AllMove now start lines (length lines)
+  pub left : moved ≡ filter (is_left lines) (holdings_after now start lines).quants
+
+-- the line of this number is the first that doesn't move its goods, and its source, of this id, falls short
+pub record IsShortAt (now : ℤ) (next : ℕ) (quants : List Quant) (lines : List Line) (number : ℕ) (quant : RecId) : Type 0 where
+  pub start : Holdings
+  pub starts : IsStart quants next start
+  pub before : AllMove now start lines number
+  pub line : Line
+  pub is : slice_get lines number ≡ Some line
+  pub short : FallsShort line (source_quant now line (holdings_after now start (take number lines)))
+  pub source : quant ≡ (source_quant now line (holdings_after now start (take number lines))).id
+
+-- a sum of the quant of this id leaves 64 bits: of the line's source, or, where those of the source don't, of its destination
+abbrev pub OverflowsAt : ℤ → Line → Holdings → RecId → Type 0
+OverflowsAt now line stock quant = ((¬ Fits64 (lowered line (source_quant now line stock))) × (quant ≡ (source_quant now line stock).id))
+    ⊎ (Fits64 (lowered line (source_quant now line stock)) × (¬ Fits64 (destination_after now line stock)) × (quant ≡ (destination_after now line stock).id))
+
+-- the line of this number is the first that doesn't move its goods, and leads the quant of this id out of 64 bits
+pub record IsOverflowAt (now : ℤ) (next : ℕ) (quants : List Quant) (lines : List Line) (number : ℕ) (quant : RecId) : Type 0 where
+  pub start : Holdings
+  pub starts : IsStart quants next start
+  pub before : AllMove now start lines number
+  pub line : Line
+  pub is : slice_get lines number ≡ Some line
+  pub enough : Suffices line (source_quant now line (holdings_after now start (take number lines)))
+  pub overflows : OverflowsAt now line (holdings_after now start (take number lines)) quant
+
+-- what the first line that doesn't move its goods has wrong with it, at which quant
+abbrev pub IsFault : ℤ → ℕ → List Quant → List Line → LineFault → Type 0
+IsFault now next quants lines (Short number quant) = IsShortAt now next quants lines number quant
+IsFault now next quants lines (Overflow number quant) = IsOverflowAt now next quants lines number quant
+IsFault now next quants lines _ = ⊥
 
 -- there is one value of guarded for each place
 abbrev pub AreGuardedBy : (RecId → Bool) → List Quant → List Line → Type 0

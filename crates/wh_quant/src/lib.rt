@@ -14,7 +14,7 @@ mod spot;
 mod stock;
 mod taking;
 
-pub use moving::{move_lines, small_sums_fit};
+pub use moving::move_lines;
 pub use quant::{Line, LineFault, Quant};
 pub use stock::{Removal, Stock, Take};
 pub use taking::takes;

@@ -1,6 +1,6 @@
 //! Quants and lines as plain data, and what one line makes of one quant.
 
-ghost use Rattle.std.specs.Prelude.{◌≡◌, true, false};
+ghost use Rattle.std.specs.Prelude.{◌≡◌, true, false, SomeIff};
 ghost use Rattle.wh_quant.specs.Spots.{spot_of, source_spot, destination_spot};
 ghost use Rattle.wh_quant.specs.Moves.{Fits64, Suffices, FallsShort, lowered, raised, empty_quant, incoming_date};
 
@@ -37,9 +37,13 @@ pub struct Line {
 /// Why lines don't move.
 #[derive(Clone, Copy, Debug, PartialEq, Eq, Error)]
 pub enum LineFault {
-    /// The line of this number, from 0, takes more than is there or reserved.
+    /// The line of this number, from 0, takes more than is there or reserved at this quant,
+    /// or at the one that would be new.
     #[error("line {0} takes more than is there")]
-    Short(u32),
+    Short(u64, RecId),
+    /// The line of this number, from 0, leads a number of this quant out of 64 bits.
+    #[error("line {0} leads a quantity out of 64 bits")]
+    Overflow(u64, RecId),
     /// An allocation failed, so what is left isn't known.
     #[error("no memory")]
     NoMemory,
@@ -126,29 +130,27 @@ impl Line {
         }
     }
 
-    /// The quant that it takes from, afterwards.
-    pub(crate) fn lowered(&self, quant: Quant) -> Quant
-        requires { Fits64 (lowered self.now quant) }
-        ensures { result ≡ lowered self.now quant }
+    /// The quant that it takes from, afterwards; none where a number of it leaves 64 bits.
+    pub(crate) fn lowered(&self, quant: Quant) -> Option<Quant>
+        ensures { SomeIff result (Fits64 (lowered self.now quant)) (lowered self.now quant) }
     {
         let mut left = quant;
-        left.quantity -= self.amount;
+        left.quantity = quant.quantity.checked_sub(self.amount)?;
         if self.guarded_from {
-            left.reserved -= self.amount;
+            left.reserved = quant.reserved.checked_sub(self.amount)?;
         }
-        left
+        Some(left)
     }
 
-    /// The quant that it brings its goods to, afterwards.
-    pub(crate) fn raised(&self, source: &Quant, quant: Quant) -> Quant
-        requires { Fits64 (raised self.now source.now quant) }
-        ensures { result ≡ raised self.now source.now quant }
+    /// The quant that it brings its goods to, afterwards; none where its quantity leaves 64 bits.
+    pub(crate) fn raised(&self, source: &Quant, quant: Quant) -> Option<Quant>
+        ensures { SomeIff result (Fits64 (raised self.now source.now quant)) (raised self.now source.now quant) }
     {
         let mut more = quant;
-        more.quantity += self.amount;
+        more.quantity = quant.quantity.checked_add(self.amount)?;
         if self.guarded_from {
             more.in_date = source.in_date.min(quant.in_date);
         }
-        more
+        Some(more)
     }
 }

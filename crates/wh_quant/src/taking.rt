@@ -25,6 +25,10 @@ pub fn takes(
     // Where no two stocks share an id, no other list is so taken.
     ensures only { IsDistinct nat_eq (map (λ s. s.quant.0) free.now) → (a b : List Take) → AreTakes order free.now want a → AreTakes order free.now want b → a ≡ b }
 
+    // And each gives once.
+    ensures distinct { IsDistinct nat_eq (map (λ s. s.quant.0) free.now)
+        → IfOk result (λ taken. IsDistinct nat_eq (map (λ t. t.quant.0) taken)) }
+
     // No take is of more than is free, and together they give all that is wanted, where it is there, and no more.
     ensures within { IfOk result (All (IsTakeOf free.now)) }
     ensures whole { IfOk result (λ taken. total (λ t. t.amount) taken ≡ int_min (int_max (pos 0) want) (total (λ s. int_max (pos 0) s.free) free.now)) }

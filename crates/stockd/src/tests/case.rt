@@ -2,14 +2,14 @@
 //! what they must leave; docs/CASES.md has its lines. A further kind of line gets its arm
 //! in `Case::take` or `Case::set`, and its row in that document.
 
-use super::kept::{bytes_of, hold, kept};
+use super::kept::{hold, put_bytes, put_kept};
 use super::modules::{Texts, module_names};
+use super::pieces::Pieces;
 use crate::run::run;
-use ob_io::{MemClock, MemKeeper, MemSink, MemSource, SureDoor};
+use ob_io::{MemClock, MemFiles, MemKeeper, MemSink, MemSource, SureDoor};
 use ob_load::load;
 use ob_schema::Schema;
 use std::alloc::Global;
-use std::mem;
 use std::process::Abort;
 use std::test::Fail;
 
@@ -25,51 +25,63 @@ struct Case<'a> {
     room: usize,
     source_fails: &'a str,
     sink_fails: &'a str,
-    input: Vec<u8>,
+    input: Pieces,
     /// How many requests the next run has so far.
     requests: u64,
     /// What the next run must write.
-    wanted: String,
+    wanted: Pieces,
     /// Whether a run has to come yet.
     is_open: bool,
     keeper_fails: &'a str,
     keeper: MemKeeper,
     /// Where the case differed so far.
-    told: String,
+    told: Pieces,
+}
+
+/// What a run is handed beside the keeper.
+#[derive(Drop)]
+struct Objects {
+    words: Vec<String>,
+    files: MemFiles,
+    source: MemSource,
+    sink: MemSink,
 }
 
 /// Plays the cases of a page, and stops the test where one differs.
 pub(super) fn play(rt: &impl Abort, alloc: Global, page: &str) -> Result<(), Fail> {
     assert!(rt; page.contains("\n== "), "a page without a case");
-    let mut told = String::new(alloc);
+    let mut told = Pieces::new(alloc);
     for text in page.split("\n== ").skip(1) {
-        let case = play_case(alloc, text).ok_or("no memory")?;
-        told.push_str(case.as_str())?;
+        if play_case(alloc, text, &mut told).is_none() {
+            told.put(b"\nno memory");
+        }
     }
-    assert!(rt; told.is_empty(), "{told}");
+    assert!(rt;
+        told.is_empty(),
+        "{}",
+        str::from_utf8(told.as_slice()).unwrap_or("no text")
+    );
     Ok(())
 }
 
-/// Plays the case of this text, and tells by its name where it differs. None: no memory, or no
-/// name.
-fn play_case(alloc: Global, text: &str) -> Option<String> {
-    let text = text.replace(alloc, "\n  ", " ").ok()?;
-    let mut case = Case::new(alloc, text.as_str())?;
-    for line in text.as_str().lines().skip(1) {
+/// Plays the case of this text, and tells by its name where it differs. None: no memory.
+fn play_case(alloc: Global, text: &str, told: &mut Pieces) -> Option<()> {
+    let joined = text.replace(alloc, "\n  ", " ").ok()?;
+    let mut case = Case::new(alloc, joined.as_str())?;
+    for line in joined.as_str().lines().skip(1) {
         if case.take(line).is_none() {
-            push_all(&mut case.told, &["\ncan't be read: ", line])?;
+            case.told.put_all(&["\ncan't be read: ", line]);
         }
     }
     if case.is_open {
-        push_all(&mut case.told, &["\nno status at its end"])?;
+        case.told.put(b"\nno status at its end");
     }
-    if case.told.is_empty() {
-        return Some(case.told);
+    if !case.told.is_empty() {
+        let name = text.lines().next().unwrap_or("");
+        told.put_all(&["\n== ", name]);
+        told.put(case.told.as_slice());
     }
-    let mut told = String::from_str(alloc, "\n== ").ok()?;
-    told.push_str(text.as_str().lines().next()?).ok()?;
-    told.push_str(case.told.as_str()).ok()?;
-    Some(told)
+    Some(())
 }
 
 impl<'a> Case<'a> {
@@ -90,13 +102,13 @@ impl<'a> Case<'a> {
             room: 65_536,
             source_fails: "",
             sink_fails: "",
-            input: Vec::new(alloc),
+            input: Pieces::new(alloc),
             requests: 0,
-            wanted: String::new(alloc),
+            wanted: Pieces::new(alloc),
             is_open: true,
             keeper_fails,
             keeper: MemKeeper::new(alloc, Vec::new(alloc), Vec::new(alloc), fail).ok()?,
-            told: String::new(alloc),
+            told: Pieces::new(alloc),
         })
     }
 
@@ -117,17 +129,23 @@ impl<'a> Case<'a> {
                 let schema = self.schema()?;
                 hold(self.alloc, &mut self.keeper, &schema, rest)
             }
-            "kept" => {
-                let schema = self.schema()?;
-                let (wanted, found) = kept(self.alloc, &mut self.keeper, &schema, rest)?;
-                self.compare(line, wanted.as_str(), found.as_str())
-            }
+            "kept" => self.compare_kept(line, rest),
             _ => match line.as_bytes() {
                 [b'0'..=b'9', ..] => self.call(word, rest),
                 [b'=' | b'!', ..] => self.reply(word, rest),
                 _ => self.set(word, rest),
             },
         }
+    }
+
+    /// Compares what is kept with what a line wants.
+    fn compare_kept(&mut self, line: &str, rest: &str) -> Option<()> {
+        let schema = self.schema()?;
+        let mut wanted = Pieces::new(self.alloc);
+        let mut found = Pieces::new(self.alloc);
+        put_kept(&mut self.keeper, &schema, rest, &mut wanted, &mut found)?;
+        self.compare(line, wanted.as_slice(), found.as_slice());
+        Some(())
     }
 
     /// Sets the words, the clock, a size, or which calls of an object fail.
@@ -155,33 +173,31 @@ impl<'a> Case<'a> {
     fn send(&mut self, word: &str, rest: &str) -> Option<()> {
         self.is_open = true;
         match word {
-            "bytes" => {
-                let bytes = bytes_of(self.alloc, rest)?;
-                self.input.extend_from_slice(bytes.as_slice()).ok()
-            }
+            "bytes" => put_bytes(rest, &mut self.input)?,
             "times" => {
                 let (count, text) = rest.split_once(' ')?;
                 let count: u32 = count.parse().ok()?;
-                let text = text.repeat(self.alloc, count as usize).ok()?;
-                self.input.extend_from_slice(text.as_bytes()).ok()
+                for _ in 0..count {
+                    self.input.put(text.as_bytes());
+                }
             }
-            ">-" => self.input.extend_from_slice(rest.as_bytes()).ok(),
+            ">-" => self.input.put(rest.as_bytes()),
             _ => {
                 self.requests = self.requests.checked_add(1)?;
-                self.input.extend_from_slice(rest.as_bytes()).ok()?;
-                self.input.extend_from_slice(b"\n").ok()
+                self.input.put_all(&[rest, "\n"]);
             }
         }
+        Some(())
     }
 
     /// Sends a call of `execute_kw` by this user, with its key: a model, a method, arguments.
     fn call(&mut self, user: &str, rest: &str) -> Option<()> {
         let (model, rest) = rest.split_once(' ')?;
-        let (method, rest) = rest.split_once(' ')?;
-        let args = rest.replace(self.alloc, "] {", "],{").ok()?;
-        let id = self.requests.checked_add(1)?.to_string(self.alloc).ok()?;
-        let mut line = String::new(self.alloc);
-        let pieces = [
+        let (method, args) = rest.split_once(' ')?;
+        self.is_open = true;
+        self.requests = self.requests.checked_add(1)?;
+        let input = &mut self.input;
+        input.put_all(&[
             r#"{"jsonrpc":"2.0","method":"call","params":{"service":"object","method":"execute_kw","args":["stock","#,
             user,
             r#","admin",""#,
@@ -189,33 +205,22 @@ impl<'a> Case<'a> {
             r#"",""#,
             method,
             r#"","#,
-            args.as_str(),
-            r#"]},"id":"#,
-            id.as_str(),
-            "}",
-        ];
-        push_all(&mut line, &pieces)?;
-        self.send(">", line.as_str())
+        ]);
+        input.put_with(args, "] {", "],{");
+        input.put(b"]},\"id\":");
+        input.put_number(self.requests);
+        input.put(b"}\n");
+        Some(())
     }
 
     /// Wants a reply: a result, or a refusal by its name and message. Its id is the one that
     /// stands beside the sign, else the number of the last request.
     fn reply(&mut self, word: &str, rest: &str) -> Option<()> {
-        let (sign, given) = word.split_at_checked(1)?;
-        let id = if given.is_empty() {
-            self.requests.to_string(self.alloc).ok()?
-        } else {
-            String::from_str(self.alloc, given).ok()?
-        };
-        let id = id.as_str();
+        let (sign, id) = word.split_at_checked(1)?;
         if sign == "=" {
-            return self.want(&[
-                r#"{"id":"#,
-                id,
-                r#","jsonrpc":"2.0","result":"#,
-                rest,
-                "}\n",
-            ]);
+            self.want(&[r#"{"id":"#])?;
+            self.want_id(id);
+            return self.want(&[r#","jsonrpc":"2.0","result":"#, rest, "}\n"]);
         }
         let (name, message) = rest.split_once(' ')?;
         self.want(&[
@@ -224,41 +229,76 @@ impl<'a> Case<'a> {
             r#"","name":""#,
             name,
             r#""},"message":"Odoo Server Error"},"id":"#,
-            id,
-            ",\"jsonrpc\":\"2.0\"}\n",
-        ])
+        ])?;
+        self.want_id(id);
+        self.want(&[",\"jsonrpc\":\"2.0\"}\n"])
+    }
+
+    /// Wants an id, where it is given, else the number of the last request.
+    fn want_id(&mut self, given: &str) {
+        if given.is_empty() {
+            self.wanted.put_number(self.requests);
+        } else {
+            self.wanted.put(given.as_bytes());
+        }
     }
 
     /// Wants these pieces of output.
     fn want(&mut self, pieces: &[&str]) -> Option<()> {
         self.is_open = true;
-        push_all(&mut self.wanted, pieces)
+        self.wanted.put_all(pieces);
+        Some(())
     }
 
     /// Runs over the store, and compares the output and the status.
     fn run(&mut self, status: &str) -> Option<()> {
-        let alloc = self.alloc;
-        let words = words_of(alloc, self.words)?;
-        let input = mem::replace(&mut self.input, Vec::new(alloc));
-        let wanted = mem::replace(&mut self.wanted, String::new(alloc));
+        let mut objects = self.objects()?;
+        let wanted = self.wanted.take()?;
         self.requests = 0;
         self.is_open = false;
-        let source_fails = numbers_of(alloc, self.source_fails, 0)?;
-        let mut source = MemSource::new(input, self.cut, source_fails).ok()?;
-        let mut sink = MemSink::new(alloc, self.room, numbers_of(alloc, self.sink_fails, 0)?).ok()?;
-        let ended = run(
-            alloc,
-            words.as_slice(),
-            &mut self.texts.files()?,
+        let ended = self.status_over(&mut objects)?;
+        self.compare("output", wanted.as_slice(), objects.sink.written());
+        let mut digits = itoa::Buffer::new();
+        self.compare("status", status.as_bytes(), digits.format(ended).as_bytes());
+        Some(())
+    }
+
+    /// What the next run is handed.
+    fn objects(&mut self) -> Option<Objects> {
+        Some(Objects {
+            words: words_of(self.alloc, self.words)?,
+            files: self.texts.files()?,
+            source: self.source()?,
+            sink: self.sink()?,
+        })
+    }
+
+    /// The source of the next run.
+    fn source(&mut self) -> Option<MemSource> {
+        let fails = numbers_of(self.alloc, self.source_fails, 0)?;
+        MemSource::new(self.input.take()?, self.cut, fails).ok()
+    }
+
+    /// The sink of the next run.
+    fn sink(&self) -> Option<MemSink> {
+        let fails = numbers_of(self.alloc, self.sink_fails, 0)?;
+        MemSink::new(self.alloc, self.room, fails).ok()
+    }
+
+    /// The status of a run over these objects.
+    fn status_over(&mut self, objects: &mut Objects) -> Option<u8> {
+        let mut door = SureDoor::new(self.alloc, Vec::new(self.alloc), 1, 0).ok()?;
+        let mut clock = MemClock::new(i64::from(self.start), self.step).ok()?;
+        Some(run(
+            self.alloc,
+            objects.words.as_slice(),
+            &mut objects.files,
             &mut self.keeper,
-            &mut source,
-            &mut sink,
-            &mut SureDoor::new(alloc, Vec::new(alloc), 1, 0).ok()?,
-            &mut MemClock::new(i64::from(self.start), self.step).ok()?,
-        );
-        let output = str::from_utf8(sink.written()).ok()?;
-        self.compare("output", wanted.as_str(), output)?;
-        self.compare("status", status, ended.to_string(alloc).ok()?.as_str())
+            &mut objects.source,
+            &mut objects.sink,
+            &mut door,
+            &mut clock,
+        ))
     }
 
     /// The registry of the modules that the words name.
@@ -270,36 +310,27 @@ impl<'a> Case<'a> {
     }
 
     /// Tells of what two texts are, and the first lines in which they differ, where they do.
-    fn compare(&mut self, what: &str, wanted: &str, found: &str) -> Option<()> {
-        let mut others = found.split('\n');
-        for line in wanted.split('\n') {
-            let other = others.next().unwrap_or("no line");
+    fn compare(&mut self, what: &str, wanted: &[u8], found: &[u8]) {
+        let mut others = found.split(|byte| *byte == b'\n');
+        for line in wanted.split(|byte| *byte == b'\n') {
+            let other = others.next().unwrap_or(b"no line");
             if line != other {
-                return self.tell(what, line, other);
+                self.tell(what, line, other);
+                return;
             }
         }
-        match others.next() {
-            Some(other) => self.tell(what, "no line", other),
-            None => Some(()),
+        if let Some(other) = others.next() {
+            self.tell(what, b"no line", other);
         }
     }
 
     /// Tells of a difference.
-    fn tell(&mut self, what: &str, wanted: &str, found: &str) -> Option<()> {
-        let told = &mut self.told;
-        push_all(
-            told,
-            &["\n", what, "\nwanted: ", wanted, "\nfound:  ", found],
-        )
+    fn tell(&mut self, what: &str, wanted: &[u8], found: &[u8]) {
+        self.told.put_all(&["\n", what, "\nwanted: "]);
+        self.told.put(wanted);
+        self.told.put(b"\nfound:  ");
+        self.told.put(found);
     }
-}
-
-/// Adds pieces to a text.
-fn push_all(text: &mut String, pieces: &[&str]) -> Option<()> {
-    for piece in pieces {
-        text.push_str(piece).ok()?;
-    }
-    Some(())
 }
 
 /// The words of a text.

@@ -5,6 +5,7 @@ ghost use Rattle.std.specs.Prelude.{◌≢◌, IfSome};
 ghost use Rattle.std.specs.List.{All, AllPairs};
 ghost use Rattle.ob_io.specs.Store.{Fits63, IsRowFit};
 
+use super::pieces::Pieces;
 use ob_base::{FieldNo, ModelNo, RecId, Sequence};
 use ob_io::{Change, Keeper, KeptRow, Link, MemKeeper};
 use ob_schema::Schema;
@@ -36,9 +37,16 @@ fn row_held(alloc: Global, id: &str, text: &str) -> Option<KeptRow>
     let id = u64::from(id.parse::<u32>().ok()?);
     Some(KeptRow {
         id: RecId(id),
-        body: Sequence::from_vec(bytes_of(alloc, body)?),
+        body: Sequence::from_vec(body_of(alloc, body)?),
         links: links_of(alloc, links)?,
     })
+}
+
+/// The bytes of a body.
+fn body_of(alloc: Global, hex: &str) -> Option<Vec<u8>> {
+    let mut bytes = Pieces::new(alloc);
+    put_bytes(hex, &mut bytes)?;
+    bytes.take()
 }
 
 /// No link, one, or two different ones with `>` between them.
@@ -73,23 +81,25 @@ fn link_of(text: &str) -> Option<Link>
     Some(Link { field, target })
 }
 
-/// What such a text wants to be kept and what is kept in its place, both without blanks: a
-/// model's next id, as `demo.line next 8`, the ids of its rows, as `demo.line ids 6,7`, or
+/// Puts what such a text wants to be kept, and what is kept in its place, both without blanks:
+/// a model's next id, as `demo.line next 8`, the ids of its rows, as `demo.line ids 6,7`, or
 /// the body of a row, `none` where there is no such row. None: it can't be read.
-pub(super) fn kept(
-    alloc: Global,
+pub(super) fn put_kept(
     keeper: &mut MemKeeper,
     schema: &Schema,
     text: &str,
-) -> Option<(String, String)> {
+    wanted: &mut Pieces,
+    found: &mut Pieces,
+) -> Option<()> {
     let (model, text) = model_of(schema, text)?;
-    let (what, wanted) = text.split_once(' ').unwrap_or((text, ""));
-    let found = match what {
-        "next" => keeper.next_id(model).ok()?.to_string(alloc).ok()?,
-        "ids" => ids_of(alloc, keeper, model)?,
-        _ => row_of(alloc, keeper, model, what.parse().ok()?)?,
-    };
-    Some((wanted.replace(alloc, ' ', "").ok()?, found))
+    let (what, want) = text.split_once(' ').unwrap_or((text, ""));
+    wanted.put_with(want, " ", "");
+    match what {
+        "next" => found.put_number(keeper.next_id(model).ok()?),
+        "ids" => put_ids(keeper, model, found)?,
+        _ => put_row(keeper, model, what.parse().ok()?, found)?,
+    }
+    Some(())
 }
 
 /// The model of the first word of a text, and the rest.
@@ -98,48 +108,48 @@ fn model_of<'a>(schema: &Schema, text: &'a str) -> Option<(ModelNo, &'a str)> {
     Some((schema.model(name)?, rest))
 }
 
-/// The ids of the rows of a model, with commas.
-fn ids_of(alloc: Global, keeper: &mut MemKeeper, model: ModelNo) -> Option<String> {
+/// Puts the ids of the rows of a model, with commas.
+fn put_ids(keeper: &mut MemKeeper, model: ModelNo, found: &mut Pieces) -> Option<()> {
     let rows = keeper.page(model, RecId(0), 1_000).ok()?;
-    let mut text = String::new(alloc);
-    for row in rows.as_slice() {
-        if !text.is_empty() {
-            text.push(',').ok()?;
+    for (place, row) in rows.as_slice().iter().enumerate() {
+        if place > 0 {
+            found.put(b",");
         }
-        text.push_str(row.id.0.to_string(alloc).ok()?.as_str())
-            .ok()?;
+        found.put_number(row.id.0);
     }
-    Some(text)
+    Some(())
 }
 
-/// The hex digits of the body of a row.
-fn row_of(alloc: Global, keeper: &mut MemKeeper, model: ModelNo, id: u32) -> Option<String> {
+/// Puts the hex digits of the body of a row.
+fn put_row(keeper: &mut MemKeeper, model: ModelNo, id: u32, found: &mut Pieces) -> Option<()> {
     let Some(row) = keeper.fetch(model, RecId(u64::from(id))).ok()? else {
-        return String::from_str(alloc, "none").ok();
+        found.put(b"none");
+        return Some(());
     };
-    let mut text = String::new(alloc);
     for byte in row.body.as_slice() {
-        text.push(char::from_digit(u32::from(*byte >> 4), 16)?)
-            .ok()?;
-        text.push(char::from_digit(u32::from(*byte & 15), 16)?)
-            .ok()?;
+        found.put_hex(*byte);
     }
     if !row.links.is_empty() {
-        text.push_str(" with links").ok()?;
+        found.put(b"with links");
     }
-    Some(text)
+    Some(())
 }
 
-/// The bytes of hex digits, among which blanks may stand.
-pub(super) fn bytes_of(alloc: Global, hex: &str) -> Option<Vec<u8>> {
-    let digits = hex.replace(alloc, ' ', "").ok()?;
-    let mut bytes = Vec::new(alloc);
-    for pair in digits.as_bytes().chunks(2) {
-        let [high, low] = pair else {
-            return None;
-        };
-        let value = char::from(*high).to_digit(16)? * 16 + char::from(*low).to_digit(16)?;
-        bytes.push(u8::try_from(value).ok()?).ok()?;
+/// Puts the bytes of hex digits, among which blanks may stand.
+pub(super) fn put_bytes(hex: &str, bytes: &mut Pieces) -> Option<()> {
+    for part in hex.split(' ') {
+        for pair in part.as_bytes().chunks(2) {
+            bytes.put(&[byte_of(pair)?]);
+        }
     }
-    Some(bytes)
+    Some(())
+}
+
+/// The byte of two hex digits.
+fn byte_of(pair: &[u8]) -> Option<u8> {
+    let [high, low] = pair else {
+        return None;
+    };
+    let value = char::from(*high).to_digit(16)? * 16 + char::from(*low).to_digit(16)?;
+    u8::try_from(value).ok()
 }

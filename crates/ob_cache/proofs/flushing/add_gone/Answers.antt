@@ -8,8 +8,7 @@ use Rattle.ob_cache.proofs.Gathering.{TurnedTo, gone-all, gone-passed, gone-push
 use Rattle.ob_cache.proofs.SoundForms.{id-within}
 use Rattle.ob_schema.specs.Models.{model_at}
 use Rattle.ob_schema.specs.Tables.{Standing, ids_in, row_at}
-use Rattle.ob_tables.proofs.KnownFields.{is_there}
-use Rattle.ob_tables.proofs.RowIds.{ids-there}
+use Rattle.ob_tables.proofs.CallerLemmas.{ids-there, is_there}
 use Rattle.ob_cache.proofs.flushing.add_gone.Goals as goal
 use Rattle.ob_cache.proofs.flushing.add_gone.Goals.{then-not-has_row+in_ok-push, else-not-has_row}
 

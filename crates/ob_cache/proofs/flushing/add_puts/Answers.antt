@@ -12,8 +12,7 @@ use Rattle.ob_codec.specs.RowForm.{HoldAll}
 use Rattle.ob_schema.specs.Models.{kept_at, model_at}
 use Rattle.ob_schema.specs.Tables.{Standing, ids_in}
 use Rattle.ob_schema.specs.declared.info.ModelInfo.{ModelInfo}
-use Rattle.ob_tables.proofs.KnownFields.{is_there}
-use Rattle.ob_tables.proofs.RowIds.{ids-there}
+use Rattle.ob_tables.proofs.CallerLemmas.{ids-there, is_there}
 use Rattle.ob_cache.proofs.flushing.add_puts.Goals as goal
 use Rattle.ob_cache.proofs.flushing.add_puts.Goals.{then-not-branch+in_ok-row+in_ok-push, else-not-branch}
 

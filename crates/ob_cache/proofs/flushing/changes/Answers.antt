@@ -4,7 +4,7 @@ use Rattle.ob_cache.proofs.Gathering.{ChangedTo, changed-all, changed-more, chan
 use Rattle.ob_cache.proofs.KeptValues.{found-none, found-there}
 use Rattle.ob_schema.specs.Models.{HasModel, model_at}
 use Rattle.ob_schema.specs.declared.info.ModelInfo.{ModelInfo}
-use Rattle.ob_tables.proofs.KnownFields.{is_there}
+use Rattle.ob_tables.proofs.CallerLemmas.{is_there}
 use Rattle.ob_cache.proofs.flushing.changes.Goals as goal
 use Rattle.ob_cache.proofs.flushing.changes.Goals.{then-is_some+in_ok-add_gone+in_ok-add_puts+in_ok-add_next, else-is_some}
 

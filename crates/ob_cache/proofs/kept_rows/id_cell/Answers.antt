@@ -2,7 +2,7 @@ use Rattle.std.proofs.Common.{◌≡◌, sym, ◌∙◌}
 use Rattle.std.specs.Prelude.{codes}
 use Rattle.ob_cache.proofs.IdFields.{id-found, id-there}
 use Rattle.ob_schema.specs.Models.{field_named, model_at}
-use Rattle.ob_tables.proofs.KnownFields.{is_there, known_if}
+use Rattle.ob_tables.proofs.CallerLemmas.{is_there, known_if}
 use Rattle.ob_cache.proofs.kept_rows.id_cell.Goals as goal
 
 pub unreachable-requires : goal.unreachable-requires

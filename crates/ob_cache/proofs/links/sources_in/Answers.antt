@@ -9,7 +9,7 @@ use Rattle.ob_schema.specs.Models.{field_at}
 use Rattle.ob_schema.specs.Plain.{naming}
 use Rattle.ob_schema.specs.Tables.{row_at}
 use Rattle.ob_schema.specs.declared.info.ModelInfo.{ModelInfo}
-use Rattle.ob_tables.proofs.KnownFields.{known_at, tell_and}
+use Rattle.ob_tables.proofs.CallerLemmas.{known_at, tell_and}
 use Rattle.ob_cache.proofs.links.sources_in.Goals as goal
 
 pub named_rows-requires-clause-leads : goal.named_rows-requires-clause-leads

@@ -1,7 +1,7 @@
 use Rattle.std.proofs.Common.{All, List, [], ◌∷◌, suc, subst, sym, arith, Vec, Global}
 use Rattle.std.proofs.lemmas.List.{take_all}
 use Rattle.std.proofs.lemmas.List.Elements.{All-more}
-use Rattle.ob_expr.proofs.TypedRows.{trees_of, typed_tree_of-Joined}
+use Rattle.ob_expr.proofs.CallerLemmas.{trees_of, typed_tree_of-Joined}
 use Rattle.ob_expr.specs.TypedTree.{typed_tree_of}
 use Rattle.ob_expr.specs.declared.typed.Typed.{Typed, Joined}
 use Rattle.ob_cache.specs.Native.{HasNativeConstants, HaveNativeConstants}

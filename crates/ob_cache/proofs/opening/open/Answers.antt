@@ -11,7 +11,7 @@ use Rattle.ob_cache.specs.Rooms.{ShowsUnsound}
 use Rattle.ob_cache.specs.Standing.{FitNextIds}
 use Rattle.ob_cache.specs.declared.kept_rows.ReadRows.{ReadRows}
 use Rattle.ob_cache.proofs.Opened.{IsOfField, all-kept, all-readable, broken-stops, differs-stops, edits-fit, next-fit, opened, opened-standing, reading-stops, tests-fit}
-use Rattle.ob_schema.specs.Broken.{AreSound, IsBroken}
+use Rattle.ob_schema.specs.Broken.{AreSound, IsFirstBroken}
 use Rattle.ob_schema.specs.Tables.{Fits, Standing}
 use Rattle.ob_schema.specs.Val.{val}
 use Rattle.ob_schema.specs.declared.info.ModelInfo.{ModelInfo}
@@ -51,7 +51,7 @@ returns-in-Err-Broken-clause-fault g c =
     let broken = c.in-Err-Broken.broken in
     broken-stops models kept before none rows c.new.ensures c.new-2.ensures read c.parts_fit_together.ensures readable c.one_row.ensures
     (subst (λ (t : Standing). Fits t.models t.tables) standing c.fit_together.ensures.fits) broken
-    (subst (λ (t : Standing). IsBroken t.models t.tables broken) standing (subst (ShowsUnsound c.in_ok-tables.tables) c.in-Err-Broken.field-0-is c.in-Err-Broken.ensures.fault))
+    (subst (λ (t : Standing). IsFirstBroken t.models t.tables broken) standing (subst (ShowsUnsound c.in_ok-tables.tables) c.in-Err-Broken.field-0-is c.in-Err-Broken.ensures.fault))
 
 pub test_stored-requires : goal.test_stored-requires
 test_stored-requires g c =

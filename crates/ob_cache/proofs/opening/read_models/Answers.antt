@@ -1,7 +1,9 @@
 use Rattle.std.proofs.Common.{◌+◌, Option, ap, arith, refl, subst, sym, ◌∙◌}
 use Rattle.ob_base.specs.declared.id.ModelNo.{ModelNo}
 use Rattle.ob_cache.specs.Reading.{ReadsModels, ReadsRows, TellsAll, TellsNext}
-use Rattle.ob_cache.proofs.ReadModels.{models-more, models-none, models-passed, no-rows, there-as}
+use Rattle.std.proofs.lemmas.Result.{err_from_is_err_and}
+use Rattle.ob_cache.proofs.ReadModels.{models-more, models-none, models-passed, models-stop, no-rows, there-as}
+use Rattle.ob_cache.proofs.ReadPages.{rose-later}
 use Rattle.ob_io.specs.Store.{Store}
 use Rattle.ob_schema.specs.Models.{model_at}
 use Rattle.ob_schema.specs.Tables.{Standing, Tables}
@@ -48,3 +50,12 @@ loop-place-preserved g c =
             count = i.count;
           })
     ]
+
+pub returns-in_err-next-clause-fault : goal.returns-in_err-next-clause-fault
+returns-in_err-next-clause-fault g c =
+    let p = err_from_is_err_and c.from_residual.result c.from_residual.ensures.1 in
+    let i = c.loop-place.invariant in
+    let kept = g.K.Keeper.kept c.args.keeper.now in
+    let place = c.loop-place.place in
+    rw (p.1, p.2) (models-stop c.args.schema.now kept (g.K.Keeper.kept c.loop-place.keeper) _ _ place c.loop-place.tables.tables (record { 0 = place + 1 }) c.in_err-next.field-0.0 c.args.rows.now c.loop-place.rows refl i.same
+    (rose-later _ _ _ i.count) i.read c.in_err-next.ensures.fault)

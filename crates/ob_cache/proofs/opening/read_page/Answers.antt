@@ -1,8 +1,5 @@
-use Rattle.std.proofs.Common.{subst, sym}
 use Rattle.std.proofs.lemmas.Result.{err_from_is_err_and}
-use Rattle.ob_cache.specs.Reading.{IsOneOf}
-use Rattle.ob_cache.proofs.ReadPages.{among-at, row-more, unread-among}
-use Rattle.ob_io.specs.declared.store.KeptRow.{KeptRow}
+use Rattle.ob_cache.proofs.ReadPages.{row-more, unread-among}
 use Rattle.ob_cache.proofs.opening.read_page.Goals as goal
 
 pub returns-in_err-read_row-clause-fault : goal.returns-in_err-read_row-clause-fault
@@ -10,8 +7,8 @@ returns-in_err-read_row-clause-fault c =
     let p = err_from_is_err_and c.from_residual.result c.from_residual.ensures.1 in
     let page = c.args.page.now in
     let row = c.row-item.result in
-    rw (p.1, p.2) (unread-among c.args.schema.now c.args.model c.args.next page row c.in_err-read_row.field-0.0
-    (subst (λ (r : KeptRow). IsOneOf r page) (sym c.row-item.is) (among-at page c.loop-row.row-index row c.loop-row-test.true)) c.in_err-read_row.ensures.fault)
+    rw (p.1, p.2) (unread-among c.args.schema.now c.args.model c.args.next page c.loop-row.row-index row c.in_err-read_row.field-0.0 c.args.rows.now c.loop-row.rows c.loop-row-test.true c.row-item.is
+    c.loop-row.invariant c.in_err-read_row.ensures.fault)
 
 pub loop-row-preserved : goal.loop-row-preserved
 loop-row-preserved c =

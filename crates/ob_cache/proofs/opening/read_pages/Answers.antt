@@ -2,7 +2,7 @@ use Rattle.std.proofs.Common.{◌≡◌, List, Option, arith, subst, take, ◌�
 use Rattle.std.specs.Prelude.{IfSome}
 use Rattle.std.proofs.lemmas.Result.{err_from_is_err_and}
 use Rattle.ob_cache.specs.Reading.{IsUnreadAmong, ReadsRows, TellsUpTo}
-use Rattle.ob_cache.proofs.ReadPages.{last-at, page-falls, page-kept, page-more, page-rises, reads-join, unread-stops}
+use Rattle.ob_cache.proofs.ReadPages.{last-at, page-falls, page-more, page-rises, reads-join, unread-stops}
 use Rattle.ob_io.specs.Store.{RowsNamed, Store, rows_after}
 use Rattle.ob_io.specs.declared.store.KeptRow.{KeptRow}
 use Rattle.ob_schema.specs.Models.{model_at}
@@ -18,10 +18,9 @@ returns-in_err-read_page-clause-fault g c =
     let page = c.in_ok-page.page in
     let same = c.loop-page.invariant.same in
     let fault = c.in_err-read_page.field-0.0 in
-    rw (p.1, p.2) (unread-stops c.args.schema.now kept _ model c.args.next page fault c.requires.model
-    (page-kept model after 256 page kept (subst (λ (o : Option Store). IfSome o RowsNamed) same c.in_ok-page.ensures.named)
-    (subst (λ (o : Option Store). IfSome o (λ store. page ≡ take 256 (rows_after store model after))) same c.in_ok-page.ensures.told))
-    c.requires.next
+    rw (p.1, p.2) (unread-stops c.args.schema.now kept _ model c.args.next after page fault c.args.rows.now c.loop-page.rows c.requires.model (subst (λ (o : Option Store). IfSome o RowsNamed) same c.in_ok-page.ensures.named)
+    (subst (λ (o : Option Store). IfSome o (λ store. page ≡ take 256 (rows_after store model after))) same c.in_ok-page.ensures.told)
+    c.requires.next c.loop-page.invariant.read
     (subst (λ (l : List KeptRow). IfSome (model_at c.args.schema.now model) (λ info. IsUnreadAmong c.args.schema.now c.args.next info l model fault)) c.as_slice-in-loop-page.ensures c.in_err-read_page.ensures.fault))
 
 pub loop-page-smaller : goal.loop-page-smaller

@@ -1,18 +1,19 @@
-use Rattle.std.proofs.Common.{◌≡◌, ◌∙◌, Ok, subst, sym}
+use Rattle.std.proofs.Common.{◌≡◌, ◌∙◌, suc, take, drop, Ok, sym}
 use Rattle.std.proofs.lemmas.Bool.{false≢true}
-use Rattle.ob_base.specs.declared.id.Cell.{Cell}
-use Rattle.ob_base.specs.declared.value.Value.{Value}
-use Rattle.ob_cache.specs.Reading.{IsOneOf}
-use Rattle.ob_cache.proofs.ReadPages.{all-more, among-at}
+use Rattle.ob_cache.proofs.ReadPages.{all-more, parted}
 use Rattle.ob_schema.specs.Val.{val}
 use Rattle.ob_cache.proofs.opening.test_stored.Goals as goal
 
 pub returns-then-not-branch-clause-fault : goal.returns-then-not-branch-clause-fault
 returns-then-not-branch-clause-fault c =
     let stored = c.args.stored.now in
-    let item = c.loop-cell-item.result in (
+    let item = c.loop-cell-item.result in
+    let index = c.loop-cell.cell-index in (
+      take index stored,
       item.1,
-      subst (λ (s : Cell × Value). IsOneOf s stored) (sym c.loop-cell-item.is) (among-at stored c.loop-cell.cell-index item c.loop-cell-test.true),
+      drop (suc index) stored,
+      parted stored index item c.loop-cell-test.true c.loop-cell-item.is,
+      c.loop-cell.invariant,
       λ is. false≢true (sym c.if-not-branch.true ∙ c.in_ok-has_value.ensures.1 is),
     )
 

@@ -1,6 +1,6 @@
 use Rattle.std.proofs.Common.{arith}
 use Rattle.ob_cache.proofs.Filling.{models-all}
-use Rattle.ob_tables.proofs.Valued.{sound-tied}
+use Rattle.ob_tables.proofs.CallerLemmas.{sound-tied}
 use Rattle.ob_cache.proofs.whole.values_of.Goals as goal
 
 pub of-requires : goal.of-requires

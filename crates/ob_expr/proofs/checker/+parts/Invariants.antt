@@ -1,8 +1,8 @@
 use Rattle.std.proofs.Common.{◌≡◌, drop, map}
-use Rattle.ob_syntax.specs.declared.syntax.Expr.{Expr}
+use Rattle.ob_base.specs.declared.syntax.Expr.{Expr}
 use Rattle.ob_expr.specs.Chain.{each}
 use Rattle.ob_expr.specs.Checking.{part_of}
-use Rattle.ob_syntax.specs.Grammar.{tree_of}
+use Rattle.ob_base.specs.Syntax.{tree_of}
 use Rattle.ob_expr.specs.Told.{part_tree}
 use Rattle.ob_expr.proofs.Outcomes.{with_left}
 use Rattle.ob_expr.proofs.checker.+parts.Given as goal

@@ -1,7 +1,7 @@
 use Rattle.std.proofs.Common.{◌≡◌, Option, Some, Ok, subst}
 use Rattle.ob_expr.specs.declared.typed.Typed.{Typed}
 use Rattle.ob_expr.specs.Checking.{part_of}
-use Rattle.ob_syntax.specs.Grammar.{tree_of}
+use Rattle.ob_base.specs.Syntax.{tree_of}
 use Rattle.ob_expr.specs.Told.{part_tree}
 use Rattle.ob_expr.specs.TypedTree.{typed_tree_of}
 use Rattle.ob_expr.proofs.Accepted.{part_ok}

@@ -15,7 +15,7 @@ loop-done-init g c = record {
 
 pub returns-in_err-done-clause-err : goal.returns-in_err-done-clause-err
 returns-in_err-done-clause-err g c =
-    at_any_error _ (front_so_far _ _ c.loop-done.done _ (c.in_err-done.ensures.failed ∙ c.loop-done.invariant.written))
+    at_any_error _ (front_so_far _ _ c.loop-done.done _ (search rules) (c.in_err-done.ensures.failed ∙ c.loop-done.invariant.written))
 
 pub loop-done-preserved : goal.loop-done-preserved
 loop-done-preserved g c = record {

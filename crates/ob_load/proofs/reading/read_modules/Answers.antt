@@ -1,16 +1,14 @@
 -- Each turn reads one module more; what is left ends reading.
-use Rattle.std.proofs.Common.{◌≡◌, ◌<◌, List, ℕ, [], Ok, Err, refl, sym, ap, subst, ◌∙◌, arith}
-use Rattle.std.specs.Prelude.{IfSome}
+use Rattle.std.proofs.Common.{◌≡◌, ◌<◌, List, ℕ, Ok, Err, refl, sym, ap, subst, ◌∙◌, arith}
 use Rattle.std.proofs.lemmas.Result.{err_from_is_err_and}
 use Rattle.toml.specs.View.{table_view}
-use Rattle.ob_load.specs.Loading.{wanted}
 use Rattle.ob_load.specs.declared.fault.FaultyModule.{FaultyModule}
 use Rattle.ob_load.specs.declared.fault.LoadFault.TheVariants as load
 use Rattle.ob_load.specs.declared.fault.ModuleFault.TheVariants as fault
-use Rattle.ob_load.specs.Reading.{Module, ReadsTo, next_module, whole}
+use Rattle.ob_load.specs.Reading.{Module, next_module, whole}
 use Rattle.ob_load.specs.Rooms.{modules_in}
 use Rattle.ob_load.specs.Texts.{text_in}
-use Rattle.ob_load.proofs.ReadingSteps.{IsReading-first, IsReading-more, reading-ended, reading-full, reading-refused, reading-whole}
+use Rattle.ob_load.proofs.ReadingSteps.{Comes, IsReading-first, IsReading-more, reading-ended, reading-full, reading-refused, reading-whole}
 use Rattle.ob_load.proofs.Told.{err_is, refused-is, told-same}
 use Rattle.ob_load.proofs.reading.read_modules.Goals as goal
 
@@ -79,6 +77,6 @@ returns-in-Some-next_unread-clause-fault g c = λ faulty same.
     let own = refused-is (whole called fault.Limit) faulty c.refused.result c.refused.ensures.fault (err_is c.refused.result (load.Module faulty) same) in
     let is = own ∙ ap (λ (n : List ℕ). whole n fault.Limit) c.as_str-in-Some-next_unread.ensures in
     let full : c.loop.counter ≡ 64 = omega arith in
-    subst (λ (f : FaultyModule). IfSome texts (λ t. ReadsTo (text_in t folder) [] (wanted names) (Err f))) (sym is)
+    subst (λ (f : FaultyModule). Comes texts folder names (Err f)) (sym is)
     (reading-full texts folder names (modules_in c.loop.modules) c.loop.coming c.next_unread-2.new.coming c.loop.counter c.next_unread-2.result c.loop.invariant.reading c.next_unread-2.ensures.passes
     name c.in-Some-next_unread.is c.in-Some-next_unread.ensures.unread full)

@@ -2,8 +2,7 @@ use Rattle.std.proofs.Common.{◌+◌, [], List, Option, take, sym, subst}
 use Rattle.std.specs.List.{AllZip}
 use Rattle.ob_definition.specs.Findings.{Adds}
 use Rattle.ob_definition.specs.Members.{Member}
-use Rattle.ob_definition.proofs.Copies.{zip_more}
-use Rattle.ob_definition.proofs.Tellings.{Adds-more}
+use Rattle.ob_definition.proofs.CallerLemmas.{Adds-more, zip_more}
 use Rattle.ob_schema.specs.declared.formulas.DraftFormula.{DraftFormula}
 use Rattle.ob_schema.specs.declared.model.Member.{Member as KeptMember}
 use Rattle.ob_schema.specs.ModelFields.{member_of, members_in}

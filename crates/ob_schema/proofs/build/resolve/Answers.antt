@@ -1,5 +1,5 @@
 use Rattle.std.proofs.Common.{◌⊎◌}
-use Rattle.ob_definition.proofs.Adding.{Adds-both}
+use Rattle.ob_definition.proofs.CallerLemmas.{Adds-both}
 use Rattle.ob_schema.specs.Graphs.{IsChainWrong, IsStepFault}
 use Rattle.ob_schema.specs.Telling.{AreFormulaFaults, AreKeyFaults}
 use Rattle.ob_schema.proofs.build.resolve.Goals as goal

@@ -6,7 +6,7 @@ use Rattle.ob_base.specs.declared.id.FieldNo.{FieldNo}
 use Rattle.ob_definition.specs.declared.gathering.UniqueSet.{UniqueSet}
 use Rattle.ob_definition.specs.Gathered.{DeclaredSet, set_at}
 use Rattle.ob_definition.specs.ByName.{sets_of}
-use Rattle.ob_definition.proofs.Copies.{next_front, zip_push}
+use Rattle.ob_definition.proofs.CallerLemmas.{next_front, zip_push}
 use Rattle.ob_schema.specs.Building.{AreNumbers}
 use Rattle.ob_schema.specs.ModelFields.{named_in}
 use Rattle.ob_schema.proofs.building.unique_sets.Goals as goal

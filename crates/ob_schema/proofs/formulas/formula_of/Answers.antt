@@ -1,7 +1,7 @@
 use Rattle.std.proofs.Common.{◌≡◌, ℕ, ◌<◌, List, Option, length, option_map, refl, sym, ap, subst, ◌∙◌, true}
 use Rattle.std.specs.Prelude.{◌↔◌, Any, IsTrue}
 use Rattle.ob_base.specs.Limits.{max_path_steps}
-use Rattle.ob_syntax.specs.Grammar.{Tree, tree_of}
+use Rattle.ob_base.specs.Syntax.{Tree, tree_of}
 use Rattle.ob_expr.specs.TypedTree.{TypedTree, typed_tree_of}
 use Rattle.ob_definition.specs.declared.wrong.Wrong.{Wrong}
 use Rattle.ob_definition.specs.Findings.{Adds, IsAt, IsFaultAt}

@@ -1,6 +1,6 @@
 use Rattle.std.proofs.Common.{ℕ, List, Some, subst}
 use Rattle.std.proofs.lemmas.Result.{MatchResult-at_err, MatchResult-at_ok}
-use Rattle.ob_syntax.specs.Grammar.{tree_of}
+use Rattle.ob_base.specs.Syntax.{tree_of}
 use Rattle.ob_expr.specs.TypedTree.{typed_tree_of}
 use Rattle.ob_definition.specs.Findings.{Adds, IsAt}
 use Rattle.ob_definition.specs.Rooms.{spot_at}

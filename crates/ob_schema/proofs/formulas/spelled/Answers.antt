@@ -1,6 +1,6 @@
 use Rattle.std.proofs.Common.{◌≡◌, inr, not, is_some, sym, ap, ◌∙◌, false}
-use Rattle.ob_syntax.specs.declared.fault.ExprFault.TheVariants as text_fault
-use Rattle.ob_syntax.specs.Grammar.{tree_of}
+use Rattle.ob_base.specs.declared.expr_fault.ExprFault.TheVariants as text_fault
+use Rattle.ob_base.specs.Syntax.{tree_of}
 use Rattle.ob_schema.specs.Formulas.{RelatedByPath, Spelled}
 use Rattle.ob_schema.specs.ModelFields.{member_of}
 use Rattle.ob_schema.proofs.Reading.{no_path, path_told, path_untold, related_not, spelled_by}

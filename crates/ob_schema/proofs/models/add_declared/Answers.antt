@@ -3,7 +3,7 @@ use Rattle.std.proofs.lemmas.List.{take_all}
 use Rattle.ob_definition.specs.declared.by_name.FieldEntry.{FieldEntry}
 use Rattle.ob_definition.specs.Gathered.{Declared, Gathered, field_at}
 use Rattle.ob_definition.specs.Members.{Member, own_member}
-use Rattle.ob_definition.proofs.Copies.{map_map}
+use Rattle.ob_definition.proofs.CallerLemmas.{map_map}
 use Rattle.ob_schema.specs.ModelFields.{members_in}
 use Rattle.ob_schema.proofs.models.add_declared.Goals as goal
 

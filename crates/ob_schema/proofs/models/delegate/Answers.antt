@@ -7,7 +7,7 @@ use Rattle.std.proofs.lemmas.List.{map-append}
 use Rattle.std.proofs.lemmas.Map.Text.{btree_set_updates_text}
 use Rattle.ob_definition.specs.Definitions.{is_automatic}
 use Rattle.ob_definition.specs.Members.{Member, delegated_member, named}
-use Rattle.ob_definition.proofs.Copies.{value_more}
+use Rattle.ob_definition.proofs.CallerLemmas.{value_more}
 use Rattle.ob_schema.specs.declared.model.Member.{Member as KeptMember}
 use Rattle.ob_schema.specs.ModelFields.{member_of, members_in}
 use Rattle.ob_schema.specs.Modelling.{AreMemberNames, delegated_beside}

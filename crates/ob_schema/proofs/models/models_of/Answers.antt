@@ -2,7 +2,7 @@ use Rattle.std.proofs.Common.{◌≡◌, ◌<◌, ◌+◌, List, length, sym, ap
 use Rattle.std.specs.List.{AllZip}
 use Rattle.ob_definition.specs.Gathered.{Gathered}
 use Rattle.ob_definition.specs.Making.{IsMade}
-use Rattle.ob_definition.proofs.Copies.{zip_length}
+use Rattle.ob_definition.proofs.CallerLemmas.{zip_length}
 use Rattle.ob_schema.specs.declared.model.Model.{Model}
 use Rattle.ob_schema.specs.Modelling.{IsModelled}
 use Rattle.ob_schema.proofs.MadeMembers.{zip_pushed, zip_some}

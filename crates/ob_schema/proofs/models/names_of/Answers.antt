@@ -1,6 +1,6 @@
 use Rattle.std.proofs.Common.{◌≡◌, ℕ, ◌+◌, ◌<◌, List, [], ◌∷◌, ◌++◌, length, take, true, refl, sym, ◌∙◌, arith, string_bytes}
 use Rattle.std.proofs.lemmas.Map.Text.{btree_set_updates_text}
-use Rattle.ob_definition.proofs.Copies.{value_more}
+use Rattle.ob_definition.proofs.CallerLemmas.{value_more}
 use Rattle.ob_schema.specs.ModelFields.{member_of, members_in}
 use Rattle.ob_schema.proofs.MemberNames.{AreMemberNames-push}
 use Rattle.ob_schema.proofs.models.names_of.Goals as goal

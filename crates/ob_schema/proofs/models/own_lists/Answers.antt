@@ -3,7 +3,7 @@ use Rattle.std.specs.declared.alloc.Global.{Global}
 use Rattle.ob_definition.specs.Gathered.{Gathered}
 use Rattle.ob_definition.specs.Making.{IsMade}
 use Rattle.ob_definition.specs.Members.{own_members}
-use Rattle.ob_definition.proofs.Copies.{view_more, zip_length}
+use Rattle.ob_definition.proofs.CallerLemmas.{view_more, zip_length}
 use Rattle.ob_schema.specs.declared.model.Member.{Member as KeptMember}
 use Rattle.ob_schema.specs.ModelFields.{members_in}
 use Rattle.ob_schema.specs.Modelling.{own_in}

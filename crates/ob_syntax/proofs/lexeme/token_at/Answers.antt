@@ -1,5 +1,6 @@
 use Rattle.std.proofs.Common.{◌+◌, ℕ, List, true, false, drop, get_or, ap, ◌∙◌}
-use Rattle.ob_syntax.specs.Lexemes.{is_name_byte, is_letter, is_digit, is_quote, number_lexeme, word_lexeme}
+use Rattle.ob_base.specs.NameBytes.{is_name_byte, is_letter, is_digit}
+use Rattle.ob_syntax.specs.Lexemes.{is_quote, number_lexeme, word_lexeme}
 use Rattle.ob_syntax.proofs.Tokens.{test-at, len-at, within-at, symbol-at, word-at, number-at, front-quote, front-symbol, run-some, run-boundary, run-passes, letter_is_name_byte, name_byte_is_ascii, digit_is_ascii}
 use Rattle.ob_syntax.proofs.lexeme.token_at.Goals as goal
 

@@ -1,6 +1,6 @@
 use Rattle.std.proofs.Common.{ap, map, arith}
-use Rattle.ob_syntax.specs.Grammar.{Arguments, call, no_arguments, tree_of}
-use Rattle.ob_syntax.proofs.Rows.{arguments_of-items}
+use Rattle.ob_base.specs.Syntax.{Arguments, call, no_arguments, tree_of}
+use Rattle.ob_base.proofs.CallerLemmas.{arguments_of-items}
 use Rattle.ob_syntax.proofs.Spelling.{depth-given_before}
 use Rattle.ob_syntax.proofs.node.called.Goals as goal
 

@@ -1,6 +1,6 @@
 use Rattle.std.proofs.Common.{◌∷◌, [], map, arith}
 use Rattle.std.proofs.lemmas.List.{map-append}
-use Rattle.ob_syntax.specs.Grammar.{tree_of}
+use Rattle.ob_base.specs.Syntax.{tree_of}
 use Rattle.ob_syntax.proofs.Spelling.{deepest_of-more}
 use Rattle.ob_syntax.proofs.node.with_argument.Goals as goal
 

@@ -1,5 +1,5 @@
 use Rattle.ob_base.specs.Limits.{max_expression_depth}
-use Rattle.ob_syntax.specs.declared.fault.ExprFault.TheVariants.{At, TooDeep}
+use Rattle.ob_base.specs.declared.expr_fault.ExprFault.TheVariants.{At, TooDeep}
 use Rattle.ob_syntax.proofs.Spelling.{parsed-whole}
 use Rattle.ob_syntax.proofs.Parsed.{tree-answer, depth-answer, fault-answer, whole-answer}
 use Rattle.ob_syntax.proofs.parser.parse.Goals as goal

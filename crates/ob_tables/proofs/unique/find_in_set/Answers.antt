@@ -2,7 +2,7 @@ use Rattle.std.proofs.Common.{◌∙◌, ap, sym, subst, is_lt, rules}
 use Rattle.std.specs.Cmp.Lexicographic.{lists_total, slice_cmp}
 use Rattle.std.specs.Option.{option_copied}
 use Rattle.std.proofs.lemmas.List.Sorted.{answers_always, ranks_by}
-use Rattle.ob_base.proofs.OrderLaws.{value_order_total}
+use Rattle.ob_base.proofs.CallerLemmas.{value_order_total}
 use Rattle.ob_base.specs.ValueOrder.{value_order}
 use Rattle.ob_tables.specs.declared.unique.Member.{Member}
 use Rattle.ob_tables.specs.Finding.{Finds}

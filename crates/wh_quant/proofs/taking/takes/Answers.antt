@@ -1,5 +1,5 @@
-use Rattle.std.proofs.Common.{◌≡◌, List, map, to_z, of_z, w64, pos}
-use Rattle.std.specs.List.{All}
+use Rattle.std.proofs.Common.{◌≡◌, List, map, nat_eq, to_z, of_z, w64, pos}
+use Rattle.std.specs.List.{All, IsDistinct}
 use Rattle.std.specs.Int.{int_min, int_max}
 use Rattle.std.proofs.lemmas.Int.{to_z-of_z}
 use Rattle.std.proofs.lemmas.Result.{IfOk-weaker}
@@ -8,7 +8,7 @@ use Rattle.wh_quant.specs.Sums.{total}
 use Rattle.wh_quant.specs.Takes.{IsRanked, takes_from, IsTakeOf}
 use Rattle.wh_quant.proofs.Sorting.{behind}
 use Rattle.wh_quant.proofs.Taken.{ranked_free, taken_within, taken_whole}
-use Rattle.wh_quant.proofs.Only.{taken_only}
+use Rattle.wh_quant.proofs.Only.{taken_only, takes_apart}
 use Rattle.wh_quant.proofs.taking.takes.Goals as goal
 
 pub given-requires : goal.given-requires
@@ -33,3 +33,10 @@ returns-clause-only c distinct = taken_only c.args.order c.args.free.now distinc
 
 pub returns-in_err-candidates-clause-only : goal.returns-in_err-candidates-clause-only
 returns-in_err-candidates-clause-only c distinct = taken_only c.args.order c.args.free.now distinct c.args.want
+
+pub returns-clause-distinct : goal.returns-clause-distinct
+returns-clause-distinct c distinct =
+    let order : IsRanked c.args.order c.args.free.now (map behind c.as_slice.result.now) = rw c.as_slice.ensures.value c.in_ok-candidates.ensures in
+    IfOk-weaker c.given.result (λ (taken : List Take). taken ≡ takes_from (to_z w64 (of_z w64 c.args.want)) (map behind c.as_slice.result.now))
+    (λ taken. IsDistinct nat_eq (map (λ t. t.quant.0) taken))
+    (λ taken is. rw is (takes_apart c.args.order c.args.free.now distinct (to_z w64 (of_z w64 c.args.want)) (map behind c.as_slice.result.now) order)) c.given.ensures

@@ -4,7 +4,7 @@ use Rattle.ob_cache.proofs.Inserting.{told-computed}
 use Rattle.ob_cache.proofs.TypedCells.{computed-typed}
 use Rattle.ob_schema.specs.Models.{field_at, is_computed_from}
 use Rattle.ob_schema.specs.declared.info.FieldInfo.{FieldInfo}
-use Rattle.ob_tables.proofs.KnownFields.{told_and}
+use Rattle.ob_tables.proofs.CallerLemmas.{told_and}
 use Rattle.ob_cache.proofs.whole.Whole.computed.Goals as goal
 
 pub returns-in_ok-try_clone-in-Some-clause-told : goal.returns-in_ok-try_clone-in-Some-clause-told

@@ -9,7 +9,7 @@ use Rattle.ob_schema.specs.Plain.{plain_at}
 use Rattle.ob_schema.specs.Tables.{Standing}
 use Rattle.ob_schema.specs.declared.info.FieldInfo.{FieldInfo}
 use Rattle.ob_schema.specs.declared.info.ModelInfo.{ModelInfo}
-use Rattle.ob_tables.proofs.KnownFields.{known_at}
+use Rattle.ob_tables.proofs.CallerLemmas.{known_at}
 use Rattle.ob_cache.proofs.whole.Whole.own_value.Goals as goal
 
 pub returns-in_default : goal.returns-in_default

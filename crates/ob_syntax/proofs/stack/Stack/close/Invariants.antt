@@ -1,6 +1,6 @@
 use Rattle.std.proofs.Common.{◌≡◌, ◌≤◌, length}
 use Rattle.ob_base.specs.Limits.{max_expression_depth}
-use Rattle.ob_syntax.specs.Grammar.{tree_of}
+use Rattle.ob_base.specs.Syntax.{tree_of}
 use Rattle.ob_syntax.specs.Parsing.{closed, least}
 use Rattle.ob_syntax.specs.Waits.{all_pending}
 use Rattle.ob_syntax.proofs.stack.Stack.close.Given as goal

@@ -1,7 +1,0 @@
-use Rattle.std.proofs.Common.{ap}
-use Rattle.ob_syntax.specs.Grammar.{Arguments, call}
-use Rattle.ob_syntax.proofs.Rows.{arguments_of-items}
-use Rattle.ob_syntax.proofs.syntax.call_order.Goals as goal
-
-pub returns : goal.returns
-returns c = λ name given at. ap (λ (a : Arguments). call name a at) (arguments_of-items given)
