@@ -4,14 +4,16 @@
 //! proved like any function, and this keeps it short.
 //!
 //! Rooms: `told` (how they tell), `tellers` (that each form in memory tells what it holds),
-//! `streams`, `texts` (files), `rows` (keepers), `doors` and `hosts` (the clock and the standard
-//! streams), `odd_host` (a host as a real one is not to be).
+//! `streams`, `texts` (files), `rows` (keepers in memory), `kept_in_sqlite`, `doors` and `hosts` (the
+//! clock and the standard streams), `odd_host` (a host as a real one is not to be).
 #![tactic(auto)]
 
 #[cfg(test)]
 mod doors;
 #[cfg(test)]
 mod hosts;
+#[cfg(test)]
+mod kept_in_sqlite;
 #[cfg(test)]
 mod odd_host;
 #[cfg(test)]
