@@ -126,7 +126,7 @@ given_info p g n (origin.Delegated at) own role of = absurd (false≢true (sym r
 given_info p g n (origin.Computed formula) own role of = absurd (false≢true (sym own ∙ (and_parts (not (is_delegated p.member.role)) (is_computed p.member.def) of.has.computed).1))
 
 -- the field `id` alone is the row's id
-is_id_info : (p : Place) (g : Gathered) (n : FieldNo) (o : Origin) → (bytes_eq p.member.def.name (codes "id") ≡ true → (is_computed p.member.def ≡ false) × (is_delegated p.member.role ≡ false)) → IsOrigin p g n o
+pub is_id_info : (p : Place) (g : Gathered) (n : FieldNo) (o : Origin) → (bytes_eq p.member.def.name (codes "id") ≡ true → (is_computed p.member.def ≡ false) × (is_delegated p.member.role ≡ false)) → IsOrigin p g n o
     → is_id_from o ≡ bytes_eq p.member.def.name (codes "id")
 is_id_info p g n origin.Id own of = sym ((bytes_eq-Decides p.member.def.name (codes "id")).1 of)
 is_id_info p g n origin.Plain own of = sym (not_true (bytes_eq p.member.def.name (codes "id")) (plain_parts p.member of).2)

@@ -18,7 +18,7 @@ use Rattle.ob_schema.specs.declared.model.Member.{Member as KeptMember}
 use Rattle.ob_schema.specs.declared.model.Model.{Model}
 use Rattle.ob_schema.specs.Built.{numbered}
 use Rattle.ob_schema.specs.Graphs.{AreFormulas, all_steps, formula_in}
-use Rattle.ob_schema.specs.ModelFields.{hidden_in, member_of, members_in, named_in}
+use Rattle.ob_schema.specs.ModelFields.{hidden_in, max_numbers, member_of, members_in, named_in}
 use Rattle.ob_schema.specs.Modelling.{AreModelled, IsModelled}
 use Rattle.ob_schema.specs.Strata.{IsMember}
 use Rattle.ob_schema.specs.Telling.{AreFaultsOf, AreFormulaFaults, AreModelFormulas, IsFormulaFault, IsFormulaOf}
@@ -185,6 +185,9 @@ module _ (models : List Gathered) where
 -- as many models as were gathered
 pub as_many : (models gathering : List Gathered) (list : List Model) → AreModelled gathering list → gathering ≡ models → length list ≡ length models
 as_many models gathering list are is = zip_length (IsModelled gathering) gathering list are.each ∙ ap length is
+
+pub as_few : (models gathering : List Gathered) (list : List Model) → AreModelled gathering list → gathering ≡ models → length models ≤ max_numbers
+as_few models gathering list are is = subst (λ (l : List Gathered). length l ≤ max_numbers) is are.few
 
 -- the same fields in another order
 any_moved : {X : Type 0} (P : X → Type 0) (xs ys : List X) → IsPermutation xs ys → Any P xs → Any P ys

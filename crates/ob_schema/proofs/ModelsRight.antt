@@ -1,7 +1,7 @@
 -- Each model of the registry is right among all, and so is the registry.
 use Rattle.std.proofs.Common.{◌≡◌, ◌≢◌, ℕ, zero, suc, ◌+◌, ◌<◌, ◌&&◌, ◌||◌, Bool, true, false, not, is_none, Option, Some, None, option_map, List, [], ◌∷◌, length}
 use Rattle.std.proofs.Common.{get_or, map, inl, inr, refl, sym, ap, subst, ◌∙◌, arith}
-use Rattle.std.specs.Prelude.{All, Contains, IfSome, IsSome, IsSomeAnd, slice_get, unwrap_or}
+use Rattle.std.specs.Prelude.{All, Contains, IfSome, IsSome, IsSomeAnd, codes, slice_get, unwrap_or}
 use Rattle.std.specs.List.{AllPairs, AllZip, list_all, list_any}
 use Rattle.std.specs.Option.{option_map_or}
 use Rattle.std.specs.Str.{bytes_eq}
@@ -39,13 +39,13 @@ use Rattle.ob_schema.specs.Formulas.{Place}
 use Rattle.ob_schema.specs.Faults.{HasRefused, HasUnknown, IsParentField, is_plain, is_plain_kept as is_kept_member, is_unknown, names_of_terms, orders_rows}
 use Rattle.ob_schema.specs.Fields.{is_plain_from, is_plain_kept}
 use Rattle.ob_schema.specs.Finds.{relation_of}
-use Rattle.ob_schema.specs.Models.{FieldHas, HasTreePath, IsFormulaIn, IsModel, IsParentIn, IsPlainTo, IsRegistry, IsTreePath, Orders, field_at, fields_of, model_at as info_at}
+use Rattle.ob_schema.specs.Models.{FieldHas, HasTreePath, IsFormulaIn, IsModel, IsParentIn, IsPlainTo, IsRegistry, IsTreePath, Orders, field_at, fields_of, is_id_from, model_at as info_at}
 use Rattle.ob_schema.specs.Paths.{step_at}
 use Rattle.ob_schema.specs.RegistryOf.{HasFieldInfo, IsInfoFrom, IsRegistryOf}
 use Rattle.ob_schema.specs.Strata.IsMember.{by_name}
 use Rattle.ob_schema.specs.Telling.{IsOrderWrong, IsParentWrong}
 use Rattle.ob_schema.proofs.Delegated.{link_inherits, link_member, link_model, own_among}
-use Rattle.ob_schema.proofs.FieldsRight.{IsParentOf, computed_info, field_right, has, named_info, number_there, parents_of, plain_info}
+use Rattle.ob_schema.proofs.FieldsRight.{IsParentOf, computed_info, field_right, has, is_id_info, named_info, number_there, parents_of, plain_info}
 use Rattle.ob_schema.proofs.ModelNames.{IfSome-found}
 use Rattle.ob_schema.proofs.ModelPlaces.{zip_some}
 use Rattle.ob_schema.proofs.NumbersRise.{field_no}
@@ -58,8 +58,8 @@ use Rattle.ob_schema.proofs.Somes.{read_within}
 use Rattle.ob_schema.proofs.Stable.{stable_model, stable_true}
 use Rattle.ob_schema.proofs.StrataRight.{stratified}
 use Rattle.ob_schema.proofs.WithinLimits.{few_fields}
-use Rattle.ob_schema.proofs.NamesRight.{alone, automatic, conditions, conditions_apart, few_hidden, field_read, from as made_from, name_short, ordered, path_info, path_low, path_member, path_own, short, slice_get-behind}
-use Rattle.ob_schema.proofs.TreePath.{path-means}
+use Rattle.ob_schema.proofs.NamesRight.{alone, automatic, conditions, conditions_apart, few_hidden, field_read, from as made_from, id_info, id_member, id_own, name_short, ordered, path_info, path_low, path_member, path_own, short, slice_get-behind}
+use Rattle.ob_schema.proofs.TreePath.{path-depends, path-means}
 
 -- ---- lists of names
 
@@ -199,17 +199,32 @@ module _ (models : List Gathered) (infos : List ModelInfo) (registry : IsRegistr
             let place : Place = record { models = models; number = number; member = m } in
             let at_path = number_of models g path_name in
             let own = path_info models infos registry zip number info at name e in
-            let is_path : IsTreePath number (number_of models g name) at_path own.info = record {
+            let at_id = number_of models g (codes "id") in
+            let row : Member = id_member models infos registry zip number info at in
+            let id = id_info models infos registry zip number info at in
+            let here = path_own models infos registry zip number info at name e in
+            let one : b.def.field_type ≡ type.Many2one = many2one b.def.field_type parent.1.one in
+            let right : (formula : Formula) → own.info.origin ≡ origin.Computed formula → IsFormula place at_path formula = λ formula by. subst (IsOrigin place g at_path) by own.is.origin in
+            let is_path : IsTreePath number (number_of models g name) at_path at_id own.info = record {
               named = own.is.name;
               text = own.is.field_type;
               computed = computed_info place g at_path own.info.origin refl refl own.is.origin;
               kept = own.is.store;
               means = λ formula by.
-                  (let right : IsFormula place at_path formula = subst (IsOrigin place g at_path) by own.is.origin in
-                  path-means models registry.resolved number g there name b parent.1.found parent.1.plain (many2one b.def.field_type parent.1.one) parent.1.leads
-                  (path_own models infos registry zip number info at name e) right.tree (typed_tree_of formula.typed) right.has);
+                  (let known = right formula by in
+                  path-means models registry.resolved number g there name b parent.1.found parent.1.plain one parent.1.leads here known.tree (typed_tree_of formula.typed) known.has);
+              depends = λ formula by.
+                  ((right formula by).depends
+                  ∙ path-depends models registry.resolved number g there name b parent.1.found parent.1.plain one parent.1.leads here row (id_own models infos registry zip number info at) refl refl refl);
             } in
-            (at_path, path_low models infos registry zip number info at name e, has models infos registry number at_path g m own (IsTreePath number (number_of models g name) at_path) is_path)
+            let is_id : is_id_from id.info.origin ≡ true = is_id_info (record { models = models; number = number; member = row }) g at_id id.info.origin (λ _. (refl, refl)) id.is.origin in
+            record {
+              own = at_path;
+              id = at_id;
+              named = path_low models infos registry zip number info at name e;
+              is_id = has models infos registry number at_id g row id (λ field. is_id_from field.origin ≡ true) is_id;
+              is_path = has models infos registry number at_path g m own (IsTreePath number (number_of models g name) at_path at_id) is_path;
+            }
 
     parents_right : All (IsParentIn infos number) info.inherits
     parents_right k d within = one (get_or info.inherits k d) (slice_get-get_or info.inherits k d within)

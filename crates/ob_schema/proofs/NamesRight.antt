@@ -1,7 +1,7 @@
 -- The names of a model of the registry and of its fields are right; the fields that every model has, the path in a tree and the conditions are there.
 use Rattle.std.proofs.Common.{◌≡◌, ◌≢◌, ℕ, suc, ◌+◌, ◌<◌, ◌≤◌, Bool, true, false, cond, ltb, not, is_some, Option, Some, None, option_map, List, [], ◌∷◌, ◌++◌, length}
 use Rattle.std.proofs.Common.{length-append, get_or, map, inl, inr, refl, sym, ap, subst, ◌∙◌, arith}
-use Rattle.std.specs.Prelude.{All, Any, Contains, option_and_then, slice_get}
+use Rattle.std.specs.Prelude.{All, Any, Contains, codes, option_and_then, slice_get}
 use Rattle.std.specs.Cmp.Lexicographic.{slice_cmp}
 use Rattle.std.specs.List.{AllPairs, AllZip, position_or_len}
 use Rattle.std.specs.Ordering.{nat_cmp}
@@ -17,6 +17,8 @@ use Rattle.ob_base.specs.declared.id.FieldNo.{FieldNo}
 use Rattle.ob_base.specs.declared.id.ModelNo.{ModelNo}
 use Rattle.ob_definition.specs.declared.definition.FieldDef.{FieldDef}
 use Rattle.ob_definition.specs.declared.fault.SchemaFault.TheVariants as fault
+use Rattle.ob_definition.specs.declared.field_type.FieldType.TheVariants as type
+use Rattle.ob_definition.specs.Definitions.{plain_field}
 use Rattle.ob_definition.specs.Gathered.{Declared, Gathered, is_declared}
 use Rattle.ob_definition.specs.Making.{IsPathFault}
 use Rattle.ob_definition.specs.Members.{Member, automatic_defs, check_member, check_members, count_below, given_members, hidden_members, hidden_number, is_own_computed, locked_members}
@@ -198,6 +200,26 @@ module _ (models : List Gathered) (infos : List ModelInfo) (registry : IsRegistr
         let m : Member = own_member g.entry def in
         let among : Contains (map (own_member g.entry) automatic_defs) m = contains-mapped (own_member g.entry) automatic_defs def (All-contains_itself automatic_defs k d within) in
         given_there m (Contains-append_left (map (own_member g.entry) automatic_defs) _ m among) (λ field. (field.name ≡ def.name) × (field.field_type ≡ def.field_type)) (λ field own of. (of.name, of.field_type))
+
+    -- ---- the row's id
+
+    -- a field that every model has
+    automatic_own : (def : FieldDef) → Contains automatic_defs def → Contains (own_members models g) (own_member g.entry def)
+    automatic_own def here =
+        let m : Member = own_member g.entry def in
+        let among : Contains (map (own_member g.entry) automatic_defs) m = contains-mapped (own_member g.entry) automatic_defs def here in
+        Contains-append_left (given_members g) _ m (Contains-append_left (map (own_member g.entry) automatic_defs) _ m among)
+
+    abbrev pub id_member : Member
+    id_member = own_member g.entry (plain_field (codes "id") type.Integer)
+
+    pub id_own : Contains (own_members models g) id_member
+    id_own = automatic_own (plain_field (codes "id") type.Integer) (1, omega arith, refl)
+
+    pub id_info : HasFieldInfo models infos number (number_of models g (codes "id")) g id_member
+    id_info =
+        registry.field number (number_of models g (codes "id")) g id_member
+        (by_name (step_at number (number_of models g (codes "id"))) g id_member there (own_among models g id_member id_own) refl)
 
     -- ---- the path in a tree
 

@@ -264,17 +264,26 @@ path_tree model parent own =
     let parents : Route = record { links = record { field = parent; target = model } ∷ []; field = own; kind = kind.Word } in
     joined (one_more (path parents) (one_more (digits row_id) (one_more (a_text (codes "/")) no_trees)))
 
--- the path of a row in its tree: a computed text that is kept
-pub record IsTreePath (model : ModelNo) (parent own : FieldNo) (field : FieldInfo) : Type 0 where
+-- the paths on which the path of a row depends: that of its parent, through the parent field, and the row's id, as `P.parent_path` and `id` name them
+abbrev pub path_depends : ModelNo → FieldNo → FieldNo → FieldNo → List (List Step)
+path_depends model parent own id = (step_at model parent ∷ step_at model own ∷ []) ∷ (step_at model id ∷ []) ∷ []
+
+-- the path of a row in its tree: a computed text that is kept, with its formula and the paths on which that depends
+pub record IsTreePath (model : ModelNo) (parent own id : FieldNo) (field : FieldInfo) : Type 0 where
   pub named : field.name ≡ path_name
   pub text : field.field_type ≡ type.Char
   pub computed : is_computed_from field.origin ≡ true
   pub kept : field.store ≡ true
   pub means : (formula : Formula) → field.origin ≡ origin.Computed formula → typed_tree_of formula.typed ≡ path_tree model parent own
+  pub depends : (formula : Formula) → field.origin ≡ origin.Computed formula → map (λ path. path.steps) formula.depends ≡ path_depends model parent own id
 
--- one of the named fields is the path of the rows of a tree with this parent field
-abbrev pub HasTreePath : List ModelInfo → ModelNo → ModelInfo → FieldNo → Type 0
-HasTreePath models model info parent = (own : FieldNo) × (own.0 ≤ length info.fields) × FieldHas models (IsTreePath model parent own) model own
+-- one of the named fields is the path of the rows of a tree with this parent field, and one is their id
+pub record HasTreePath (models : List ModelInfo) (model : ModelNo) (info : ModelInfo) (parent : FieldNo) : Type 0 where
+  pub own : FieldNo
+  pub id : FieldNo
+  pub named : own.0 ≤ length info.fields
+  pub is_id : FieldHas models (λ field. is_id_from field.origin ≡ true) model id
+  pub is_path : FieldHas models (IsTreePath model parent own id) model own
 
 -- a model's name is its own; its fields are named in byte order, each name once, within the limits; what names fields in its keys names fitting ones; formulas have their strata
 pub record IsModel (models : List ModelInfo) (model : ModelNo) (info : ModelInfo) : Type 0 where

@@ -20,7 +20,7 @@ use crate::field_faults::field_faults;
 use crate::formulas::{DraftFormula, formula_of};
 use crate::model::{Member, Role};
 use crate::model_faults::model_faults;
-use crate::models::{MAX_NUMBERS, Models, field_number, models_of};
+use crate::models::{MAX_NUMBERS, Models, models_of, number_of_place};
 use crate::schema::Schema;
 use crate::strata::{Formulas, stratify};
 use ob_base::{ModelNo, NoMemory};
@@ -34,7 +34,7 @@ impl Schema {
     /// the entries that make them. A model's fields, automatic and delegated ones among them,
     /// are numbered from 1 in byte order of their names; its checks follow by name, then
     /// `locked`. Where definitions are faulty the first fault is told: by entry, then field
-    /// by bytes, then variant as listed. Of more than 65,535 entries nothing is made, for
+    /// by bytes, then variant as listed. Of more than 65,535 models nothing is made, for
     /// want of numbers.
     pub fn build(alloc: Global, defs: &[ModelDef]) -> Result<Schema, SchemaFault>
         ensures built { IfOk result (λ schema. IsBuilt defs.now schema) }
@@ -45,11 +45,11 @@ impl Schema {
         ensures entry { IfErr result
             (λ why. why ≢ SchemaFault.NoMemory → (rank why).entry < length defs.now) }
     {
-        if defs.len() > MAX_NUMBERS {
-            return Err(SchemaFault::NoMemory);
-        }
         let mut first = First::new(alloc);
         let gathering = gather(alloc, defs, &mut first)?;
+        if gathering.models().len() > MAX_NUMBERS {
+            return Err(SchemaFault::NoMemory);
+        }
         registry_of(alloc, &gathering, first)
     }
 }
@@ -129,7 +129,7 @@ fn key_faults(alloc: Global, models: &Models<'_>, first: &mut First) -> Result<(
     ensures { IfOk result (λ _. Adds (AreKeyFaults models.now) first.old first.new) }
 {
     for place in 0..models.list.len() {
-        let number = ModelNo(field_number(place)?.0);
+        let number = ModelNo(number_of_place(place));
         model_faults(alloc, models, number, first)?;
         member_faults(models, number, first)?;
     }
@@ -165,7 +165,7 @@ fn formulas_of(alloc: Global, models: &Models<'_>, first: &mut First) -> Result<
 {
     let mut formulas = Vec::new(alloc);
     for place in 0..models.list.len() {
-        let number = ModelNo(field_number(place)?.0);
+        let number = ModelNo(number_of_place(place));
         formulas.push(model_formulas(alloc, models, number, first)?)?;
     }
     Ok(formulas)

@@ -5,14 +5,15 @@ ghost use Rattle.std.specs.Prelude.{ℕ, [], Contains, IfOk, IfSome, IsNone, IsS
 ghost use Rattle.ob_definition.specs.Members.{model_at};
 ghost use Rattle.ob_schema.specs.Chains.{Reaches};
 ghost use Rattle.ob_schema.specs.Graphs.{AreFormulas, AreHeights, AreStarts, IsGraph, IsReadBy, IsReadOn, NodeReads, all_steps, steps_upto};
+ghost use Rattle.ob_schema.specs.ModelFields.{max_numbers};
 ghost use Rattle.ob_schema.specs.Strata.{IsComputedAt, IsPathOf};
 ghost use Rattle.ob_schema.specs.Telling.{steps_in};
 
 use crate::formulas::DraftFormula;
 use crate::info::{Path, Step};
-use crate::models::{Models, field_number};
+use crate::models::{Models, number_of_place};
 use crate::strata::Formulas;
-use ob_base::{ModelNo, NoMemory};
+use ob_base::{FieldNo, ModelNo, NoMemory};
 use ob_definition::is_computed;
 use std::alloc::Global;
 
@@ -43,7 +44,7 @@ impl Graph {
         };
         for (place, model) in models.list.iter().enumerate() {
             graph.starts.push(graph.steps.len())?;
-            graph.add_nodes(ModelNo(field_number(place)?.0), model.members.len())?;
+            graph.add_nodes(ModelNo(number_of_place(place)), model.members.len())?;
         }
         graph.add_reads(alloc, models, formulas)?;
         Ok(graph)
@@ -51,12 +52,13 @@ impl Graph {
 
     /// Adds the nodes of a model's fields.
     fn add_nodes(&mut self, model: ModelNo, count: usize) -> Result<(), NoMemory>
+        requires { count ≤ max_numbers }
         ensures steps { IfOk result (λ _. self.new.steps.items ≡ self.old.steps.items ++ steps_upto model.0 count) }
         ensures starts { self.new.starts ≡ self.old.starts }
         ensures reads { self.new.reads ≡ self.old.reads }
     {
         for place in 0..count {
-            let field = field_number(place)?;
+            let field = FieldNo(number_of_place(place));
             self.steps.push(Step { model, field })?;
         }
         Ok(())

@@ -3,7 +3,7 @@
 //! may name is looked up here.
 
 ghost use Rattle.std.specs.List.{AllPairs, AllZip};
-ghost use Rattle.std.specs.Prelude.{◌≡◌, ◌≢◌, ◌<◌, ◌≤◌, ◌+◌, ◌++◌, ◌-◌, ◌^◌, ◌↔◌, IfOk, IfSome, IsNone, IsSome, IsPermutation, IsSomeAnd, None, Some, length, map, option_map, slice_get};
+ghost use Rattle.std.specs.Prelude.{◌≡◌, ◌≢◌, ◌<◌, ◌≤◌, ◌+◌, ◌++◌, ◌-◌, ◌↔◌, IfOk, IfSome, IsNone, IsSome, IsPermutation, IsSomeAnd, None, Some, length, map, option_map, slice_get};
 ghost use Rattle.ob_schema.specs.Finds.{is_usable, kind_of_field, kind_of_type, relation_of};
 ghost use Rattle.ob_definition.specs.Gathered.{AreWellNamed, Gathered};
 ghost use Rattle.ob_definition.specs.Making.{IsMade, conditions_of, path_made};
@@ -14,7 +14,7 @@ ghost use Rattle.ob_schema.specs.ModelFields.{max_numbers, member_of, members_in
 
 use crate::info::{Delegation, Step};
 use crate::model::{Member, Model, Role};
-use ob_base::{FieldNo, ModelNo, NoMemory};
+use ob_base::{ModelNo, NoMemory};
 use ob_definition::{
     FieldDef, FieldType, GatheredModel, Gathering, Inherits, Made, ParentLink, is_automatic,
     is_computed, is_set,
@@ -268,15 +268,12 @@ fn delegate<'a>(
     Ok(())
 }
 
-/// The number of what stands at a place: one more, where two bytes hold it.
-pub(crate) fn field_number(place: usize) -> Result<FieldNo, NoMemory>
-    requires { place < 2 ^ 64 - 1 }
-    ensures { IfOk result (λ number. number ≡ record { 0 = place + 1 }) }
+/// The number of what stands at a place: one more.
+pub(crate) fn number_of_place(place: usize) -> u16
+    requires { place < max_numbers }
+    ensures { result ≡ place + 1 }
 {
-    match u16::try_from(place + 1) {
-        Ok(number) => Ok(FieldNo(number)),
-        Err(_) => Err(NoMemory),
-    }
+    place as u16 + 1
 }
 
 /// The kind of a field's values, where its relation, if it has one, is a model.

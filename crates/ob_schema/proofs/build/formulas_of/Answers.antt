@@ -1,9 +1,8 @@
-use Rattle.std.proofs.Common.{◌≡◌, ℕ, ◌+◌, ◌≤◌, ◌<◌, List, Option, length, sym, ap, subst, arith}
+use Rattle.std.proofs.Common.{◌≡◌, ℕ, ◌+◌, ◌≤◌, ◌<◌, List, Option, length, sym, subst, arith}
 use Rattle.std.specs.Prelude.{Vec}
 use Rattle.std.specs.declared.alloc.Global.{Global}
-use Rattle.ob_base.specs.declared.id.FieldNo.{FieldNo}
 use Rattle.ob_schema.specs.declared.formulas.DraftFormula.{DraftFormula}
-use Rattle.ob_schema.proofs.FormulaLoops.{AreUpto, as_many, faults_all, faults_more, faults_none, formulas_all, formulas_more, formulas_none, place_there}
+use Rattle.ob_schema.proofs.FormulaLoops.{AreUpto, as_few, as_many, faults_all, faults_more, faults_none, formulas_all, formulas_more, formulas_none, place_there}
 use Rattle.ob_schema.proofs.build.formulas_of.Goals as goal
 
 pub loop-place-init : goal.loop-place-init
@@ -12,19 +11,26 @@ loop-place-init c = record {
   faults = faults_none c.args.models.now c.args.first.now;
 }
 
+pub number_of_place-requires : goal.number_of_place-requires
+number_of_place-requires c =
+    let models = c.args.models.now in
+    let many = as_many models c.models.inside.gathering.now c.models.inside.list.items c.models.invariant c.models.view_is in
+    let few = as_few models c.models.inside.gathering.now c.models.inside.list.items c.models.invariant c.models.view_is in
+    omega (arith, many, few, c.len-place-end.ensures, c.loop-place-test.true)
+
 pub model_formulas-requires : goal.model_formulas-requires
 model_formulas-requires c =
     let models = c.args.models.now in
     let many = as_many models c.models.inside.gathering.now c.models.inside.list.items c.models.invariant c.models.view_is in
     let within : c.loop-place.place < length models = omega (arith, many, c.len-place-end.ensures, c.loop-place-test.true) in
-    place_there models c.loop-place.place c.in_ok-field_number.field-0.0 within (ap (λ (n : FieldNo). n.0) c.in_ok-field_number.ensures)
+    place_there models c.loop-place.place c.number_of_place.result within c.number_of_place.ensures
 
 pub loop-place-preserved : goal.loop-place-preserved
 loop-place-preserved c =
     let models = c.args.models.now in
     let place = c.loop-place.place in
-    let k = c.in_ok-field_number.field-0.0 in
-    let is : k ≡ place + 1 = ap (λ (n : FieldNo). n.0) c.in_ok-field_number.ensures in
+    let k = c.number_of_place.result in
+    let is : k ≡ place + 1 = c.number_of_place.ensures in
     record {
       formulas = subst (λ (l : List (Vec (Option DraftFormula) Global)). AreUpto models (place + 1) l) (sym c.in_ok-push.ensures.items)
           (formulas_more models place k c.loop-place.formulas.items c.in_ok-model_formulas.field-0 is c.loop-place.invariant.formulas c.in_ok-model_formulas.ensures.formulas);

@@ -1,12 +1,18 @@
-use Rattle.std.proofs.Common.{◌≡◌, ℕ, ◌+◌, ◌≤◌, ◌<◌, length, ap, arith, subst}
+use Rattle.std.proofs.Common.{◌≡◌, ℕ, ◌+◌, ◌≤◌, ◌<◌, length, arith, subst}
 use Rattle.std.specs.Prelude.{IsSomeAnd}
-use Rattle.ob_base.specs.declared.id.FieldNo.{FieldNo}
 use Rattle.ob_definition.specs.Findings.{Adds}
 use Rattle.ob_definition.specs.Members.{model_at}
 use Rattle.ob_schema.specs.Telling.{AreMemberFaults, IsKeyFault}
 use Rattle.ob_schema.proofs.KeyRooms.{all_below, model_more, model_there, none_below}
 use Rattle.ob_schema.proofs.build.key_faults.Goals as goal
-use Rattle.ob_schema.proofs.FormulaLoops.{as_many}
+use Rattle.ob_schema.proofs.FormulaLoops.{as_few, as_many}
+
+pub number_of_place-requires : goal.number_of_place-requires
+number_of_place-requires c =
+    let models = c.args.models.now in
+    let many = as_many models c.models.inside.gathering.now c.models.inside.list.items c.models.invariant c.models.view_is in
+    let few = as_few models c.models.inside.gathering.now c.models.inside.list.items c.models.invariant c.models.view_is in
+    omega (arith, many, few, c.len-place-end.ensures, c.loop-place-test.true)
 
 pub loop-place-init : goal.loop-place-init
 loop-place-init c = none_below c.args.models.now c.args.first.now
@@ -14,7 +20,7 @@ loop-place-init c = none_below c.args.models.now c.args.first.now
 pub loop-place-preserved : goal.loop-place-preserved
 loop-place-preserved c =
     let models = c.args.models.now in
-    let number : c.in_ok-field_number.field-0.0 ≡ c.loop-place.place + 1 = ap (λ (n : FieldNo). n.0) c.in_ok-field_number.ensures in
+    let number : c.number_of_place.result ≡ c.loop-place.place + 1 = c.number_of_place.ensures in
     let b = c.loop-place.first in
     let d = c.model_faults.new.first in
     let e = c.member_faults.new.first in
@@ -27,14 +33,14 @@ model_faults-requires c =
     let models = c.args.models.now in
     let many = as_many models c.models.inside.gathering.now c.models.inside.list.items c.models.invariant c.models.view_is in
     let within : c.loop-place.place < length models = omega (arith, many, c.len-place-end.ensures, c.loop-place-test.true) in
-    model_there models c.loop-place.place c.in_ok-field_number.field-0.0 within (ap (λ (n : FieldNo). n.0) c.in_ok-field_number.ensures)
+    model_there models c.loop-place.place c.number_of_place.result within c.number_of_place.ensures
 
 pub member_faults-requires : goal.member_faults-requires
 member_faults-requires c =
     let models = c.args.models.now in
     let many = as_many models c.models.inside.gathering.now c.models.inside.list.items c.models.invariant c.models.view_is in
     let within : c.loop-place.place < length models = omega (arith, many, c.len-place-end.ensures, c.loop-place-test.true) in
-    model_there models c.loop-place.place c.in_ok-field_number.field-0.0 within (ap (λ (n : FieldNo). n.0) c.in_ok-field_number.ensures)
+    model_there models c.loop-place.place c.number_of_place.result within c.number_of_place.ensures
 
 pub returns : goal.returns
 returns c =

@@ -4,6 +4,7 @@ use Rattle.ob_definition.specs.Gathered.{Gathered}
 use Rattle.ob_definition.proofs.CallerLemmas.{zip_length}
 use Rattle.ob_schema.specs.declared.model.Model.{Model}
 use Rattle.ob_schema.specs.Modelling.{IsModelled}
+use Rattle.ob_schema.proofs.FormulaLoops.{as_few, as_many}
 use Rattle.ob_schema.proofs.GraphNodes.{AreNodesUpto-more, AreNodesUpto-none, all_nodes, zip_at}
 use Rattle.ob_schema.proofs.graph.Graph.new.Goals as goal
 
@@ -21,11 +22,21 @@ loop-place-preserved c =
     let g = zip_at (IsModelled models) models c.deref-model-items.result.now c.loop-place.place c.model-item.result all c.loop-place-test.true c.model-item.is in
     record {
       nodes = AreNodesUpto-more models c.loop-place.place c.loop-place.graph.steps.items c.loop-place.graph.starts.items g.0 c.model-item.result c.loop-place.invariant.nodes g.1 g.2
-          c.in_ok-field_number.field-0.0 c.len-in-loop-place.result c.len.result (ap (λ n. n.0) c.in_ok-field_number.ensures)
+          c.number_of_place.result c.len-in-loop-place.result c.len.result c.number_of_place.ensures
           (c.len-in-loop-place.ensures ∙ c.model-item.result.members.ok.0) (c.len.ensures ∙ c.loop-place.graph.steps.ok.0)
           c.add_nodes.new.self.steps.items c.in_ok-add_nodes.ensures.steps c.add_nodes.new.self.starts.items (ap (λ v. v.items) c.in_ok-add_nodes.ensures.starts ∙ c.in_ok-push.ensures.items);
       none = ap (λ v. v.items) c.in_ok-add_nodes.ensures.reads ∙ c.loop-place.invariant.none;
     }
+
+pub number_of_place-requires : goal.number_of_place-requires
+number_of_place-requires c =
+    let models = c.args.models.now in
+    let many = as_many models c.models.inside.gathering.now c.models.inside.list.items c.models.invariant c.models.view_is in
+    let few = as_few models c.models.inside.gathering.now c.models.inside.list.items c.models.invariant c.models.view_is in
+    omega (arith, many, few, c.loop-place-test.true, ap length c.deref-model-items.ensures.value)
+
+pub add_nodes-requires : goal.add_nodes-requires
+add_nodes-requires c = omega (arith, c.len-in-loop-place.ensures ∙ c.model-item.result.members.ok.0, c.model-item.result.small)
 
 pub add_reads-requires-clause-steps : goal.add_reads-requires-clause-steps
 add_reads-requires-clause-steps c =

@@ -1,6 +1,7 @@
-use Rattle.std.proofs.Common.{None, refl, sym, subst, arith}
+use Rattle.std.proofs.Common.{None, List, length, refl, sym, ap, subst, arith}
 use Rattle.std.proofs.lemmas.Result.{IfErr-weaker, on_ok_weaker}
 use Rattle.ob_definition.specs.EntryFaults.{IsGatheringFault}
+use Rattle.ob_definition.specs.Gathered.{Gathered}
 use Rattle.ob_schema.specs.Resolving.{AreFew}
 use Rattle.ob_schema.proofs.AllVerdict.{verdict}
 use Rattle.ob_schema.proofs.Entered.{fault_within}
@@ -11,7 +12,7 @@ use Rattle.ob_schema.proofs.schema.Schema.build.Goals as goal
 
 pub registry_of-requires : goal.registry_of-requires
 registry_of-requires c = record {
-  few = omega (arith, c.in_ok-gathering.ensures.few, c.if-defs-gt-MAX_NUMBERS.false);
+  few = let all = ap (λ (l : List Gathered). length l) c.models.ensures in omega arith;
   named = c.in_ok-gathering.ensures.named;
   limits = λ none. subst AreFew (sym c.in_ok-gathering.ensures.models)
       (few_models c.args.defs.now (none_found (IsGatheringFault c.args.defs.now) c.new-first.result c.gather.new.first c.in_ok-gathering.ensures.faults none));
