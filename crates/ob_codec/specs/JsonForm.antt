@@ -15,7 +15,7 @@ use Rattle.ob_codec.specs.declared.input.Input.{Input}
 use Rattle.ob_codec.specs.declared.input.Input.TheVariants as input
 use Rattle.ob_dates.specs.Texts.{day_from, moment_from}
 use Rattle.ob_definition.specs.Types.{is_list}
-use Rattle.ob_definition.specs.Values.{keys_of}
+use Rattle.ob_definition.specs.Values.{initial_value, keys_of}
 use Rattle.ob_definition.specs.declared.field_type.Choice.{Choice}
 use Rattle.ob_definition.specs.declared.field_type.FieldType.{FieldType}
 use Rattle.ob_definition.specs.declared.field_type.FieldType.TheVariants as type
@@ -67,10 +67,10 @@ unfoldable pub true_value : FieldType → Result Value CodecFault
 true_value type.Boolean = Ok (value.Bool true)
 true_value _ = Err (fault.Shape [])
 
--- the value that JSON gives a field of this type that is no list
+-- the value that JSON gives a field of this type that is no list; `false` and `null` give what the field has without a value of its own
 unfoldable pub value_from : FieldType → List Choice → Data → Result Value CodecFault
-value_from t choices null = Ok (empty_value t)
-value_from t choices (boolean b) = if b then true_value t else Ok (empty_value t)
+value_from t choices null = Ok (initial_value t)
+value_from t choices (boolean b) = if b then true_value t else Ok (initial_value t)
 value_from t choices (number n) = number_value t n
 value_from t choices (string text) = text_value t choices text
 value_from t choices _ = Err (fault.Shape [])

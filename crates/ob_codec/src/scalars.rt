@@ -6,9 +6,9 @@ ghost use Rattle.std.specs.List.{list_any};
 ghost use Rattle.std.specs.Str.{bytes_eq};
 ghost use Rattle.serde_json.specs.View.{view, number_view};
 ghost use Rattle.ob_definition.specs.Types.{is_list};
-ghost use Rattle.ob_definition.specs.Values.{IsKey, IsText, IsValueOf, keys_of};
+ghost use Rattle.ob_definition.specs.Values.{IsKey, IsText, IsValueOf, initial_value, keys_of};
 ghost use Rattle.ob_definition.specs.declared.field_type.Choice.{Choice};
-ghost use Rattle.ob_codec.specs.JsonForm.{empty_value, integer_of, key_of, number_value, spelled};
+ghost use Rattle.ob_codec.specs.JsonForm.{integer_of, key_of, number_value, spelled};
 ghost use Rattle.ob_codec.specs.JsonForm.{text_of, text_value, true_value, value_from};
 ghost use Rattle.ob_codec.specs.Steps.{IsCodecResult};
 
@@ -37,7 +37,7 @@ pub(crate) fn value_of(
     ensures holds { IfOk result (IsValueOf field_type choices.now) }
 {
     match json {
-        Json::Null | Json::Bool(false) => Ok(empty_value(field_type)),
+        Json::Null | Json::Bool(false) => Ok(initial_value(field_type)),
         Json::Bool(true) => true_value(alloc, field_type),
         Json::Number(number) => number_value(alloc, field_type, number),
         Json::String(text) => text_value(alloc, field_type, choices, text.as_str()),
@@ -46,8 +46,9 @@ pub(crate) fn value_of(
 }
 
 /// What `false` and `null` stand for.
-fn empty_value(field_type: FieldType) -> Value
-    ensures { result ≡ empty_value field_type }
+fn initial_value(field_type: FieldType) -> Value
+    requires { is_list field_type ≡ false }
+    ensures { result ≡ initial_value field_type }
 {
     match field_type {
         FieldType::Boolean => Value::Bool(false),

@@ -1,11 +1,12 @@
 -- What operands stand for, by the type of the field.
-use Rattle.std.specs.Prelude.{ℕ, ◌&&◌, List, [], ◌∷◌, codes, ℤ, pos, ◌+ℤ◌, ◌*ℤ◌, Bool, true, false, Option, option_map, is_some, ok_or, Result, Ok, Err, if◌then◌else◌}
+use Rattle.std.specs.Prelude.{ℕ, ◌&&◌, ◌||◌, List, [], ◌∷◌, codes, ℤ, pos, ◌+ℤ◌, ◌*ℤ◌, Bool, true, false, Option, option_map, is_some, ok_or, Result, Ok, Err, if◌then◌else◌}
 use Rattle.std.specs.Str.{bytes_eq}
 use Rattle.ob_base.specs.Chain.{◌>>=◌}
 use Rattle.ob_base.specs.declared.value.Value.{Value}
 use Rattle.ob_base.specs.declared.value.Value.TheVariants as value
 use Rattle.ob_dates.specs.Texts.{day_from, moment_from}
-use Rattle.ob_definition.specs.Types.{is_relation}
+use Rattle.ob_definition.specs.Types.{is_list, is_relation}
+use Rattle.ob_definition.specs.Values.{initial_value}
 use Rattle.ob_definition.specs.declared.field_type.FieldType.{FieldType}
 use Rattle.ob_definition.specs.declared.field_type.FieldType.TheVariants as type
 use Rattle.ob_domain.specs.declared.fault.Unfit.{Unfit}
@@ -42,15 +43,9 @@ abbrev pub is_user : Data → Bool
 is_user (object (member key (string text) no_members)) = bytes_eq key (codes "user") && bytes_eq text (codes "id")
 is_user _ = false
 
--- what `false` and `null` stand for: false of a boolean, 0 of an integer, else unset
-abbrev pub unset_from : FieldType → Value
-unset_from type.Boolean = value.Bool false
-unset_from type.Integer = value.Int (pos 0)
-unset_from _ = value.Nil
-
--- an id is no integer there: it may be unset, and no row's is
+-- what `false` and `null` stand for: what the field has without a value of its own; of a list they are unset, and so is an id, which no row's is
 abbrev pub unset_value : FieldInfo → Value
-unset_value field = if is_id_from field.origin then value.Nil else unset_from field.field_type
+unset_value field = if is_id_from field.origin || is_list field.field_type then value.Nil else initial_value field.field_type
 
 -- an integer of 64 bits
 abbrev pub integer_from : Num → Result Value Unfit
