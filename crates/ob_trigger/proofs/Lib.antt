@@ -1,0 +1,13 @@
+pub mod Known
+pub mod Lists
+pub mod RowsThere
+pub mod Asking
+pub mod Marking
+pub mod Searching
+pub mod Reading
+pub mod Agreeing
+pub mod IdFields
+pub mod RowsBefore
+pub mod RowCells
+pub mod Closing
+pub mod Indexing
