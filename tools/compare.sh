@@ -2,8 +2,9 @@
 # Compares the programs with an independent machine of the same rules:
 #
 #   tools/compare.sh requests [SEEDS [COUNT]]   random streams of requests to stockd, so many in
-#       each (by default 1-8 and 60), on the models of its own module demo, which modules/demo.toml
-#       has too. Prints how many streams differ, for each kind of stream.
+#       each (by default 1-8 and 60), on the models of a module demo: the machine's own, without
+#       relations, and modules/demo.toml (tools/compare_requests.py says which are taken). Prints
+#       how many streams differ, for each kind of stream.
 #   tools/compare.sh modules [SEEDS]            random module texts to stockd (by default 1-200),
 #       most with something wrong in them. Prints each text that differs, how often each fault
 #       came, and how many texts differ. Two differences are known: a model without `name` and
@@ -41,9 +42,7 @@ requests)
     status=0
     for profile in mixed hostile; do
         echo "$profile: seeds $seeds, $count requests each"
-        # The machine gives the program its words, `call` with `--modules` and `--load`.
-        python3 "$oracle/compare.py" --stage 3 --mask --seeds "$seeds" --count "$count" \
-            --profile "$profile" --jobs 2 -- "$program" || status=1
+        python3 tools/compare_requests.py "$oracle" "$program" "$seeds" "$count" "$profile" || status=1
     done
     exit $status
     ;;

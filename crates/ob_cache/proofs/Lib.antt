@@ -46,4 +46,7 @@ pub mod Gathering
 pub mod KeptValues
 pub mod PutForms
 pub mod KeptAfter
+-- Calls.
+pub mod Refusing
+pub mod Asking
 pub mod CallerLemmas

@@ -12,6 +12,7 @@ use Rattle.ob_schema.specs.Facts.{Asked, nothing, one_more}
 pub stays-itself : (kept : Option Store) (held : Holding) → Stays kept held kept held
 stays-itself kept held = record { kept = refl; models = refl; phase_is = refl; next_ids = λ bound low up. up; stands = λ at is. is; only = λ at is. is }
 
+-- one question behind another
 pub stays-then : (a b c : Option Store) (x y z : Holding) → Stays a x b y → Stays b y c z → Stays a x c z
 stays-then a b c x y z first second = record {
   kept = second.kept ∙ first.kept;

@@ -4,6 +4,7 @@ pub mod Opening
 pub mod Stages
 pub mod Standing
 pub mod Telling
+pub mod Calls
 -- How stages are stored.
 pub mod Coding
 -- Private: the words by which the rooms of the crate are joined.

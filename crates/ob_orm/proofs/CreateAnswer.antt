@@ -1,11 +1,12 @@
 -- What a create answers over an engine, from what its steps say.
 use Rattle.std.proofs.Common.{◌≡◌, ℕ, ℤ, ◌<◌, ◌≤◌, ◌⊎◌, ◌∷◌, [], List, Option, Some, None, Result, Ok, Err, inl, inr, refl, sym, ap, subst, ◌∙◌, arith, w64}
 use Rattle.std.specs.Int.{cast_signed, cast_unsigned}
-use Rattle.std.specs.Prelude.{FitsSigned, IfOk, IfSome, IsSome, IsSomeAnd, MatchResult, is_some, true, ⊤}
+use Rattle.std.specs.Prelude.{FitsSigned, IfErr, IfOk, IfSome, IsSome, IsSomeAnd, MatchResult, is_some, true, ⊤}
 use Rattle.std.proofs.lemmas.Bool.{false≢true}
 use Rattle.std.proofs.lemmas.Int.{ints, to_z-of_z}
 use Rattle.serde_json.specs.Data.{Data, number, unsigned}
 use Rattle.serde_json.specs.View.{view}
+use Rattle.serde_json.specs.declared.value.Value.{Value as Json}
 use Rattle.ob_base.specs.Chain.{◌>>=◌}
 use Rattle.ob_base.specs.Limits.{max_id}
 use Rattle.ob_base.specs.Times.{IsMoment}
@@ -14,8 +15,13 @@ use Rattle.ob_base.specs.declared.place.PathStep.{PathStep}
 use Rattle.ob_base.specs.declared.refusal.BrokenKind.TheVariants as broken
 use Rattle.ob_base.specs.declared.refusal.Refusal.{Refusal}
 use Rattle.ob_base.specs.declared.refusal.Refusal.TheVariants as refusal
+use Rattle.ob_cache.proofs.CallerLemmas.{Refuses-weaker}
+use Rattle.ob_cache.specs.Calls.{AnswersBy, IsCalled, KeeperRose, Refuses, Standpoint, settled_over}
 use Rattle.ob_cache.specs.Stages.{StandsOver, resting, settled_of, with_edits}
-use Rattle.ob_cache.specs.Standing.{Holding, OfStages, RestsAt, Stands, Stays}
+use Rattle.ob_cache.specs.Standing.{Holding, NextIdsUpTo, OfStages, RestsAt, Stands, Stays, max_next_id}
+use Rattle.ob_cache.specs.declared.stages.Phase.TheVariants as phase
+use Rattle.ob_call.proofs.CallerLemmas.{at_info}
+use Rattle.ob_call.specs.Called.{called_by, result_view}
 use Rattle.ob_call.specs.Arguments as arguments
 use Rattle.ob_call.specs.Arguments.{arguments_of}
 use Rattle.ob_call.specs.ArgumentsSteps.{all_given_of}
@@ -33,11 +39,10 @@ use Rattle.ob_schema.specs.declared.info.ModelInfo.{ModelInfo}
 use Rattle.ob_tables.proofs.CallerLemmas.{row-made}
 use Rattle.ob_tables.specs.After.{after}
 use Rattle.ob_tables.specs.declared.edit.Edit.TheVariants as edit
-use Rattle.ob_orm.specs.Answer.{Called, CreateAnswers, CreateCause, Refuses, called_by, settled_over}
-use Rattle.ob_orm.specs.Create.{Creates, create_expects, created_row, made, row_from}
-use Rattle.ob_orm.specs.CreateSteps.{IsBrokenBy}
+use Rattle.ob_orm.specs.Create.{CreateCause, Creates, create_expects, created_row, made, row_from}
+use Rattle.ob_orm.specs.CreateSteps.{CreateAnswers, IsBrokenBy}
+use Rattle.ob_orm.proofs.CreateFields.{told}
 use Rattle.ob_orm.proofs.CreateNewRow.{Values}
-use Rattle.ob_orm.proofs.Expected.{at_info}
 
 -- what is known of an answer, where it was handed on
 pub handed_on : {X E : Type 0} (F : Type 0) (r : Result X E) (x : X) (P : X → Type 0) → MatchResult r (λ y. ◌≡◌ {A = Result X F} (Ok x) (Ok y)) (λ _. ⊥) → IfOk r P → P x
@@ -54,17 +59,6 @@ known_of : (o : Option ModelInfo) (P Q : ModelInfo → Type 0) → ((info : Mode
 known_of None P Q step h = tt
 known_of (Some info) P Q step h = step info h
 
--- a refusal with one cause has each weaker one
-Refuses-weaker : (rose rose' : Type 0) (P Q : Refusal → Type 0) (why : Refusal) → (rose → rose') → ((w : Refusal) → P w → Q w) → Refuses rose P why → Refuses rose' Q why
-Refuses-weaker rose rose' P Q (refusal.Request place) more then h = then (refusal.Request place) h
-Refuses-weaker rose rose' P Q (refusal.Right m op) more then h = then (refusal.Right m op) h
-Refuses-weaker rose rose' P Q (refusal.FieldRight m field) more then h = then (refusal.FieldRight m field) h
-Refuses-weaker rose rose' P Q (refusal.Missing m id) more then h = then (refusal.Missing m id) h
-Refuses-weaker rose rose' P Q (refusal.Rule m op id name) more then h = then (refusal.Rule m op id name) h
-Refuses-weaker rose rose' P Q (refusal.Constraint b) more then h = then (refusal.Constraint b) h
-Refuses-weaker rose rose' P Q refusal.Keeper more then h = more h
-Refuses-weaker rose rose' P Q refusal.NoMemory more then h = tt
-
 -- a count that rose from a later one rose
 pub rose_from : (before mid now : ℕ) → before ≤ mid → Rose mid now → Rose before now
 rose_from before mid now low (inl more) = inl (omega arith)
@@ -78,7 +72,7 @@ moment_passed now moment = let fits : FitsSigned w64 now = (let low = moment.low
 
 -- the row of a call, or what is wrong with it
 abbrev pub row_by : Call → ModelInfo → Result Values (List PathStep)
-row_by call info = created_row info call.now (view call.args.now) (view call.kw.now)
+row_by call info = created_row (called_by call info)
 
 -- what the arguments are over the fields of the model
 abbrev pub CreateGives : List ModelInfo → Call → List (Option Given) → Type 0
@@ -128,24 +122,18 @@ row_cause models call rose _ there wrong = absurd (nowhere (model_at models call
 
 -- the machine's answer over an engine that rested
 abbrev pub Answered : (before : Option Store) (old : Holding) (now : Option Store) (new : Holding) → Call → Type 0 → Result Data Refusal → Type 0
-Answered before old now new call rose r = (tables : Tables) → RestsAt before old tables → IfSome (model_at old.models call.model) (λ info. CreateAnswers now new tables (called_by call info) rose r)
+Answered before old now new call rose r = (tables : Tables) → RestsAt before old tables → IfSome (model_at old.models call.model) (λ info. CreateAnswers old.models now new tables (called_by call info) rose r)
 
 -- which rests still
 pub row_answer : (kept : Option Store) (held : Holding) (call : Call) (rose : Type 0) (why : Refusal) → HasModel held.models call.model → GivesRow held.models call (Err why) → Answered kept held kept held call rose (Err why)
 row_answer kept held call rose (refusal.Request place) there wrong = λ tables rests.
-    known_of (model_at held.models call.model) (λ info. row_by call info ≡ Err place) (λ info. CreateAnswers kept held tables (called_by call info) rose (Err (refusal.Request place))) (λ info is. ((is, refl), rests)) wrong
-row_answer kept held call rose refusal.NoMemory there wrong = λ tables rests. everywhere (model_at held.models call.model) (λ info. CreateAnswers kept held tables (called_by call info) rose (Err refusal.NoMemory)) (λ info. (tt, rests))
+    known_of (model_at held.models call.model) (λ info. row_by call info ≡ Err place) (λ info. CreateAnswers held.models kept held tables (called_by call info) rose (Err (refusal.Request place))) (λ info is. ((is, refl), rests)) wrong
+row_answer kept held call rose refusal.NoMemory there wrong = λ tables rests. everywhere (model_at held.models call.model) (λ info. CreateAnswers held.models kept held tables (called_by call info) rose (Err refusal.NoMemory)) (λ info. (tt, rests))
 row_answer kept held call rose _ there wrong = absurd (nowhere (model_at held.models call.model) there wrong)
-
--- what is refused of the machine is refused over the engine
-answers_over : (models : List ModelInfo) (kept : Option Store) (held : Holding) (tables : Tables) (c : Called) (rose : Type 0) (why : Refusal) → held.models ≡ models
-    → Refuses rose (λ cause. Creates models c.model c.info c.now tables c.args c.kw (Err cause) tables) why → RestsAt kept held tables → CreateAnswers kept held tables c rose (Err why)
-answers_over models kept held tables c rose why same h rests =
-    (subst (λ (ms : List ModelInfo). Refuses rose (λ cause. Creates ms c.model c.info c.now tables c.args c.kw (Err cause) tables) why) (sym same) h, rests)
 
 -- what the tables with the row break refuses the create
 broken_refuses : (models : List ModelInfo) (call : Call) (info : ModelInfo) (tables : Tables) (values : Values) (id : ℕ) → id ≡ next_of tables call.model → row_by call info ≡ Ok values → (w : Refusal)
-    → IsBrokenBy models (after models tables (edit.Make call.model (record { 0 = id }) values ∷ [])) w → Creates models call.model info call.now tables (view call.args.now) (view call.kw.now) (Err w) tables
+    → IsBrokenBy models (after models tables (edit.Make call.model (record { 0 = id }) values ∷ [])) w → Creates models (called_by call info) tables (Err w) tables
 broken_refuses models call info tables values id is row (refusal.Constraint b) h =
     ((values, row, subst (λ (n : ℕ). IsBroken models (after models tables (edit.Make call.model (record { 0 = n }) values ∷ [])) b) is h), refl)
 broken_refuses models call info tables values id is row _ h = absurd h
@@ -177,16 +165,17 @@ module _ (before mid : Option Store) (old held : Holding) (call : Call) (stays :
   -- one past its limit
   pub past_answer : (rose : Type 0) (why : Refusal) (id : ℕ) (values : Values) → TellsNext id → GivesRow old.models call (Ok values) → max_id < id → IsPast old.models call id why → Answered before old mid held call rose (Err why)
   past_answer rose why id values next row past (field, is_id, is) tables rests = by (model_at old.models call.model) refl row where
-    by : (o : Option ModelInfo) → model_at old.models call.model ≡ o → IfSome o (λ info. row_by call info ≡ Ok values) → IfSome o (λ info. CreateAnswers mid held tables (called_by call info) rose (Err why))
+    by : (o : Option ModelInfo) → model_at old.models call.model ≡ o → IfSome o (λ info. row_by call info ≡ Ok values) → IfSome o (λ info. CreateAnswers old.models mid held tables (called_by call info) rose (Err why))
     by None at row = tt
     by (Some info) at row =
         let id_is : id ≡ next_of tables call.model = next (resting old.models tables) rests in
         let there : IsSome (row_at (after old.models tables (edit.Make call.model (record { 0 = id }) values ∷ [])) call.model (record { 0 = id })) =
-        ap is_some (row-made old.models tables call.model (record { 0 = id }) values info at) in
-        answers_over old.models mid held tables (called_by call info) rose why stays.models
-        (subst (λ (w : Refusal). Refuses rose (λ cause. Creates old.models call.model info call.now tables (view call.args.now) (view call.kw.now) (Err cause) tables) w) (sym is)
-        (broken_refuses old.models call info tables values id id_is row (refusal.Constraint (record { kind = broken.Limit; cell = record { model = call.model; id = record { 0 = id }; field = field } }))
-        (inl (there, tell_and (field_at old.models call.model field) is_id past)))) (rests_on tables rests)
+        ap is_some (row-made old.models tables call.model (record { 0 = id }) values info at) in (
+          subst (λ (w : Refusal). Refuses rose (λ cause. Creates old.models (called_by call info) tables (Err cause) tables) w) (sym is)
+              (broken_refuses old.models call info tables values id id_is row (refusal.Constraint (record { kind = broken.Limit; cell = record { model = call.model; id = record { 0 = id }; field = field } }))
+              (inl (there, tell_and (field_at old.models call.model field) is_id past))),
+          rests_on tables rests,
+        )
 
   module _ (now : Option Store) (new : Holding) (same : new.models ≡ held.models) (id : ℕ) (values : Values) (next : TellsNext id) (row : GivesRow old.models call (Ok values)) where
     -- a row that isn't settled
@@ -195,11 +184,13 @@ module _ (before mid : Option Store) (old held : Holding) (call : Call) (stays :
     unmade_answer rose more why weaker refused tables rests =
         let id_is : id ≡ next_of tables call.model = next (resting old.models tables) rests in
         let own = refused tables (rests_on tables rests) in
-        known_of (model_at old.models call.model) (λ info. row_by call info ≡ Ok values) (λ info. CreateAnswers now new tables (called_by call info) more (Err why))
-        (λ info given. answers_over held.models now new tables (called_by call info) more why same
-        (Refuses-weaker rose more (IsBrokenBy held.models (after held.models tables (edit.Make call.model (record { 0 = id }) values ∷ [])))
-        (λ cause. Creates held.models call.model info call.now tables (view call.args.now) (view call.kw.now) (Err cause) tables) why weaker
-        (broken_refuses held.models call info tables values id id_is given) own.1) own.0) row
+        known_of (model_at old.models call.model) (λ info. row_by call info ≡ Ok values) (λ info. CreateAnswers old.models now new tables (called_by call info) more (Err why))
+        (λ info given. (
+          Refuses-weaker rose more (IsBrokenBy held.models (after held.models tables (edit.Make call.model (record { 0 = id }) values ∷ [])))
+              (λ cause. Creates old.models (called_by call info) tables (Err cause) tables) why weaker
+              (λ w broken. subst (λ (ms : List ModelInfo). Creates ms (called_by call info) tables (Err w) tables) stays.models (broken_refuses held.models call info tables values id id_is given w broken)) own.1,
+          own.0,
+        )) row
 
     -- and one that is
     pub made_answer : (rose : Type 0) (json : Data) → json ≡ number (unsigned id) → ((tables : Tables) → RestsAt mid held tables
@@ -210,9 +201,53 @@ module _ (before mid : Option Store) (old held : Holding) (call : Call) (stays :
         subst (λ (n : ℕ). Stands now new (settled_over held.models tables (after held.models tables (edit.Make call.model (record { 0 = n }) values ∷ [])))) id_is (settled tables (rests_on tables rests)) in
         let here : Stands now new (settled_over new.models tables (made new.models call.model tables values)) =
         subst (λ (ms : List ModelInfo). Stands now new (settled_over ms tables (made ms call.model tables values))) (sym same) own in
-        known_of (model_at old.models call.model) (λ info. row_by call info ≡ Ok values) (λ info. CreateAnswers now new tables (called_by call info) rose (Ok json))
+        let alike : new.models ≡ old.models = same ∙ stays.models in
+        known_of (model_at old.models call.model) (λ info. row_by call info ≡ Ok values) (λ info. CreateAnswers old.models now new tables (called_by call info) rose (Ok json))
         (λ info given. (
           made new.models call.model tables values,
-          record { values = values; given = given; tables = refl; sound = sound_in new.models tables (made new.models call.model tables values) now here.over; answer = is ∙ ap (λ (n : ℕ). number (unsigned n)) id_is },
+          subst (λ (ms : List ModelInfo). Creates ms (called_by call info) tables (Ok json) (made new.models call.model tables values)) alike
+              (record { values = values; given = given; tables = refl; sound = sound_in new.models tables (made new.models call.model tables values) now here.over; answer = is ∙ ap (λ (n : ℕ). number (unsigned n)) id_is }),
           here,
         )) row
+
+-- ---- the call as a whole
+
+-- the answer of the machine, by the relation that it is
+answers_by : (models : List ModelInfo) (call : Call) (info : ModelInfo) (before after : Standpoint) (tables : Tables) (r : Result Data Refusal)
+    → CreateAnswers models after.kept after.held tables (called_by call info) (KeeperRose before after) r → AnswersBy (Creates models (called_by call info)) before after tables r
+answers_by models call info before after tables (Ok json) answers = answers
+answers_by models call info before after tables (Err why) answers = answers
+
+-- a cause of each model is one of this
+cause_of : (o : Option ModelInfo) (info : ModelInfo) (rose : Type 0) (P : ModelInfo → Refusal → Type 0) (r : Result Json Refusal) → o ≡ Some info
+    → IfErr r (Refuses rose (λ why. IfSome o (λ own. P own why))) → IfErr (result_view r) (Refuses rose (P info))
+cause_of o info rose P (Ok json) is causes = tt
+cause_of o info rose P (Err why) is causes = Refuses-weaker rose rose (λ w. IfSome o (λ own. P own w)) (P info) why (λ risen. risen) (λ w known. told o info (λ own. P own w) is known) causes
+
+-- what a create says, clause by clause
+pub record MadeBy (before after : Standpoint) (call : Call) (r : Result Json Refusal) : Type 0 where
+  pub answer : Answered before.kept before.held after.kept after.held call (KeeperRose before after) (result_view r)
+  pub causes : IfErr r (Refuses (KeeperRose before after) (λ why. IfSome (model_at before.held.models call.model) (λ info. CreateCause before.held.models (called_by call info) why)))
+  pub models : after.held.models ≡ before.held.models
+  pub phase_is : after.held.phase ≡ phase.Settled
+  pub next_ids : NextIdsUpTo max_next_id after.held
+  pub same : after.kept ≡ before.kept
+  pub count : before.faults ≤ after.faults
+
+-- is a call by the machine's relation
+pub made_call : (before after : Standpoint) (call : Call) (r : Result Json Refusal) → MadeBy before after call r
+    → IfSome (model_at before.held.models call.model) (λ info. IsCalled (Creates before.held.models (called_by call info)) before after (CreateCause before.held.models (called_by call info)) (result_view r))
+made_call before after call r says = by (model_at before.held.models call.model) refl where
+  models : List ModelInfo
+  models = before.held.models
+
+  by : (o : Option ModelInfo) → model_at models call.model ≡ o → IfSome o (λ info. IsCalled (Creates models (called_by call info)) before after (CreateCause models (called_by call info)) (result_view r))
+  by None at = tt
+  by (Some info) at = record {
+    answer = λ tables rests. answers_by models call info before after tables (result_view r)
+        (told (model_at models call.model) info (λ own. CreateAnswers models after.kept after.held tables (called_by call own) (KeeperRose before after) (result_view r)) at (says.answer tables rests));
+    causes = cause_of (model_at models call.model) info (KeeperRose before after) (λ own. CreateCause models (called_by call own)) r at says.causes;
+    rests = record { models_are = says.models; phase_is = says.phase_is; next_ids = says.next_ids };
+    same = says.same;
+    count = says.count;
+  }

@@ -7,7 +7,8 @@ use Rattle.ob_schema.specs.Built.{numbered}
 use Rattle.ob_schema.specs.Models.{HasField, field_at, fields_of, model_at}
 use Rattle.ob_schema.specs.declared.info.FieldInfo.{FieldInfo}
 use Rattle.ob_schema.specs.declared.info.ModelInfo.{ModelInfo}
-use Rattle.ob_orm.proofs.OwnFields.{slice_get-before, there_at}
+use Rattle.ob_call.proofs.CallerLemmas.{slice_get-before}
+use Rattle.ob_orm.proofs.OwnFields.{there_at}
 
 -- ---- what is known where there is something
 

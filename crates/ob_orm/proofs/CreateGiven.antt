@@ -1,37 +1,35 @@
 -- What the JSON of one value gives a field of a new row.
-use Rattle.std.proofs.Common.{arith, true≢false, ◌≡◌, ◌≢◌, ℕ, ℤ, ◌++◌, ◌∷◌, [], Bool, false, cond, List, Option, Some, None, Result, Ok, Err, option_map, sym, ap, subst, ◌∙◌, Bor, string_bytes}
-use Rattle.std.specs.Prelude.{IfSome, unwrap_or}
+use Rattle.std.proofs.Common.{true, true≢false, ◌||◌, not, ◌≡◌, ◌≢◌, ℕ, ℤ, ◌++◌, ◌∷◌, [], Bool, false, cond, List, Option, Some, None, Result, Ok, Err, option_map, sym, ap, subst, ◌∙◌, Bor, string_bytes}
+use Rattle.std.proofs.lemmas.Bool.{and_parts, not-true, or_parts}
+use Rattle.std.specs.Prelude.{IfSome}
 use Rattle.std.specs.BTreeMap.{is_at}
 use Rattle.std.specs.Cmp.Lexicographic.{slice_cmp}
 use Rattle.std.specs.Map.{lookup}
 use Rattle.std.specs.Ordering.{nat_cmp}
-use Rattle.std.proofs.lemmas.Int.{ints}
 use Rattle.serde_json.specs.Data.{Data, Members}
 use Rattle.serde_json.specs.Find.{get_member}
 use Rattle.serde_json.specs.View.{view, members_view}
 use Rattle.serde_json.specs.declared.value.Value.{Value as Json}
 use Rattle.serde_json.proofs.Views.{Entry, view_of_ref, view-lookup}
+use Rattle.ob_base.specs.Chain.{◌>>=◌}
 use Rattle.ob_base.specs.declared.place.PathStep.{PathStep}
 use Rattle.ob_base.specs.declared.place.PathStep.TheVariants.{Key}
 use Rattle.ob_base.specs.declared.refusal.Refusal.{Refusal}
 use Rattle.ob_base.specs.declared.refusal.Refusal.TheVariants as refusal
 use Rattle.ob_base.specs.declared.value.Value.{Value}
 use Rattle.ob_base.specs.declared.value.Value.TheVariants as value
-use Rattle.ob_codec.specs.JsonForm.{IsInput, IsInputFault, empty_value, value_from}
+use Rattle.ob_codec.specs.JsonForm.{IsInput, IsInputFault, value_from}
 use Rattle.ob_codec.specs.declared.input.Command.{Command}
 use Rattle.ob_codec.specs.declared.input.Input.{Input}
 use Rattle.ob_codec.specs.declared.input.Input.TheVariants as input
 use Rattle.ob_codec.specs.declared.fault.CodecFault.{CodecFault}
 use Rattle.ob_codec.specs.declared.fault.CodecFault.TheVariants as codec
-use Rattle.ob_schema.specs.Fields.{Holds}
+use Rattle.ob_schema.specs.Fields.{Holds, is_plain_kept}
 use Rattle.ob_definition.specs.Types.{is_list}
-use Rattle.ob_definition.specs.Values.{IsValueOf}
-use Rattle.ob_definition.specs.declared.field_type.Choice.{Choice}
-use Rattle.ob_definition.specs.declared.field_type.FieldType.{FieldType}
-use Rattle.ob_definition.specs.declared.field_type.FieldType.TheVariants as type
 use Rattle.ob_schema.specs.declared.info.FieldInfo.{FieldInfo}
-use Rattle.ob_orm.specs.Create.{given_value, is_stamp, new_value, placed}
-use Rattle.ob_orm.specs.CreateSteps.{IsFaultAt, IsGivable}
+use Rattle.ob_orm.specs.Create.{given_of, given_value, is_stamp, new_value, placed}
+use Rattle.ob_orm.specs.Values.{is_free}
+use Rattle.ob_orm.specs.CreateSteps.{IsFaultAt, IsMakeable}
 use Rattle.ob_call.specs.Places.{IsMalformedAt}
 use Rattle.ob_call.specs.Results.{IsResultOf}
 use Rattle.ob_orm.proofs.CreateFields.{told, tell}
@@ -105,53 +103,59 @@ FoundAt name es r = option_map (λ x. x.now) r ≡ lookup (is_at (λ k. slice_cm
 found : (name : List ℕ) (es : List Entry) (r : Option (Bor Json)) → FoundAt name es r → option_map (λ x. view x.now) r ≡ get_member name (members_view es)
 found name es r e = view_of_ref r ∙ ap (option_map view) e ∙ view-lookup name es
 
--- the value of a field that is no stamp
-no_stamp : (now : ℤ) (place : List PathStep) (ms : Members) (f : FieldInfo) → is_stamp f.name ≡ false → new_value now place ms f ≡ given_value (place ++ Key f.name ∷ []) f (get_member f.name ms)
-no_stamp now place ms f is = ap (λ (b : Bool). cond b (Ok (value.Moment now)) (given_value (place ++ Key f.name ∷ []) f (get_member f.name ms))) is
+-- what the members give a free field is what a look-up by its name found
+pub given_free : (f : FieldInfo) (name : List ℕ) (es : List Entry) (r : Option (Bor Json)) → name ≡ f.name → is_free f ≡ true → FoundAt name es r → option_map (λ x. view x.now) r ≡ given_of (members_view es) f
+given_free f name es r same free at =
+    found name es r at ∙ ap (λ (n : List ℕ). get_member n (members_view es)) same ∙ sym (ap (λ (b : Bool). cond b (get_member f.name (members_view es)) None) free)
 
--- what a look-up by its name found
-member_of : (f : FieldInfo) (name : List ℕ) (es : List Entry) (r : Option (Bor Json)) → name ≡ f.name → FoundAt name es r → get_member f.name (members_view es) ≡ option_map (λ x. view x.now) r
-member_of f name es r same at = sym (found name es r at ∙ ap (λ (n : List ℕ). get_member n (members_view es)) same)
+-- and another one nothing
+pub given_nothing : (f : FieldInfo) (es : List Entry) → is_free f ≡ false → None ≡ given_of (members_view es) f
+given_nothing f es free = sym (ap (λ (b : Bool). cond b (get_member f.name (members_view es)) None) free)
+
+-- a free field is no list, whatever it is given
+pub free_flat : (f : FieldInfo) (r : Option (Bor Json)) → is_free f ≡ true → IfSome r (λ _. is_list f.field_type ≡ false)
+free_flat f None free = tt
+free_flat f (Some x) free =
+    let (plain, rest) = and_parts (is_plain_kept f) (not (is_list f.field_type || f.managed)) free in
+    (or_parts (is_list f.field_type) f.managed (not-true (is_list f.field_type || f.managed) rest)).0
+
+-- the value of a field that is no stamp
+no_stamp : (now : ℤ) (place : List PathStep) (ms : Members) (f : FieldInfo) → is_stamp f.name ≡ false → new_value now place ms f ≡ given_value (place ++ Key f.name ∷ []) f (given_of ms f)
+no_stamp now place ms f is = ap (λ (b : Bool). cond b (Ok (Some (value.Moment now))) (given_value (place ++ Key f.name ∷ []) f (given_of ms f))) is
+
+-- a value that was read is what the field gets
+abbrev pub some_of : Result Value Refusal → Result (Option Value) Refusal
+some_of (Ok v) = Ok (Some v)
+some_of (Err why) = Err why
+
+IsResultOf-some : (r : Result Value Refusal) (meant : Result Value (List PathStep)) → IsResultOf (λ w. w) r meant → IsResultOf (λ w. w) (some_of r) (meant >>= λ v. Ok (Some v))
+IsResultOf-some (Ok v) meant is = ap (λ (m : Result Value (List PathStep)). m >>= λ w. Ok (Some w)) is
+IsResultOf-some (Err (refusal.Request place)) meant is = ap (λ (m : Result Value (List PathStep)). m >>= λ w. Ok (Some w)) is
+IsResultOf-some (Err refusal.NoMemory) meant is = tt
+IsResultOf-some (Err _) meant is = absurd is
 
 -- as what the object gives it is read
-pub new_given : (o : Option FieldInfo) (f : FieldInfo) (now : ℤ) (place : List PathStep) (es : List Entry) (name : List ℕ) (x : Bor Json) (r : Result Value Refusal) → o ≡ Some f → name ≡ f.name
-    → is_stamp name ≡ false → FoundAt name es (Some x)
+pub new_given : (o : Option FieldInfo) (f : FieldInfo) (now : ℤ) (place : List PathStep) (ms : Members) (name : List ℕ) (x : Bor Json) (r : Result Value Refusal) → o ≡ Some f → name ≡ f.name
+    → is_stamp name ≡ false → Some (view x.now) ≡ given_of ms f
     → IfSome o (λ field. IsResultOf (λ w. w) r (placed (place ++ Key field.name ∷ []) (value_from field.field_type field.selection (view x.now))))
-    → IfSome o (λ field. IsResultOf (λ w. w) r (new_value now place (members_view es) field))
-new_given o f now place es name x r is same stamp at given =
-    let own = told o f (λ field. IsResultOf (λ w. w) r (placed (place ++ Key field.name ∷ []) (value_from field.field_type field.selection (view x.now)))) is given in
-    let meant : new_value now place (members_view es) f ≡ placed (place ++ Key f.name ∷ []) (value_from f.field_type f.selection (view x.now)) =
-    no_stamp now place (members_view es) f (ap is_stamp (sym same) ∙ stamp) ∙ ap (given_value (place ++ Key f.name ∷ []) f) (member_of f name es (Some x) same at) in
-    tell o f (λ field. IsResultOf (λ w. w) r (new_value now place (members_view es) field)) is (subst (λ (m : Result Value (List PathStep)). IsResultOf (λ w. w) r m) (sym meant) own)
+    → IfSome o (λ field. IsResultOf (λ w. w) (some_of r) (new_value now place ms field))
+new_given o f now place ms name x r is same stamp at given =
+    let read = placed (place ++ Key f.name ∷ []) (value_from f.field_type f.selection (view x.now)) in
+    let own : IsResultOf (λ w. w) r read = told o f (λ field. IsResultOf (λ w. w) r (placed (place ++ Key field.name ∷ []) (value_from field.field_type field.selection (view x.now)))) is given in
+    let meant : new_value now place ms f ≡ (read >>= λ v. Ok (Some v)) =
+    no_stamp now place ms f (ap is_stamp (sym same) ∙ stamp) ∙ ap (given_value (place ++ Key f.name ∷ []) f) (sym at) in
+    tell o f (λ field. IsResultOf (λ w. w) (some_of r) (new_value now place ms field)) is
+    (subst (λ (m : Result (Option Value) (List PathStep)). IsResultOf (λ w. w) (some_of r) m) (sym meant) (IsResultOf-some r read own))
 
 -- its default where the object gives it nothing
-pub new_default : (o : Option FieldInfo) (f : FieldInfo) (now : ℤ) (place : List PathStep) (es : List Entry) (name : List ℕ) (v : Value) → o ≡ Some f → name ≡ f.name → is_stamp name ≡ false → FoundAt name es None
-    → v ≡ unwrap_or f.default (empty_value f.field_type) → IfSome o (λ field. IsResultOf (λ w. w) (Ok v) (new_value now place (members_view es) field))
-new_default o f now place es name v is same stamp at default =
-    tell o f (λ field. new_value now place (members_view es) field ≡ Ok v) is
-    (no_stamp now place (members_view es) f (ap is_stamp (sym same) ∙ stamp) ∙ ap (given_value (place ++ Key f.name ∷ []) f) (member_of f name es None same at) ∙ ap Ok (sym default))
-
--- ---- defaults
-
--- what stands for nothing is a value of the type
-empty_holds : (t : FieldType) (choices : List Choice) → is_list t ≡ false → IsValueOf t choices (empty_value t)
-empty_holds type.Boolean choices e = tt
-empty_holds type.Integer choices e = grind (arith, ints)
-empty_holds type.Char choices e = tt
-empty_holds type.Text choices e = tt
-empty_holds type.Date choices e = tt
-empty_holds type.Datetime choices e = tt
-empty_holds type.Selection choices e = tt
-empty_holds type.Many2one choices e = tt
-empty_holds type.One2many choices e = absurd (true≢false e)
-empty_holds type.Many2many choices e = absurd (true≢false e)
-
-default_or_empty : (f : FieldInfo) (default : Option Value) → IfSome default (Holds f) → Holds f (empty_value f.field_type) → Holds f (unwrap_or default (empty_value f.field_type))
-default_or_empty f None fits empty = empty
-default_or_empty f (Some v) fits empty = fits
+pub new_default : (o : Option FieldInfo) (f : FieldInfo) (now : ℤ) (place : List PathStep) (ms : Members) (name : List ℕ) (own : Option Value) → o ≡ Some f → name ≡ f.name → is_stamp name ≡ false
+    → None ≡ given_of ms f → own ≡ f.default → IfSome o (λ field. IsResultOf (λ w. w) (Ok own) (new_value now place ms field))
+new_default o f now place ms name own is same stamp at default =
+    tell o f (λ field. new_value now place ms field ≡ Ok own) is
+    (no_stamp now place ms f (ap is_stamp (sym same) ∙ stamp) ∙ ap (given_value (place ++ Key f.name ∷ []) f) (sym at) ∙ ap Ok (sym default))
 
 -- a field may hold its default
-pub default_holds : (o : Option FieldInfo) (f : FieldInfo) (v : Value) → o ≡ Some f → IfSome o IsGivable → v ≡ unwrap_or f.default (empty_value f.field_type) → IfSome o (λ field. Holds field v)
-default_holds o f v is givable default =
-    let own = told o f IsGivable is givable in
-    tell o f (λ field. Holds field v) is (subst (Holds f) (sym default) (default_or_empty f f.default own.default (empty_holds f.field_type f.selection own.no_list)))
+pub default_holds : (o : Option FieldInfo) (f : FieldInfo) (own : Option Value) → o ≡ Some f → IfSome o IsMakeable → own ≡ f.default → IfSome o (λ field. IfSome own (Holds field))
+default_holds o f own is givable default =
+    let fits = told o f IsMakeable is givable in
+    tell o f (λ field. IfSome own (Holds field)) is (subst (λ (d : Option Value). IfSome d (Holds f)) (sym default) fits.default)

@@ -1,5 +1,5 @@
 -- The values of a new row, field by field.
-use Rattle.std.proofs.Common.{◌≡◌, ◌≢◌, ℕ, ℤ, suc, ◌+◌, ◌<◌, ◌≤◌, ◌||◌, Bool, true, false, cond, List, [], ◌∷◌, ◌++◌, length, get_or, map, filter, drop, codes, Option, Some, Result, Ok, Err}
+use Rattle.std.proofs.Common.{◌≡◌, ◌≢◌, ℕ, ℤ, suc, ◌+◌, ◌<◌, ◌≤◌, ◌||◌, Bool, true, false, cond, List, [], ◌∷◌, ◌++◌, length, get_or, map, filter, drop, codes, Option, None, Some, Result, Ok, Err}
 use Rattle.std.proofs.Common.{IsSomeAnd, append_assoc, append-nil, refl, sym, ap, subst, ◌∙◌, arith, inl, inr}
 use Rattle.std.specs.Prelude.{All, Any, Contains, IfSome, slice_get}
 use Rattle.std.specs.Cmp.Lexicographic.{slice_cmp}
@@ -7,7 +7,7 @@ use Rattle.std.specs.List.{AllPairs, enumerate_from}
 use Rattle.std.specs.Ordering.{nat_cmp}
 use Rattle.std.specs.Str.{bytes_eq}
 use Rattle.std.specs.declared.cmp.Ordering.TheVariants.{Less, Equal}
-use Rattle.std.proofs.lemmas.Bool.{cases_lt, false≢true}
+use Rattle.std.proofs.lemmas.Bool.{cases_lt}
 use Rattle.std.proofs.lemmas.Cmp.{nat_list_cmp_total, tied_itself}
 use Rattle.std.proofs.lemmas.List.{drop_all, drop_more, get_or-map, length-map}
 use Rattle.std.proofs.lemmas.List.Elements.{All-nil, All-push}
@@ -25,34 +25,18 @@ use Rattle.ob_base.specs.declared.value.Value.{Value}
 use Rattle.ob_call.specs.Results.{IsResultOf}
 use Rattle.ob_codec.proofs.CallerLemmas.{HasType-from_IsValueOf}
 use Rattle.ob_definition.specs.Members.{moment_def}
-use Rattle.ob_definition.specs.Types.{is_list, is_relation}
 use Rattle.ob_definition.specs.declared.definition.FieldDef.{FieldDef}
-use Rattle.ob_definition.specs.declared.field_type.FieldType.{FieldType}
 use Rattle.ob_definition.specs.declared.field_type.FieldType.TheVariants as type
+use Rattle.ob_call.proofs.CallerLemmas.{slice_get-before}
 use Rattle.ob_schema.specs.Built.{numbered}
 use Rattle.ob_schema.specs.Fields.{Column, Holds, is_plain_kept, plain_columns}
 use Rattle.ob_schema.specs.Models.{IsField, IsModel, field_at, fields_of, model_at}
 use Rattle.ob_schema.specs.declared.info.FieldInfo.{FieldInfo}
 use Rattle.ob_schema.specs.declared.info.ModelInfo.{ModelInfo}
 use Rattle.ob_tables.specs.Fitting.{AreFitIn, IsFitIn}
-use Rattle.ob_orm.specs.Create.{is_stamp, new_row, new_value}
-use Rattle.ob_orm.specs.CreateSteps.{IsGivable}
-use Rattle.ob_orm.specs.Served.{IsServed}
+use Rattle.ob_orm.specs.Create.{is_stamp, new_row, new_value, valued}
+use Rattle.ob_orm.specs.CreateSteps.{IsMakeable}
 use Rattle.ob_orm.proofs.CreateFields.{All-at, step_in, tell, told}
-use Rattle.ob_orm.proofs.OwnFields.{fields_valid}
-
--- what is no relation is no list
-no_list_from : (t : FieldType) → is_relation t ≡ false → is_list t ≡ false
-no_list_from type.Boolean e = refl
-no_list_from type.Integer e = refl
-no_list_from type.Char e = refl
-no_list_from type.Text e = refl
-no_list_from type.Date e = refl
-no_list_from type.Datetime e = refl
-no_list_from type.Selection e = refl
-no_list_from type.Many2one e = refl
-no_list_from type.One2many e = absurd (false≢true (sym e))
-no_list_from type.Many2many e = absurd (false≢true (sym e))
 
 -- ---- fields to which a create gives values
 
@@ -97,20 +81,19 @@ stamp_type models model info i f valid at stamp = by (bytes_eq f.name (codes "cr
   by true same e = named (codes "create_date") (valid.automatic 0 first (omega arith)) same
   by false same e = named (codes "write_date") (valid.automatic 2 first (omega arith)) e
 
--- each field of a served model is one
-pub IsGivable-at : (models : List ModelInfo) (model : ModelNo) (info : ModelInfo) (i : ℕ) (f : FieldInfo) → IsModel models model info → IsServed info → slice_get info.fields i ≡ Some f → IsGivable f
-IsGivable-at models model info i f valid served at = record {
-  no_list = no_list_from f.field_type (All-at (λ g. is_relation g.field_type ≡ false) info.fields i f at served.no_relation);
+-- so each field of a model is as a create relies on
+IsMakeable-at : (models : List ModelInfo) (model : ModelNo) (info : ModelInfo) (i : ℕ) (f : FieldInfo) → IsModel models model info → slice_get info.fields i ≡ Some f → IsMakeable f
+IsMakeable-at models model info i f valid at = record {
   stamp = stamp_type models model info i f valid at;
-  default = (All-at (IsField models model info) info.fields i f at (fields_valid models model info valid served)).default;
+  default = (All-at (IsField models model info) (fields_of info) i f (slice_get-before info.fields info.hidden i f at) valid.fields).default;
 }
 
--- a create may give a value to each field of a served model
+-- also by its number
 pub givable_at : (models : List ModelInfo) (model : ModelNo) (info : ModelInfo) (i : ℕ) → model_at models model ≡ Some info → i < length info.fields → IsModel models model info
-    → IfSome (model_at models model) IsServed → IfSome (field_at models model (record { 0 = i + 1 })) IsGivable
-givable_at models model info i is lt valid served =
+    → IfSome (field_at models model (record { 0 = i + 1 })) IsMakeable
+givable_at models model info i is lt valid =
     let there = step_in models model info i is lt in
-    tell (field_at models model (record { 0 = i + 1 })) there.f IsGivable there.at (IsGivable-at models model info i there.f valid (told (model_at models model) info IsServed is served) there.field_is)
+    tell (field_at models model (record { 0 = i + 1 })) there.f IsMakeable there.at (IsMakeable-at models model info i there.f valid there.field_is)
 
 -- ---- rows of given values
 
@@ -143,6 +126,11 @@ behind values r = r >>= λ rest. Ok (values ++ rest)
 behind_none : (r : Result Values (List PathStep)) → r ≡ behind [] r
 behind_none (Ok rest) = refl
 behind_none (Err why) = refl
+
+-- and nothing between them
+behind_same : (values : Values) (r : Result Values (List PathStep)) → behind values (r >>= λ rest. Ok rest) ≡ behind values r
+behind_same values (Ok rest) = refl
+behind_same values (Err why) = refl
 
 behind_more : (values : Values) (x : FieldNo × Value) (r : Result Values (List PathStep)) → behind values (r >>= λ rest. Ok (x ∷ rest)) ≡ behind (values ++ x ∷ []) r
 behind_more values x (Ok rest) = ap Ok (sym (append_assoc values (x ∷ []) rest))
@@ -183,14 +171,14 @@ module _ (now : ℤ) (place : List PathStep) (ms : Members) (info : ModelInfo) w
   }
 
   -- one more value
-  pub row_more : (i : ℕ) (f : FieldInfo) (values : Values) (v : Value) → slice_get info.fields i ≡ Some f → numbered (fields_of info) (i + 1) ≡ Some f → is_plain_kept f ≡ true → new_value now place ms f ≡ Ok v → Holds f v
+  pub row_more : (i : ℕ) (f : FieldInfo) (values : Values) (v : Value) → slice_get info.fields i ≡ Some f → numbered (fields_of info) (i + 1) ≡ Some f → is_plain_kept f ≡ true → new_value now place ms f ≡ Ok (Some v) → Holds f v
       → RowSoFar now place ms info i values → RowSoFar now place ms info (i + 1) (values ++ (record { 0 = i + 1 }, v) ∷ [])
   row_more i f values v at own plain is holds far =
       let number : FieldNo = record { 0 = i + 1 } in
       let rest = new_row now place ms (left info (i + 1)) in
       let number_is : suc i ≡ i + 1 = omega arith in
       let step : new_row now place ms ((suc i, f) ∷ left info (i + 1)) ≡ (rest >>= λ row. Ok ((number, v) ∷ row)) =
-      ap (λ (r : Result Value (List PathStep)). r >>= λ own. rest >>= λ row. Ok ((record { 0 = suc i }, own) ∷ row)) is
+      ap (λ (r : Result (Option Value) (List PathStep)). r >>= λ own. rest >>= λ row. Ok (valued (record { 0 = suc i }) own ++ row)) is
       ∙ ap (λ (n : ℕ). rest >>= λ row. Ok ((record { 0 = n }, v) ∷ row)) number_is in
       record {
         same = far.same ∙ ap (λ (cs : List Column). behind values (new_row now place ms cs)) (left_plain info i f at plain) ∙ ap (behind values) step ∙ behind_more values (number, v) rest;
@@ -199,12 +187,32 @@ module _ (now : ℤ) (place : List PathStep) (ms : Members) (info : ModelInfo) w
         low = All-push (λ (given : FieldNo × Value). given.0.0 ≤ i + 1) values (number, v) (low_more i values far.low) (omega arith);
       }
 
+  -- a field that gets no value
+  pub row_without : (i : ℕ) (f : FieldInfo) (values : Values) → slice_get info.fields i ≡ Some f → is_plain_kept f ≡ true → new_value now place ms f ≡ Ok None → RowSoFar now place ms info i values
+      → RowSoFar now place ms info (i + 1) values
+  row_without i f values at plain is far =
+      let rest = new_row now place ms (left info (i + 1)) in
+      let step : new_row now place ms ((suc i, f) ∷ left info (i + 1)) ≡ (rest >>= λ row. Ok row) =
+      ap (λ (r : Result (Option Value) (List PathStep)). r >>= λ own. rest >>= λ row. Ok (valued (record { 0 = suc i }) own ++ row)) is in
+      record {
+        same = far.same ∙ ap (λ (cs : List Column). behind values (new_row now place ms cs)) (left_plain info i f at plain) ∙ ap (behind values) step ∙ behind_same values rest;
+        fit = far.fit;
+        apart = far.apart;
+        low = low_more i values far.low;
+      }
+
+  -- one more field, which gets a value or none
+  pub row_next : (i : ℕ) (f : FieldInfo) (values : Values) (got : Option Value) → slice_get info.fields i ≡ Some f → numbered (fields_of info) (i + 1) ≡ Some f → is_plain_kept f ≡ true
+      → new_value now place ms f ≡ Ok got → IfSome got (Holds f) → RowSoFar now place ms info i values → RowSoFar now place ms info (i + 1) (values ++ valued (record { 0 = i + 1 }) got)
+  row_next i f values None at own plain is holds far = subst (RowSoFar now place ms info (i + 1)) (sym (append-nil values)) (row_without i f values at plain is far)
+  row_next i f values (Some v) at own plain is holds far = row_more i f values v at own plain is holds far
+
   -- a value that is wrong refuses the row
-  pub row_refused : (i : ℕ) (f : FieldInfo) (values : Values) (why : Refusal) → slice_get info.fields i ≡ Some f → is_plain_kept f ≡ true → IsResultOf (λ (v : Value). v) (Err why) (new_value now place ms f)
+  pub row_refused : (i : ℕ) (f : FieldInfo) (values : Values) (why : Refusal) → slice_get info.fields i ≡ Some f → is_plain_kept f ≡ true → IsResultOf (λ (v : Option Value). v) (Err why) (new_value now place ms f)
       → RowSoFar now place ms info i values → {Of : Type 0} (of : Of → Values) → IsResultOf of (Err why) (new_row now place ms (plain_columns info))
   row_refused i f values (refusal.Request e) at plain wrong far of =
       far.same ∙ ap (λ (cs : List Column). behind values (new_row now place ms cs)) (left_plain info i f at plain)
-      ∙ ap (λ (r : Result Value (List PathStep)). behind values (r >>= λ own. new_row now place ms (left info (i + 1)) >>= λ row. Ok ((record { 0 = suc i }, own) ∷ row))) wrong
+      ∙ ap (λ (r : Result (Option Value) (List PathStep)). behind values (r >>= λ own. new_row now place ms (left info (i + 1)) >>= λ row. Ok (valued (record { 0 = suc i }) own ++ row))) wrong
   row_refused i f values (refusal.Right m op) at plain wrong far of = wrong
   row_refused i f values (refusal.FieldRight m field) at plain wrong far of = wrong
   row_refused i f values (refusal.Missing m id) at plain wrong far of = wrong
@@ -244,23 +252,24 @@ module _ (models : List ModelInfo) (model : ModelNo) (info : ModelInfo) (i : ℕ
       tell (model_at models model) info (λ own. RowSoFar now place ms own (i + 1) values) is
       (row_passed now place ms info i f values (field_here is lt at).0 plain (told (model_at models model) info (λ own. RowSoFar now place ms own i values) is far))
 
-  -- one more value
-  pub taken_at : (values more : Values) (v : Value) → model_at models model ≡ Some info → i < length info.fields → field_at models model (record { 0 = i + 1 }) ≡ Some f → is_plain_kept f ≡ true
-      → IfSome (field_at models model (record { 0 = i + 1 })) (λ field. new_value now place ms field ≡ Ok v) → IfSome (field_at models model (record { 0 = i + 1 })) (λ field. Holds field v)
-      → more ≡ values ++ (record { 0 = i + 1 }, v) ∷ [] → SoFar i values → SoFar (i + 1) more
-  taken_at values more v is lt at plain given holds pushed far =
+  -- one more field
+  pub taken_at : (values more : Values) (got : Option Value) → model_at models model ≡ Some info → i < length info.fields → field_at models model (record { 0 = i + 1 }) ≡ Some f → is_plain_kept f ≡ true
+      → IfSome (field_at models model (record { 0 = i + 1 })) (λ field. new_value now place ms field ≡ Ok got) → IfSome (field_at models model (record { 0 = i + 1 })) (λ field. IfSome got (Holds field))
+      → more ≡ values ++ valued (record { 0 = i + 1 }) got → SoFar i values → SoFar (i + 1) more
+  taken_at values more got is lt at plain given holds pushed far =
       let o = field_at models model (record { 0 = i + 1 }) in
       let here = field_here is lt at in
       tell (model_at models model) info (λ own. RowSoFar now place ms own (i + 1) more) is
-      (subst (RowSoFar now place ms info (i + 1)) (sym pushed) (row_more now place ms info i f values v here.0 here.1 plain (told o f (λ field. new_value now place ms field ≡ Ok v) at given) (told o f (λ field. Holds field v) at holds)
+      (subst (RowSoFar now place ms info (i + 1)) (sym pushed) (row_next now place ms info i f values got here.0 here.1 plain (told o f (λ field. new_value now place ms field ≡ Ok got) at given)
+      (told o f (λ field. IfSome got (Holds field)) at holds)
       (told (model_at models model) info (λ own. RowSoFar now place ms own i values) is far)))
 
   -- a value that is wrong
   pub refused_at : (values : Values) (why : Refusal) → model_at models model ≡ Some info → i < length info.fields → field_at models model (record { 0 = i + 1 }) ≡ Some f → is_plain_kept f ≡ true
-      → IfSome (field_at models model (record { 0 = i + 1 })) (λ field. IsResultOf (λ (v : Value). v) (Err why) (new_value now place ms field)) → SoFar i values
+      → IfSome (field_at models model (record { 0 = i + 1 })) (λ field. IsResultOf (λ (v : Option Value). v) (Err why) (new_value now place ms field)) → SoFar i values
       → {Of : Type 0} (of : Of → Values) → IfSome (model_at models model) (λ own. IsResultOf of (Err why) (new_row now place ms (plain_columns own)))
   refused_at values why is lt at plain given far of =
       tell (model_at models model) info (λ own. IsResultOf of (Err why) (new_row now place ms (plain_columns own))) is
       (row_refused now place ms info i f values why (field_here is lt at).0 plain
-      (told (field_at models model (record { 0 = i + 1 })) f (λ field. IsResultOf (λ (v : Value). v) (Err why) (new_value now place ms field)) at given)
+      (told (field_at models model (record { 0 = i + 1 })) f (λ field. IsResultOf (λ (v : Option Value). v) (Err why) (new_value now place ms field)) at given)
       (told (model_at models model) info (λ own. RowSoFar now place ms own i values) is far) of)

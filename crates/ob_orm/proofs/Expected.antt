@@ -1,30 +1,17 @@
--- What the calls of a model are given, where their arguments are right.
+-- What a create is given, where its arguments are right.
 use Rattle.std.proofs.Common.{◌≡◌, ℕ, Bool, true, false, cond, List, [], ◌∷◌, Option, Some, None, String, Global, string_bytes, refl, ap}
 use Rattle.std.proofs.lemmas.List.Elements.{All-cons, All-nil}
 use Rattle.std.specs.Map.{keys_of}
-use Rattle.std.specs.Option.{option_map_or}
-use Rattle.std.specs.Prelude.{All, IfSome, if◌then◌else◌}
-use Rattle.ob_base.specs.declared.id.ModelNo.{ModelNo}
+use Rattle.std.specs.Prelude.{All, if◌then◌else◌}
 use Rattle.ob_base.specs.declared.place.PathStep.{PathStep}
 use Rattle.ob_base.specs.declared.place.PathStep.TheVariants.{Key}
-use Rattle.ob_schema.specs.Models.{model_at}
 use Rattle.ob_schema.specs.declared.info.FieldInfo.{FieldInfo}
-use Rattle.ob_schema.specs.declared.info.ModelInfo.{ModelInfo}
 use Rattle.serde_json.specs.Data.{Data, object, Members}
 use Rattle.serde_json.specs.View.{members_view}
 use Rattle.serde_json.proofs.Views.{Entry}
 use Rattle.ob_call.specs.Arguments.{AreFit, Given, entries}
-use Rattle.ob_call.specs.Forms.{fields_at, ids_fault}
 use Rattle.ob_orm.specs.Create.{create_expects}
-use Rattle.ob_orm.specs.Read.{read_expects}
 use Rattle.ob_orm.specs.Values.{first_key, is_given, values_fault}
-
--- what holds of the fields that a model has holds of its own
-pub at_info : (models : List ModelInfo) (model : ModelNo) (P : List FieldInfo → Type 0) → P (fields_at models model) → IfSome (model_at models model) (λ info. P info.fields)
-at_info models model P h = by (model_at models model) h where
-  by : (o : Option ModelInfo) → P (option_map_or (λ info. info.fields) o []) → IfSome o (λ info. P info.fields)
-  by None h = tt
-  by (Some info) h = h
 
 -- ---- the keys of an object
 
@@ -49,7 +36,7 @@ all_pass : (test : List ℕ → Bool) (es : List (List ℕ × Data)) → first_k
 all_pass test [] e = All-nil (λ x. test x.0 ≡ true)
 all_pass test (x ∷ es) e = one_passes test x es (test x.0) refl e (all_pass test es)
 
--- ---- the calls
+-- ---- the call
 
 -- the one argument of a create is an object, each of whose keys a call may give
 pub record CreateGiven (fields : List FieldInfo) (gs : List (Option Given)) : Type 0 where
@@ -70,20 +57,3 @@ create_given fields [] h = absurd h
 create_given fields (None ∷ gs) h = let e = h.0 in absurd cc
 create_given fields (Some g ∷ []) h = values_given fields g (Some g ∷ []) g.json refl h.0 refl
 create_given fields (Some g ∷ more ∷ gs) h = absurd h.1
-
--- the arguments of a read are its ids, its fields, and a way of loading
-pub record ReadGiven (gs : List (Option Given)) : Type 0 where
-  pub ids : Given
-  pub fields : Option Given
-  pub load : Option Given
-  pub three : gs ≡ Some ids ∷ fields ∷ load ∷ []
-  pub form : ids_fault ids.json ≡ None
-
--- what a read is given
-pub read_given : (fields : List FieldInfo) (gs : List (Option Given)) → AreFit (read_expects fields) gs → ReadGiven gs
-read_given fields [] h = absurd h
-read_given fields (None ∷ gs) h = let e = h.0 in absurd cc
-read_given fields (Some ids ∷ []) h = absurd h.1
-read_given fields (Some ids ∷ names ∷ []) h = absurd h.1.1
-read_given fields (Some ids ∷ names ∷ load ∷ []) h = record { ids = ids; fields = names; load = load; three = refl; form = h.0 }
-read_given fields (Some ids ∷ names ∷ load ∷ more ∷ gs) h = absurd h.1.1.1

@@ -1,12 +1,5 @@
 pub mod Expected
 pub mod RefusalTexts
-pub mod ReadOnce
-pub mod ReadIds
-pub mod ReadNumbers
-pub mod ReadAsked
-pub mod ReadObjects
-pub mod ReadSteps
-pub mod ReadAnswers
 pub mod OwnFields
 pub mod CreateFields
 pub mod CreateGiven

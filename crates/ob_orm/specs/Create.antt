@@ -1,5 +1,5 @@
 -- The machine's `create`: one row of given values, under the model's next id.
-use Rattle.std.specs.Prelude.{◌≡◌, ℕ, ℤ, List, [], ◌∷◌, ◌++◌, codes, bytes_eq, if◌then◌else◌, Bool, true, ◌||◌, Option, Some, None, Result, Ok, Err, unwrap_or}
+use Rattle.std.specs.Prelude.{◌≡◌, ℕ, ℤ, List, [], ◌∷◌, ◌++◌, codes, bytes_eq, if◌then◌else◌, Bool, true, ◌||◌, Option, Some, None, Result, Ok, Err}
 use Rattle.ob_base.specs.Chain.{◌>>=◌}
 use Rattle.ob_base.specs.declared.id.FieldNo.{FieldNo}
 use Rattle.ob_base.specs.declared.id.ModelNo.{ModelNo}
@@ -9,11 +9,12 @@ use Rattle.ob_base.specs.declared.refusal.Refusal.{Refusal}
 use Rattle.ob_base.specs.declared.refusal.Refusal.TheVariants as refusal
 use Rattle.ob_base.specs.declared.value.Value.{Value}
 use Rattle.ob_base.specs.declared.value.Value.TheVariants as value
-use Rattle.ob_codec.specs.JsonForm.{value_from, empty_value}
+use Rattle.ob_codec.specs.JsonForm.{value_from}
 use Rattle.ob_codec.specs.declared.fault.CodecFault.{CodecFault}
 use Rattle.ob_codec.specs.declared.fault.CodecFault.TheVariants as codec
 use Rattle.ob_schema.specs.Fields.{Column, plain_columns}
 use Rattle.ob_schema.specs.Broken.{IsBroken, Sound}
+use Rattle.ob_schema.specs.Models.{HasField}
 use Rattle.ob_schema.specs.Tables.{Tables, next_of}
 use Rattle.ob_schema.specs.declared.info.FieldInfo.{FieldInfo}
 use Rattle.ob_schema.specs.declared.info.ModelInfo.{ModelInfo}
@@ -22,7 +23,8 @@ use Rattle.ob_tables.specs.declared.edit.Edit.TheVariants as edit
 use Rattle.serde_json.specs.Data.{unsigned, Data, number, object, Members, no_members}
 use Rattle.serde_json.specs.Find.{get_member}
 use Rattle.ob_call.specs.Arguments.{Expected, Given, arguments_of}
-use Rattle.ob_orm.specs.Values.{values_fault}
+use Rattle.ob_call.specs.Called.{Called}
+use Rattle.ob_orm.specs.Values.{is_free, values_fault}
 
 -- what a create is called with: an object of values
 abbrev pub create_expects : List FieldInfo → List Expected
@@ -44,20 +46,29 @@ placed place (Err fault) = Err (place ++ place_of fault)
 abbrev pub is_stamp : List ℕ → Bool
 is_stamp name = bytes_eq name (codes "create_date") || bytes_eq name (codes "write_date")
 
--- the value that a field is given at a place, its key; else its default; else what stands for nothing
-abbrev pub given_value : List PathStep → FieldInfo → Option Data → Result Value (List PathStep)
-given_value place field None = Ok (unwrap_or field.default (empty_value field.field_type))
-given_value place field (Some d) = placed place (value_from field.field_type field.selection d)
+-- the value that a field is given at a place, its key; else its default, where it has one
+abbrev pub given_value : List PathStep → FieldInfo → Option Data → Result (Option Value) (List PathStep)
+given_value place field None = Ok field.default
+given_value place field (Some d) = placed place (value_from field.field_type field.selection d) >>= λ v. Ok (Some v)
+
+-- what the members of an object give a field, where calls give values to it
+abbrev pub given_of : Members → FieldInfo → Option Data
+given_of members field = if is_free field then get_member field.name members else None
 
 -- the plain value of a new row's field: the moment in a stamp, else what the object at a place gives
-abbrev pub new_value : ℤ → List PathStep → Members → FieldInfo → Result Value (List PathStep)
-new_value now place members field = if is_stamp field.name then Ok (value.Moment now) else given_value (place ++ Key field.name ∷ []) field (get_member field.name members)
+abbrev pub new_value : ℤ → List PathStep → Members → FieldInfo → Result (Option Value) (List PathStep)
+new_value now place members field = if is_stamp field.name then Ok (Some (value.Moment now)) else given_value (place ++ Key field.name ∷ []) field (given_of members field)
 
--- the plain values of a new row in these fields, or the first place that is wrong, in byte order of the fields' names
+-- a value with the number of its field, where there is one
+abbrev pub valued : FieldNo → Option Value → List (FieldNo × Value)
+valued field None = []
+valued field (Some v) = (field, v) ∷ []
+
+-- the plain values that a new row gets in these fields, or the first place that is wrong, in byte order of the fields' names
 abbrev pub new_row : ℤ → List PathStep → Members → List Column → Result (List (FieldNo × Value)) (List PathStep)
 new_row now place _ [] = Ok []
 new_row now place members (column ∷ more) =
-    new_value now place members column.1 >>= λ own. new_row now place members more >>= λ row. Ok ((record { 0 = column.0 }, own) ∷ row)
+    new_value now place members column.1 >>= λ own. new_row now place members more >>= λ row. Ok (valued (record { 0 = column.0 }) own ++ row)
 
 -- the members of an object; nothing else has any
 abbrev pub members_of : Data → Members
@@ -69,31 +80,36 @@ abbrev pub row_from : ModelInfo → ℤ → List (Option Given) → Result (List
 row_from info now (Some g ∷ gs) = new_row now g.place (members_of g.json) (plain_columns info)
 row_from info now _ = Ok []
 
--- the values of the row that a create makes at a moment, or the first place that is wrong: of the arguments, then of the values
-abbrev pub created_row : ModelInfo → ℤ → (args kw : Data) → Result (List (FieldNo × Value)) (List PathStep)
-created_row info now args kw = arguments_of (create_expects info.fields) args kw >>= row_from info now
+-- the values of the row that a create makes, or the first place that is wrong: of the arguments, then of the values
+abbrev pub created_row : Called → Result (List (FieldNo × Value)) (List PathStep)
+created_row called = arguments_of (create_expects called.info.fields) called.args called.kw >>= row_from called.info called.now
 
 -- the tables with a row of these values under the model's next id, whatever they break
 abbrev pub made : List ModelInfo → ModelNo → Tables → List (FieldNo × Value) → Tables
 made models model old values = after models old (edit.Make model (record { 0 = next_of old model }) values ∷ [])
 
--- why a create at this moment is refused: what is malformed, or something that the tables with its row break
-abbrev pub CreateRefuses : List ModelInfo → ModelNo → ModelInfo → ℤ → Tables → (args kw : Data) → Refusal → Type 0
-CreateRefuses models model info now old args kw (refusal.Request place) = created_row info now args kw ≡ Err place
-CreateRefuses models model info now old args kw (refusal.Constraint b) =
-    (values : List (FieldNo × Value)) × (created_row info now args kw ≡ Ok values) × IsBroken models (made models model old values) b
-CreateRefuses models model info now old args kw _ = ⊥
+-- why a create is refused: what is malformed, or something that the tables with its row break
+abbrev pub CreateRefuses : List ModelInfo → Called → Tables → Refusal → Type 0
+CreateRefuses models called old (refusal.Request place) = created_row called ≡ Err place
+CreateRefuses models called old (refusal.Constraint b) = (values : List (FieldNo × Value)) × (created_row called ≡ Ok values) × IsBroken models (made models called.model old values) b
+CreateRefuses models called old _ = ⊥
 
 -- a create that is carried out: nothing is broken, and the row stands under the next id, which is the answer
-pub record IsCreated (models : List ModelInfo) (model : ModelNo) (info : ModelInfo) (now : ℤ) (old : Tables) (args kw json : Data) (new : Tables) : Type 0 where
+pub record IsCreated (models : List ModelInfo) (called : Called) (old : Tables) (json : Data) (new : Tables) : Type 0 where
   pub values : List (FieldNo × Value)
-  pub given : created_row info now args kw ≡ Ok values
-  pub tables : new ≡ made models model old values
+  pub given : created_row called ≡ Ok values
+  pub tables : new ≡ made models called.model old values
   pub sound : Sound models new
-  pub answer : json ≡ number (unsigned (next_of old model))
+  pub answer : json ≡ number (unsigned (next_of old called.model))
 
 -- The machine may answer a create so, and go on to these tables: with the new id where
 -- nothing is wrong, else with what is, changing nothing.
-abbrev pub Creates : List ModelInfo → ModelNo → ModelInfo → ℤ → Tables → (args kw : Data) → Result Data Refusal → Tables → Type 0
-Creates models model info now old args kw (Ok json) new = IsCreated models model info now old args kw json new
-Creates models model info now old args kw (Err why) new = CreateRefuses models model info now old args kw why × (new ≡ old)
+abbrev pub Creates : List ModelInfo → Called → Tables → Result Data Refusal → Tables → Type 0
+Creates models called old (Ok json) new = IsCreated models called old json new
+Creates models called old (Err why) new = CreateRefuses models called old why × (new ≡ old)
+
+-- why a create is refused whatever the keeper tells: something is malformed, or broken at a cell of the models
+abbrev pub CreateCause : List ModelInfo → Called → Refusal → Type 0
+CreateCause models called (refusal.Request place) = created_row called ≡ Err place
+CreateCause models called (refusal.Constraint b) = HasField models b.cell.model b.cell.field
+CreateCause models called _ = ⊥

@@ -1,11 +1,6 @@
-pub mod Served
+pub mod Creatable
 pub mod Values
 pub mod Create
-pub mod Read
 pub mod RefusalText
-pub mod Answer
 pub mod Faults
-pub mod ReadForm
-pub mod ReadParts
-pub mod ReadRows
 pub mod CreateSteps

@@ -1,9 +1,10 @@
 -- The form of an object of values for fields of a model.
-use Rattle.std.specs.Prelude.{ℕ, ◌&&◌, List, [], ◌∷◌, Bool, false, not, if◌then◌else◌, Option, Some, None, option_and_then}
+use Rattle.std.specs.Prelude.{ℕ, ◌&&◌, ◌||◌, List, [], ◌∷◌, Bool, false, not, if◌then◌else◌, Option, Some, None, option_and_then}
 use Rattle.std.specs.Option.{option_map_or}
 use Rattle.ob_base.specs.declared.place.PathStep.{PathStep}
 use Rattle.ob_base.specs.declared.place.PathStep.TheVariants.{Key}
 use Rattle.serde_json.specs.Data.{Data, object}
+use Rattle.ob_definition.specs.Types.{is_list}
 use Rattle.ob_schema.specs.Fields.{is_plain_kept}
 use Rattle.ob_schema.specs.Built.{numbered}
 use Rattle.ob_schema.specs.Models.{field_named}
@@ -14,9 +15,9 @@ use Rattle.ob_call.specs.Arguments.{entries}
 abbrev pub field_of_name : List FieldInfo → List ℕ → Option FieldInfo
 field_of_name fields name = option_and_then (λ number. numbered fields number.0) (field_named fields name)
 
--- whether calls give values to a field: it is plain, and not managed
+-- whether calls give values to a field so far: it is plain, no list of rows, and not managed
 abbrev pub is_free : FieldInfo → Bool
-is_free field = is_plain_kept field && not field.managed
+is_free field = is_plain_kept field && not (is_list field.field_type || field.managed)
 
 -- whether calls give a value to the field of this name
 abbrev pub is_given : List FieldInfo → List ℕ → Bool

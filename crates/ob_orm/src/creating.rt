@@ -12,9 +12,10 @@ ghost use Rattle.ob_cache.specs.declared.stages.Phase.TheVariants as phase;
 ghost use Rattle.ob_io.specs.Cause.{Rose};
 ghost use Rattle.ob_schema.specs.Models.{HasModel, field_at, is_id_from, model_at};
 ghost use Rattle.ob_schema.specs.Tables.{Tables};
-ghost use Rattle.ob_orm.specs.Answer.{CreateAnswers, CreateCause, Refuses, called_by, result_view};
-ghost use Rattle.ob_orm.specs.CreateSteps.{BreaksField, IsBrokenBy, KeepsTables};
-ghost use Rattle.ob_orm.specs.Served.{IsServed};
+ghost use Rattle.ob_cache.specs.Calls.{IsCalled, IsResting, Refuses, models_at, standpoint};
+ghost use Rattle.ob_call.specs.Called.{called_by, result_view};
+ghost use Rattle.ob_orm.specs.Create.{CreateCause, Creates};
+ghost use Rattle.ob_orm.specs.CreateSteps.{BreaksField, CreateAnswers, IsBrokenBy, KeepsTables};
 ghost use Rattle.ob_tables.specs.After.{after};
 ghost use Rattle.ob_tables.specs.Fitting.{IsFitEdit};
 ghost use Rattle.ob_tables.specs.declared.edit.Edit.TheVariants as edit;
@@ -34,28 +35,46 @@ use ob_tables::Edit;
 use std::alloc::Global;
 
 /// Makes one row of the values that the object gives, at the call's moment; a field that
-/// isn't given has its default, else it is unset, false or 0. Answers the row's id; the
-/// engine is then settled with the row, and not flushed. Refused are arguments of another
+/// isn't given has its default, else it is unset, false, 0 or the empty list. Answers the row's
+/// id; the engine is then settled with the row, and not flushed. Refused are arguments of another
 /// form, at their place, and what the tables with the row break: then the engine rests as it
-/// did. The caller sees to it that the model serves calls, that the engine rests, and that the
-/// moment lies within the years 0001 to 9999.
+/// did. No list of rows is given so far, and no row of a parent is made: the caller sees to it
+/// that the model has none (`is_creatable`), that the engine rests, and that the moment lies
+/// within the years 0001 to 9999.
 pub fn create<K: Keeper, L: Ledger>(
     alloc: Global,
     engine: &mut Engine<'_, K>,
     call: &Call<'_>,
     steps: &mut Steps<L>,
 ) -> Result<Json, Refusal>
+    requires model { HasModel (models_at (standpoint K.Keeper engine.old)) call.now.model }
+    requires moment { IsMoment call.now.now }
+    requires rest { IsResting (standpoint K.Keeper engine.old) }
+
+    // It is the machine's create.
+    ensures call { IfSome (model_at (models_at (standpoint K.Keeper engine.old)) call.entry.now.model) (λ info.
+        IsCalled (Creates (models_at (standpoint K.Keeper engine.old)) (called_by call.entry.now info)) (standpoint K.Keeper engine.old) (standpoint K.Keeper engine.new)
+        (CreateCause (models_at (standpoint K.Keeper engine.old)) (called_by call.entry.now info)) (result_view result)) }
+    ensures plain { IfOk result (λ json. has_float (view json) ≡ false) }
+    ensures ticks { (n : ℕ) × (steps.new ≡ ticked_times n L.noted steps.old) }
+    ensures lender { engine.new.keeper.ghost_name ≡ engine.old.keeper.ghost_name }
+{
+    make(alloc, engine, call, steps)
+}
+
+/// The same, clause by clause.
+fn make<K: Keeper, L: Ledger>(
+    alloc: Global,
+    engine: &mut Engine<'_, K>,
+    call: &Call<'_>,
+    steps: &mut Steps<L>,
+) -> Result<Json, Refusal>
     requires model { HasModel engine.old.held.models call.now.model }
-    requires served { IfSome (model_at engine.old.held.models call.now.model) IsServed }
     requires moment { IsMoment call.now.now }
     requires rest { IsAtRest engine.old.held.models engine.old.held }
-
-    // Over a keeper that tells its rows it is the machine's create.
     ensures answer { (tables : Tables) → RestsAt (K.kept engine.old.keeper.now) engine.old.held tables
-        → IfSome (model_at engine.old.held.models call.entry.now.model) (λ info. CreateAnswers (K.kept engine.new.keeper.now) engine.new.held tables (called_by call.entry.now info)
+        → IfSome (model_at engine.old.held.models call.entry.now.model) (λ info. CreateAnswers engine.old.held.models (K.kept engine.new.keeper.now) engine.new.held tables (called_by call.entry.now info)
         (Rose (K.faults engine.old.keeper.now) (K.faults engine.new.keeper.now)) (result_view result)) }
-
-    // Over any keeper each refusal has its cause, and the engine can go on.
     ensures causes { IfErr result (Refuses (Rose (K.faults engine.old.keeper.now) (K.faults engine.new.keeper.now))
         (λ why. IfSome (model_at engine.old.held.models call.entry.now.model) (λ info. CreateCause engine.old.held.models (called_by call.entry.now info) why))) }
     ensures models { engine.new.held.models ≡ engine.old.held.models }
@@ -64,8 +83,6 @@ pub fn create<K: Keeper, L: Ledger>(
     ensures count { K.faults engine.old.keeper.now ≤ K.faults engine.new.keeper.now }
     ensures ticks { (n : ℕ) × (steps.new ≡ ticked_times n L.noted steps.old) }
     ensures plain { IfOk result (λ json. has_float (view json) ≡ false) }
-
-    // It keeps nothing by itself.
     ensures same { K.kept engine.new.keeper.now ≡ K.kept engine.old.keeper.now }
     ensures lender { engine.new.keeper.ghost_name ≡ engine.old.keeper.ghost_name }
 {

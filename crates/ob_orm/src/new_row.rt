@@ -1,28 +1,29 @@
 //! The values of a new row: what the object gives, defaults, and the moments of its making, each
-//! with the number of its field.
+//! with the number of its field. A field that gets none of these isn't named: the tables know what
+//! it has then.
 
-ghost use Rattle.std.specs.Prelude.{◌≡◌, ◌∷◌, ◌++◌, [], IfOk, IfSome, false, unwrap_or};
+ghost use Rattle.std.specs.Prelude.{◌≡◌, ◌∷◌, ◌++◌, [], IfOk, IfSome, OnOk, false, option_map};
 ghost use Rattle.serde_json.specs.View.{members_view, view};
 ghost use Rattle.ob_base.specs.Times.{IsMoment};
 ghost use Rattle.ob_base.specs.declared.place.PathStep.TheVariants.{Key};
-ghost use Rattle.ob_codec.specs.JsonForm.{empty_value, value_from};
+ghost use Rattle.ob_codec.specs.JsonForm.{value_from};
 ghost use Rattle.ob_schema.specs.Fields.{Holds, plain_columns};
 ghost use Rattle.ob_schema.specs.Models.{HasField, HasModel, field_at, model_at};
 ghost use Rattle.ob_definition.specs.Types.{is_list};
-ghost use Rattle.ob_orm.specs.Create.{create_expects, is_stamp, new_row, new_value, placed, row_from};
-ghost use Rattle.ob_orm.specs.CreateSteps.{IsFaultAt, IsGivable};
+ghost use Rattle.ob_orm.specs.Create.{create_expects, given_of, is_stamp, new_row, new_value, placed, row_from, valued};
+ghost use Rattle.ob_orm.specs.CreateSteps.{IsFaultAt, IsMakeable};
 ghost use Rattle.ob_call.specs.Arguments.{AreFit};
 ghost use Rattle.ob_call.specs.ArgumentsSteps.{all_given_of};
 ghost use Rattle.ob_call.specs.Forms.{fields_at};
 ghost use Rattle.ob_call.specs.Places.{spot_place};
 ghost use Rattle.ob_call.specs.Results.{IsResultOf};
-ghost use Rattle.ob_orm.specs.Served.{IsServed};
 ghost use Rattle.ob_tables.specs.Fitting.{AreFitIn};
 
+use crate::values::is_free;
 use ob_base::{FieldNo, ModelNo, NoMemory, Refusal, Sequence, Value};
 use ob_call::{Below, Given, Json, Spot, malformed_below};
 use ob_codec::{CodecFault, Input, from_json};
-use ob_schema::{FieldInfo, FieldType, Schema};
+use ob_schema::{FieldInfo, Schema};
 use serde_json::Map;
 use std::alloc::Global;
 
@@ -43,7 +44,6 @@ pub(crate) fn plain_values(
     given: &[Option<Given<'_>>],
 ) -> Result<Sequence<(FieldNo, Value)>, Refusal>
     requires model { HasModel schema.now model }
-    requires served { IfSome (model_at schema.now model) IsServed }
     requires moment { IsMoment now }
     requires given { AreFit (create_expects (fields_at schema.now model)) (all_given_of given.now) }
     ensures value { IfSome (model_at schema.now model)
@@ -64,7 +64,7 @@ pub(crate) fn plain_values(
     all_values(alloc, schema, model, &row)
 }
 
-/// A value for each plain field that a row keeps, by number.
+/// The values of the plain fields that get one, by number.
 fn all_values(
     alloc: Global,
     schema: &Schema,
@@ -72,7 +72,6 @@ fn all_values(
     row: &NewRow<'_>,
 ) -> Result<Sequence<(FieldNo, Value)>, Refusal>
     requires model { HasModel schema.now model }
-    requires served { IfSome (model_at schema.now model) IsServed }
     requires moment { IsMoment row.now.now }
     ensures value { IfSome (model_at schema.now model)
         (λ info. IsResultOf (λ values. values) result
@@ -86,7 +85,7 @@ fn all_values(
         let number = FieldNo(index as u16 + 1);
         if schema.info(model, number).is_plain_kept() {
             let value = new_value(alloc, schema, model, number, row)?;
-            let Ok(()) = values.push((number, value)) else {
+            let Ok(()) = push_valued(&mut values, number, value) else {
                 return Err(Refusal::NoMemory);
             };
         }
@@ -94,34 +93,63 @@ fn all_values(
     Ok(values)
 }
 
-/// The value of a plain field.
+/// Puts a field's value behind others, where it gets one.
+fn push_valued(
+    values: &mut Sequence<(FieldNo, Value)>,
+    number: FieldNo,
+    value: Option<Value>,
+) -> Result<(), NoMemory>
+    ensures { OnOk result (values.new ≡ values.old ++ valued number value) }
+{
+    match value {
+        Some(value) => values.push((number, value)),
+        None => Ok(()),
+    }
+}
+
+/// The value that a plain field gets, if any.
 fn new_value(
     alloc: Global,
     schema: &Schema,
     model: ModelNo,
     number: FieldNo,
     row: &NewRow<'_>,
-) -> Result<Value, Refusal>
+) -> Result<Option<Value>, Refusal>
     requires field { HasField schema.now model number }
-    requires givable { IfSome (field_at schema.now model number) IsGivable }
+    requires givable { IfSome (field_at schema.now model number) IsMakeable }
     requires moment { IsMoment row.now.now }
     ensures value { IfSome (field_at schema.now model number)
         (λ field. IsResultOf (λ value. value) result (new_value row.entry.now.now (spot_place row.entry.now.spot)
         (members_view row.entry.now.members.now.entries) field)) }
     ensures holds { IfOk result (λ value. IfSome (field_at schema.now model number)
-        (λ field. Holds field value)) }
+        (λ field. IfSome value (Holds field))) }
 {
     let field = schema.info(model, number);
     let name = field.name.as_str();
     if is_stamp(name) {
-        return Ok(Value::Moment(row.now));
+        return Ok(Some(Value::Moment(row.now)));
     }
-    match row.members.get(name) {
-        Some(json) => given_value(alloc, schema, model, number, row.spot, json),
+    match given_of(field, row.members) {
+        Some(json) => {
+            let value = given_value(alloc, schema, model, number, row.spot, json)?;
+            Ok(Some(value))
+        }
         None => match default_value(alloc, field) {
             Ok(value) => Ok(value),
             Err(NoMemory) => Err(Refusal::NoMemory),
         },
+    }
+}
+
+/// What the members of an object give a field, where calls give values to it.
+fn given_of<'j>(field: &FieldInfo, members: &'j Map<String, Json>) -> Option<&'j Json>
+    ensures given { option_map (λ json. view json.now) result ≡ given_of (members_view members.now.entries) field.now }
+    ensures flat { IfSome result (λ _. is_list field.now.field_type ≡ false) }
+{
+    if is_free(field) {
+        members.get(field.name.as_str())
+    } else {
+        None
     }
 }
 
@@ -171,24 +199,12 @@ fn fault_refusal(alloc: Global, spot: Spot<'_>, name: &str, fault: &CodecFault) 
     }
 }
 
-/// The value of a field that isn't given: its default, else what stands for nothing.
-fn default_value(alloc: Global, field: &FieldInfo) -> Result<Value, NoMemory>
-    ensures { IfOk result
-        (λ value. value ≡ unwrap_or field.now.default (empty_value field.now.field_type)) }
+/// The value of a field that isn't given: its default, where it has one.
+fn default_value(alloc: Global, field: &FieldInfo) -> Result<Option<Value>, NoMemory>
+    ensures { IfOk result (λ value. value ≡ field.now.default) }
 {
     match &field.default {
-        Some(value) => value.try_clone(alloc),
-        None => Ok(empty_value(field.field_type)),
-    }
-}
-
-/// What stands for nothing in a field: false, 0, else unset.
-fn empty_value(field_type: FieldType) -> Value
-    ensures { result ≡ empty_value field_type }
-{
-    match field_type {
-        FieldType::Boolean => Value::Bool(false),
-        FieldType::Integer => Value::Int(0),
-        _ => Value::Nil,
+        Some(value) => Ok(Some(value.try_clone(alloc)?)),
+        None => Ok(None),
     }
 }

@@ -6,11 +6,11 @@ ghost use Rattle.ob_schema.specs.Models.{HasModel};
 ghost use Rattle.ob_call.specs.Arguments.{entries};
 ghost use Rattle.ob_call.specs.Forms.{fields_at};
 ghost use Rattle.ob_call.specs.Places.{below_steps};
-ghost use Rattle.ob_orm.specs.Values.{first_key, is_given};
+ghost use Rattle.ob_orm.specs.Values.{first_key, is_free, is_given};
 
 use ob_base::ModelNo;
 use ob_call::{Below, Form, Json};
-use ob_schema::Schema;
+use ob_schema::{FieldInfo, Schema};
 use serde_json::Map;
 
 /// An object of values, each for a field of the model that calls give.
@@ -59,10 +59,14 @@ fn is_given(schema: &Schema, model: ModelNo, name: &str) -> bool
     ensures { result ≡ is_given (fields_at schema.now model) name.now }
 {
     match schema.field(model, name) {
-        Some(number) => {
-            let field = schema.info(model, number);
-            field.is_plain_kept() && !field.managed
-        }
+        Some(number) => is_free(schema.info(model, number)),
         None => false,
     }
+}
+
+/// Whether calls give values to a field: it is plain, no list of rows, and not managed.
+pub(crate) fn is_free(field: &FieldInfo) -> bool
+    ensures { result ≡ is_free field.now }
+{
+    field.is_plain_kept() && !(field.field_type.is_list() || field.managed)
 }

@@ -1,32 +1,40 @@
 -- From what each step of serving a request does to a step of the machine.
 use Rattle.std.proofs.Common.{◌≡◌, inl, inr, ℕ, ℤ, List, Option, Some, None, option_map, Result, Ok, Err, refl, ap, ◌∙◌, subst, sym, Bor, BTreeMap, Global, String}
-use Rattle.std.specs.Prelude.{IsSome, IsSomeAnd, unwrap_or}
+use Rattle.std.specs.Prelude.{IfSome, IsSome, IsSomeAnd, unwrap_or, ⊤}
 use Rattle.std.specs.BTreeMap.{IsEmpty}
 use Rattle.serde_json.specs.Data.{Data, object, no_members}
 use Rattle.serde_json.specs.View.{members_view, view}
 use Rattle.serde_json.proofs.Views.{view-Object}
 use Rattle.serde_json.specs.declared.value.Value.{Value}
 use Rattle.serde_json.specs.declared.value.Value.TheVariants.{Object}
-use Rattle.ob_base.specs.declared.id.ModelNo.{ModelNo}
 use Rattle.ob_base.specs.declared.refusal.Refusal.{Refusal}
 use Rattle.ob_base.specs.declared.refusal.Refusal.TheVariants as refusal
+use Rattle.ob_cache.proofs.CallerLemmas.{Refuses-weaker}
+use Rattle.ob_cache.specs.Calls.{IsAsked, IsCalled, KeeperRose, Refuses, Standpoint, models_at, settled_over}
 use Rattle.ob_cache.specs.Stages.{resting}
 use Rattle.ob_cache.specs.Standing.{Holding, OfStages, RestsAt, Stands}
+use Rattle.ob_call.specs.Called.{Called, called_by}
+use Rattle.ob_call.specs.declared.call.Call.{Call as Handed}
 use Rattle.ob_io.specs.Store.{Store}
+use Rattle.ob_orm.specs.Create.{Creates}
+use Rattle.ob_query.specs.Read.{Reads}
 use Rattle.ob_rpc.specs.Envelope.{Envelope, Fault, element_place, envelope_of}
 use Rattle.ob_rpc.specs.declared.methods.Served.TheVariants.{ExecuteKw}
 use Rattle.ob_schema.specs.Models.{model_at}
 use Rattle.ob_schema.specs.declared.info.ModelInfo.{ModelInfo}
 use Rattle.ob_schema.specs.Tables.{Tables}
-use Rattle.ob_orm.specs.Create.{Creates}
-use Rattle.ob_orm.specs.Read.{Reads}
-use Rattle.ob_orm.specs.Answer.{Called, CreateAnswers, ReadAnswers, Refuses, settled_over}
-use Rattle.stockd.specs.ModelCall.{call_view, method_view}
-use Rattle.stockd.specs.declared.request.ModelCall.{ModelCall}
-use Rattle.stockd.specs.Request.{Call, Method, Request, call_of, called, create, read, request_by, request_of}
+use Rattle.stockd.specs.MethodCall.{call_view, handed_view}
+use Rattle.stockd.specs.declared.request.Method.{Method}
+use Rattle.stockd.specs.declared.request.Method.TheVariants as method
+use Rattle.stockd.specs.declared.request.MethodCall.{MethodCall}
+use Rattle.stockd.specs.declared.request.ReadMethod.{ReadMethod}
+use Rattle.stockd.specs.declared.request.ReadMethod.TheVariants as reading
+use Rattle.stockd.specs.declared.request.WriteMethod.{WriteMethod}
+use Rattle.stockd.specs.declared.request.WriteMethod.TheVariants as writing
+use Rattle.stockd.specs.Request.{Call, Request, call_of, called, request_by, request_of}
 use Rattle.stockd.specs.Texts.{malformed_text, no_memory_text, outcome_text, told}
-use Rattle.stockd.specs.Body.{Over, Serves, ServesOver}
-use Rattle.stockd.specs.Machine.{Calls, MayAnswer}
+use Rattle.stockd.specs.Body.{Serves, ServesOver}
+use Rattle.stockd.specs.Machine.{Calls, Makes, MayAnswer, Means, Tells}
 use Rattle.stockd.specs.Reply.{Keeps, MayTell}
 
 -- what holds of some model holds of the model of the number
@@ -52,14 +60,21 @@ refused_step models old now rose id call reply why cause tells = told_step model
 
 -- a cause among others
 refuses_as : (P Q : Refusal → Type 0) (rose : Type 0) → ((why : Refusal) → P why → Q why) → (why : Refusal) → Refuses rose P why → Refuses rose Q why
-refuses_as P Q rose then refusal.Keeper cause = cause
-refuses_as P Q rose then refusal.NoMemory cause = cause
-refuses_as P Q rose then why cause = then why cause
+refuses_as P Q rose then why cause = Refuses-weaker rose rose P Q why (λ risen. risen) then cause
 
 -- a model that is there
 pub known_model : (found : Option ModelInfo) → IsSome found → (info : ModelInfo) × (found ≡ Some info)
 known_model None there = absurd (cc)
 known_model (Some info) there = (info, refl)
+
+-- what is known of it
+pub known : (found : Option ModelInfo) (info : ModelInfo) (P : ModelInfo → Type 0) → found ≡ Some info → IfSome found P → P info
+known found info P is h = let there : IfSome (Some info) P = subst (λ (o : Option ModelInfo). IfSome o P) is h in there
+
+-- and of each, step by step
+pub of_each : (found : Option ModelInfo) (P Q : ModelInfo → Type 0) → ((info : ModelInfo) → P info → Q info) → IfSome found P → IfSome found Q
+of_each None P Q step h = tt
+of_each (Some info) P Q step h = step info h
 
 -- an engine of the same models that stands as before rests at the tables still
 pub rests_on : (before now : Option Store) (old new : Holding) → new.models ≡ old.models → OfStages before old (Stands now new) → (tables : Tables) → RestsAt before old tables → RestsAt now new tables
@@ -74,59 +89,65 @@ pub serves_unchanged : (models : List ModelInfo) (old : Tables) (now : ℤ) (ros
     → RestsAt kept held old → MayAnswer models old now rose request reply old → Serves models old now rose request reply kept held
 serves_unchanged models old now rose request reply kept held rests answer = record { tables = old; rests = rests; answer = answer }
 
--- a read of a model
-abbrev pub read_of : Called → Call
-read_of c = record { model = c.model; method = read; args = c.args; kw = c.kw }
+module _ (before after : Standpoint) (info : ModelInfo) (call : Handed) (id : Data) (reply : List ℕ) where
+  abbrev models : List ModelInfo
+  models = models_at before
 
--- a create in a model
-abbrev pub create_of : Called → Call
-create_of c = record { model = c.model; method = create; args = c.args; kw = c.kw }
+  -- what the machine is called with
+  abbrev called_with : Called
+  called_with = called_by call info
 
--- a read that was answered, and its reply, serve the request
-pub read_serves : (models : List ModelInfo) (old : Tables) (c : Called) (id json : Data) (rose : Type 0) (reply : List ℕ) (kept : Option Store) (held : Holding)
-    → model_at models c.model ≡ Some c.info → RestsAt kept held old → ReadAnswers models old c rose (Ok json) → MayTell reply (outcome_text models id (Ok json))
-    → Serves models old c.now rose (called id (read_of c)) reply kept held
-read_serves models old c id json rose reply kept held is rests reads tells =
-    serves_unchanged models old c.now rose (called id (read_of c)) reply kept held rests
-    (told_step models old c.now rose id (read_of c) reply (Ok json) (at_model _ (model_at models c.model) c.info is (reads, refl)) tells)
+  -- a refusal among others, of a method
+  as_call : (named : Method) (why : Refusal) (old : Tables) → model_at models call.model ≡ Some info → Refuses (KeeperRose before after) (λ w. Means named models called_with old (Err w) old) why
+      → Refuses (KeeperRose before after) (λ w. Calls models old call.now (handed_view named call) (Err w) old) why
+  as_call named why old is cause = refuses_as (λ w. Means named models called_with old (Err w) old) (λ w. Calls models old call.now (handed_view named call) (Err w) old) (KeeperRose before after)
+      (λ w means. at_model (λ own. Means named models (called_by call own) old (Err w) old) (model_at models call.model) info is means) why cause
 
--- a read that was refused, and its reply, serve the request
-pub refused_read_serves : (models : List ModelInfo) (old : Tables) (c : Called) (id : Data) (why : Refusal) (rose : Type 0) (reply : List ℕ) (kept : Option Store) (held : Holding)
-    → model_at models c.model ≡ Some c.info → RestsAt kept held old → ReadAnswers models old c rose (Err why) → MayTell reply (outcome_text models id (told (Err why)))
-    → Serves models old c.now rose (called id (read_of c)) reply kept held
-refused_read_serves models old c id why rose reply kept held is rests cause tells =
-    serves_unchanged models old c.now rose (called id (read_of c)) reply kept held rests
-    (refused_step models old c.now rose id (read_of c) reply why (refuses_as (λ w. Reads models c.model c.info old c.args c.kw (Err w)) (λ w. Calls models old c.now (read_of c) (Err w) old) rose
-    (λ w reads. at_model (λ info. Reads models c.model info old c.args c.kw (Err w) × (old ≡ old)) (model_at models c.model) c.info is (reads, refl)) why cause) tells)
+  module _ (reads : ReadMethod) (is : model_at models call.model ≡ Some info) where
+    -- a method that reads was answered, and its reply told
+    pub reading_serves : (json : Data) → IsAsked (Tells reads models called_with) before after (λ _. ⊤) (Ok json) → MayTell reply (outcome_text models id (Ok json))
+        → ServesOver before after call.now (called id (handed_view (method.Reads reads) call)) reply
+    reading_serves json asked tells = λ tables rests.
+        serves_unchanged models tables call.now (KeeperRose before after) (called id (handed_view (method.Reads reads) call)) reply after.kept after.held
+        (rests_on before.kept after.kept before.held after.held asked.same.models asked.same.stands tables rests)
+        (told_step models tables call.now (KeeperRose before after) id (handed_view (method.Reads reads) call) reply (Ok json)
+        (at_model (λ own. Means (method.Reads reads) models (called_by call own) tables (Ok json) tables) (model_at models call.model) info is (asked.answer tables rests, refl)) tells)
 
--- a create that was refused, and its reply, serve the request
-pub refused_create_serves : (models : List ModelInfo) (old : Tables) (c : Called) (id : Data) (why : Refusal) (rose : Type 0) (reply : List ℕ) (kept : Option Store) (held : Holding)
-    → model_at models c.model ≡ Some c.info → held.models ≡ models → CreateAnswers kept held old c rose (Err why) → MayTell reply (outcome_text models id (told (Err why)))
-    → Serves models old c.now rose (called id (create_of c)) reply kept held
-refused_create_serves models old c id why rose reply kept held is same (cause, rests) tells =
-    let own : Refuses rose (λ w. Creates models c.model c.info c.now old c.args c.kw (Err w) old) why =
-    subst (λ (ms : List ModelInfo). Refuses rose (λ w. Creates ms c.model c.info c.now old c.args c.kw (Err w) old) why) same cause in
-    serves_unchanged models old c.now rose (called id (create_of c)) reply kept held rests
-    (refused_step models old c.now rose id (create_of c) reply why (refuses_as (λ w. Creates models c.model c.info c.now old c.args c.kw (Err w) old) (λ w. Calls models old c.now (create_of c) (Err w) old)
-    rose (λ w creates. at_model (λ info. Creates models c.model info c.now old c.args c.kw (Err w) old) (model_at models c.model) c.info is creates) why own) tells)
+    -- or it was refused
+    pub refused_reading_serves : (why : Refusal) → IsAsked (Tells reads models called_with) before after (λ _. ⊤) (Err why) → MayTell reply (outcome_text models id (told (Err why)))
+        → ServesOver before after call.now (called id (handed_view (method.Reads reads) call)) reply
+    refused_reading_serves why asked tells = λ tables rests.
+        serves_unchanged models tables call.now (KeeperRose before after) (called id (handed_view (method.Reads reads) call)) reply after.kept after.held
+        (rests_on before.kept after.kept before.held after.held asked.same.models asked.same.stands tables rests)
+        (refused_step models tables call.now (KeeperRose before after) id (handed_view (method.Reads reads) call) reply why
+        (as_call (method.Reads reads) why tables is
+        (refuses_as (λ w. Tells reads models called_with tables (Err w)) (λ w. Means (method.Reads reads) models called_with tables (Err w) tables) (KeeperRose before after) (λ w tells. (tells, refl)) why
+        (asked.answer tables rests))) tells)
 
--- a create that was made, and was kept with its reply or not, serves the request
-kept_serves : (models : List ModelInfo) (old next : Tables) (c : Called) (id json : Data) (rose_keeping rose : Type 0) (reply : List ℕ) (kept : Option Store) (held : Holding)
-    → (rose_keeping → rose) → Calls models old c.now (create_of c) (Ok json) next → Keeps rose_keeping id json old next kept held reply
-    → Serves models old c.now rose (called id (create_of c)) reply kept held
-kept_serves models old next c id json rose_keeping rose reply kept held since calls (inl (rests, tells)) = record { tables = next; rests = rests; answer = inl (Ok json, calls, tells) }
-kept_serves models old next c id json rose_keeping rose reply kept held since calls (inr (rests, inl unmade)) = record { tables = old; rests = rests; answer = inr (refl, inl unmade) }
-kept_serves models old next c id json rose_keeping rose reply kept held since calls (inr (rests, inr (cause, tells))) = record { tables = old; rests = rests; answer = inr (refl, inr (since cause, tells)) }
+  module _ (writes : WriteMethod) (is : model_at models call.model ≡ Some info) where
+    -- a method that writes was refused
+    pub refused_writing_serves : (why : Refusal) → IsCalled (Makes writes models called_with) before after (λ _. ⊤) (Err why) → MayTell reply (outcome_text models id (told (Err why)))
+        → ServesOver before after call.now (called id (handed_view (method.Writes writes) call)) reply
+    refused_writing_serves why is_called tells = λ tables rests.
+        let (cause, rest) = is_called.answer tables rests in
+        serves_unchanged models tables call.now (KeeperRose before after) (called id (handed_view (method.Writes writes) call)) reply after.kept after.held rest
+        (refused_step models tables call.now (KeeperRose before after) id (handed_view (method.Writes writes) call) reply why (as_call (method.Writes writes) why tables is cause) tells)
 
--- the same by what the engine answered and what became of it then
-pub created_serves : (models : List ModelInfo) (old : Tables) (c : Called) (id json : Data) (rose_keeping rose : Type 0) (reply : List ℕ) (mid kept : Option Store) (made held : Holding)
-    → (rose_keeping → rose) → model_at models c.model ≡ Some c.info → made.models ≡ models → CreateAnswers mid made old c rose (Ok json)
-    → ((next : Tables) → Stands mid made (settled_over made.models old next) → Keeps rose_keeping id json old next kept held reply)
-    → Serves models old c.now rose (called id (create_of c)) reply kept held
-created_serves models old c id json rose_keeping rose reply mid kept made held since is same (next, creates, stands) keeps =
-    let own : Creates models c.model c.info c.now old c.args c.kw (Ok json) next =
-    subst (λ (ms : List ModelInfo). Creates ms c.model c.info c.now old c.args c.kw (Ok json) next) same creates in
-    kept_serves models old next c id json rose_keeping rose reply kept held since (at_model (λ info. Creates models c.model info c.now old c.args c.kw (Ok json) next) (model_at models c.model) c.info is own) (keeps next stands)
+    -- it was carried out, and was kept with its reply or not
+    kept_serves : (old next : Tables) (json : Data) (last : Standpoint) (rose_keeping rose : Type 0) → (rose_keeping → rose) → Makes writes models called_with old (Ok json) next
+        → Keeps rose_keeping id json old next last.kept last.held reply → Serves models old call.now rose (called id (handed_view (method.Writes writes) call)) reply last.kept last.held
+    kept_serves old next json last rose_keeping rose since makes (inl (rests, tells)) =
+        record { tables = next; rests = rests; answer = inl (Ok json, at_model (λ own. Makes writes models (called_by call own) old (Ok json) next) (model_at models call.model) info is makes, tells) }
+    kept_serves old next json last rose_keeping rose since makes (inr (rests, inl unmade)) = record { tables = old; rests = rests; answer = inr (refl, inl unmade) }
+    kept_serves old next json last rose_keeping rose since makes (inr (rests, inr (cause, tells))) = record { tables = old; rests = rests; answer = inr (refl, inr (since cause, tells)) }
+
+    -- by what became of it
+    pub writing_serves : (json : Data) (last : Standpoint) → (KeeperRose after last → KeeperRose before last) → IsCalled (Makes writes models called_with) before after (λ _. ⊤) (Ok json)
+        → ((old next : Tables) → Stands after.kept after.held (settled_over after.held.models old next) → Keeps (KeeperRose after last) id json old next last.kept last.held reply)
+        → ServesOver before last call.now (called id (handed_view (method.Writes writes) call)) reply
+    writing_serves json last since is_called keeps = λ tables rests.
+        let (next, makes, stands) = is_called.answer tables rests in
+        kept_serves tables next json last (KeeperRose after last) (KeeperRose before last) since makes (keeps tables next stands)
 
 -- the refusal of an element, and its reply, serve the request
 pub element_serves : (models : List ModelInfo) (old : Tables) (now : ℤ) (rose : Type 0) (id : Data) (n : ℕ) (reply : List ℕ) (kept : Option Store) (held : Holding)
@@ -152,14 +173,10 @@ pub no_memory_serves : (models : List ModelInfo) (old : Tables) (now : ℤ) (ros
     → RestsAt kept held old → Serves models old now rose request no_memory_text kept held
 no_memory_serves models old now rose request kept held rests = serves_unchanged models old now rose request no_memory_text kept held rests (inr (refl, inl refl))
 
--- a call of these parts
-abbrev pub call_by : ModelNo → Method → (args kw : Data) → Call
-call_by model meth args kw = record { model = model; method = meth; args = args; kw = kw }
-
 -- a moment and a request under other names
-pub serves_same : (before after : Over) (now moment : ℤ) (rose : Type 0) (request other : Request) (reply : List ℕ)
-    → now ≡ moment → request ≡ other → ServesOver before after now rose request reply → ServesOver before after moment rose other reply
-serves_same before after now moment rose request other reply now_is is serves = rw (← now_is, ← is) serves
+pub serves_same : (before after : Standpoint) (now moment : ℤ) (request other : Request) (reply : List ℕ)
+    → now ≡ moment → request ≡ other → ServesOver before after now request reply → ServesOver before after moment other reply
+serves_same before after now moment request other reply now_is is serves = rw (← now_is, ← is) serves
 
 -- an object without members
 pub empty_object : (map : BTreeMap (String Global) Value) → IsEmpty map → view (Object map) ≡ object no_members
@@ -171,7 +188,14 @@ pub named_or_none : (found : Option (Bor Value)) (none chosen : Bor Value) → v
 named_or_none None none chosen empty is = rw is empty
 named_or_none (Some kw) none chosen empty is = rw is refl
 
--- a call by its parts, as the specs hold it
-pub seen_as : (id : Data) (call : ModelCall) (meth : Method) (kw : Data) → method_view call.method ≡ meth → kw ≡ unwrap_or (option_map (λ k. view k.now) call.kw) (object no_members)
-    → called id (call_by call.model meth (view call.args.now) kw) ≡ called id (call_view call)
-seen_as id call meth kw is kw_is = rw (← is, kw_is) refl
+-- a call by its parts is the one that was read
+pub seen_as : (id : Data) (call : MethodCall) (named : Method) (kw : Data) → call.method ≡ named → kw ≡ unwrap_or (option_map (λ k. view k.now) call.kw) (object no_members)
+    → called id (record { caller = call.caller; model = call.model; method = named; args = view call.args.now; kw = kw }) ≡ called id (call_view call)
+seen_as id call named kw is kw_is = rw (← is, kw_is) refl
+
+-- what each method tells and makes
+pub tells_read : (reads : ReadMethod) → Tells reads ≡ Reads
+tells_read reading.Read = refl
+
+pub makes_create : (writes : WriteMethod) → Makes writes ≡ Creates
+makes_create writing.Create = refl

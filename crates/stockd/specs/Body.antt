@@ -1,5 +1,6 @@
 -- What is done for one body, by an engine that rests at the machine's tables.
 use Rattle.std.specs.Prelude.{ℕ, ℤ, List, Option}
+use Rattle.ob_cache.specs.Calls.{HasTables, KeeperRose, Standpoint, models_at}
 use Rattle.ob_cache.specs.Standing.{Holding, RestsAt}
 use Rattle.ob_io.specs.Store.{Store}
 use Rattle.ob_schema.specs.Tables.{Tables}
@@ -13,11 +14,6 @@ pub record Serves (models : List ModelInfo) (old : Tables) (now : ℤ) (rose : T
   pub rests : RestsAt kept_now held_now tables
   pub answer : MayAnswer models old now rose request reply tables
 
--- what an engine is over: its keeper's rows, where they are told, and what it holds
-pub record Over : Type 0 where
-  pub kept : Option Store
-  pub held : Holding
-
--- at whatever tables the engine rests, the request is served
-abbrev pub ServesOver : (before after : Over) → ℤ → Type 0 → Request → List ℕ → Type 0
-ServesOver before after now rose request reply = (tables : Tables) → RestsAt before.kept before.held tables → Serves before.held.models tables now rose request reply after.kept after.held
+-- at whatever tables the engine rests before it, the request is served
+abbrev pub ServesOver : (before after : Standpoint) → ℤ → Request → List ℕ → Type 0
+ServesOver before after now request reply = (tables : Tables) → HasTables before tables → Serves (models_at before) tables now (KeeperRose before after) request reply after.kept after.held

@@ -1,7 +1,7 @@
 pub mod Lines
 pub mod LineSteps
 pub mod Request
-pub mod ModelCall
+pub mod MethodCall
 pub mod Texts
 pub mod Machine
 pub mod Words

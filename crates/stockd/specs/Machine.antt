@@ -2,26 +2,45 @@
 use Rattle.std.specs.Prelude.{◌≡◌, ℕ, ◌≤◌, ℤ, List, [], ◌∷◌, ◌⊎◌, IsSomeAnd, Result, Ok, Err}
 use Rattle.serde_json.specs.Data.{Data}
 use Rattle.ob_base.specs.declared.refusal.Refusal.{Refusal}
+use Rattle.ob_call.specs.Called.{Called}
 use Rattle.ob_io.specs.Cause.{Rose}
 use Rattle.ob_io.specs.Moments.{later}
 use Rattle.ob_orm.specs.Create.{Creates}
-use Rattle.ob_orm.specs.Read.{Reads}
+use Rattle.ob_query.specs.Read.{Reads}
 use Rattle.ob_rpc.specs.Envelope.{Envelope, Fault, envelope_of}
 use Rattle.ob_rpc.specs.declared.methods.Served.TheVariants.{ExecuteKw}
 use Rattle.ob_schema.specs.Models.{model_at}
 use Rattle.ob_schema.specs.Tables.{Tables}
 use Rattle.ob_schema.specs.declared.info.ModelInfo.{ModelInfo}
-use Rattle.stockd.specs.Request.{Call, Method, create, read, Request, called, malformed, request_of}
+use Rattle.stockd.specs.Request.{Call, Request, called, malformed, request_of}
+use Rattle.stockd.specs.declared.request.Method.{Method}
+use Rattle.stockd.specs.declared.request.Method.TheVariants as method
+use Rattle.stockd.specs.declared.request.ReadMethod.{ReadMethod}
+use Rattle.stockd.specs.declared.request.ReadMethod.TheVariants as reading
+use Rattle.stockd.specs.declared.request.WriteMethod.{WriteMethod}
+use Rattle.stockd.specs.declared.request.WriteMethod.TheVariants as writing
 use Rattle.stockd.specs.Texts.{keeper_text, malformed_text, no_memory_text, outcome_text, told}
 
--- the outcome of a method of a model at a moment, and the tables after it
-abbrev pub Does : Method → List ModelInfo → ModelInfo → Tables → ℤ → Call → Result Data Refusal → Tables → Type 0
-Does create models info old now call outcome new = Creates models call.model info now old call.args call.kw outcome new
-Does read models info old now call outcome new = Reads models call.model info old call.args call.kw outcome × (new ≡ old)
+-- what a method of this model is handed at a moment
+abbrev pub called_at : ℤ → Call → ModelInfo → Called
+called_at now call info = record { caller = call.caller; now = now; model = call.model; info = info; args = call.args; kw = call.kw }
+
+-- what a method that reads tells of tables
+abbrev pub Tells : ReadMethod → List ModelInfo → Called → Tables → Result Data Refusal → Type 0
+Tells reading.Read = Reads
+
+-- what a method that writes makes of tables
+abbrev pub Makes : WriteMethod → List ModelInfo → Called → Tables → Result Data Refusal → Tables → Type 0
+Makes writing.Create = Creates
+
+-- the outcome of a method, and the tables after it: one that reads leaves them
+abbrev pub Means : Method → List ModelInfo → Called → Tables → Result Data Refusal → Tables → Type 0
+Means (method.Reads reads) models handed old outcome new = Tells reads models handed old outcome × (new ≡ old)
+Means (method.Writes writes) models handed old outcome new = Makes writes models handed old outcome new
 
 -- the outcome of a call at a moment, and the tables after it
 abbrev pub Calls : List ModelInfo → Tables → ℤ → Call → Result Data Refusal → Tables → Type 0
-Calls models old now call outcome new = IsSomeAnd (model_at models call.model) (λ info. Does call.method models info old now call outcome new)
+Calls models old now call outcome new = IsSomeAnd (model_at models call.model) (λ info. Means call.method models (called_at now call info) old outcome new)
 
 -- the defined answer to a request: its reply, and the tables after it
 abbrev pub Answers : List ModelInfo → Tables → ℤ → Request → List ℕ → Tables → Type 0

@@ -1,23 +1,25 @@
 -- What a body asks for.
 use Rattle.std.specs.Prelude.{ℕ, ◌==◌, ◌&&◌, List, codes, Bool, false, if◌then◌else◌, Option, Some, None, option_and_then, Result, Ok, Err}
 use Rattle.std.specs.Option.{option_map_or}
+use Rattle.ob_base.specs.Chain.{◌>>=◌}
 use Rattle.ob_base.specs.declared.id.ModelNo.{ModelNo}
+use Rattle.ob_base.specs.declared.id.RecId.{RecId}
 use Rattle.ob_base.specs.declared.place.PathStep.{PathStep}
 use Rattle.ob_rpc.specs.Envelope.{Envelope, Fault, element_place, is_text}
-use Rattle.ob_orm.specs.Served.{serves_calls}
+use Rattle.ob_orm.specs.Creatable.{is_creatable}
 use Rattle.ob_schema.specs.Models.{model_at, model_named}
 use Rattle.ob_schema.specs.declared.info.ModelInfo.{ModelInfo}
 use Rattle.serde_json.specs.Data.{Data, object, no_members, Items, no_items, item}
 use Rattle.serde_json.specs.Events.{items_len}
 use Rattle.serde_json.specs.Find.{as_number, as_str, as_u64}
+use Rattle.stockd.specs.declared.request.Method.{Method}
+use Rattle.stockd.specs.declared.request.Method.TheVariants as method
+use Rattle.stockd.specs.declared.request.ReadMethod.TheVariants as reading
+use Rattle.stockd.specs.declared.request.WriteMethod.TheVariants as writing
 
--- the methods that models serve so far
-pub data Method : Type 0 where
-  create : Method
-  read : Method
-
--- a method of a model, with its arguments by position and by name
+-- a method of a model, with who calls it, and its arguments by position and by name
 pub record Call : Type 0 where
+  pub caller : RecId
   pub model : ModelNo
   pub method : Method
   pub args : Data
@@ -36,17 +38,13 @@ is_integer n d = option_map_or (λ m. m == n) (option_and_then as_u64 (as_number
 abbrev pub is_caller : (user key : Data) → Bool
 is_caller user key = is_integer 2 user && is_text (codes "admin") key
 
--- the model, where it serves calls
-abbrev pub if_served : List ModelInfo → ModelNo → Option ModelNo
-if_served models model = if option_map_or serves_calls (model_at models model) false then Some model else None
+-- the method of a name that a model has: each can be read, and rows are made of those of which a create makes any
+abbrev pub method_named : ModelInfo → Data → Option Method
+method_named info d = if is_text (codes "read") d then Some (method.Reads reading.Read) else (if is_text (codes "create") d && is_creatable info then Some (method.Writes writing.Create) else None)
 
--- the model of a name, where there is one and it serves calls
-abbrev pub served_model : List ModelInfo → Data → Option ModelNo
-served_model models d = option_and_then (if_served models) (option_and_then (model_named models) (as_str d))
-
--- the method of a name
-abbrev pub method_from : Data → Option Method
-method_from d = if is_text (codes "create") d then Some create else (if is_text (codes "read") d then Some read else None)
+-- of the model of a number
+abbrev pub method_of : List ModelInfo → ModelNo → Data → Option Method
+method_of models model d = option_and_then (λ info. method_named info d) (model_at models model)
 
 -- the arguments by name, which may be absent
 abbrev pub named_args : Items → Data
@@ -58,15 +56,11 @@ abbrev pub element : {A : Type 0} → ℕ → Option A → Result A ℕ
 element n None = Err n
 element n (Some x) = Ok x
 
--- a call of a model and a method, where both are there; the first that is wrong is told
-abbrev pub model_call : Result ModelNo ℕ → Result Method ℕ → (args kw : Data) → Result Call ℕ
-model_call (Ok model) (Ok method) args kw = Ok (record { model = model; method = method; args = args; kw = kw })
-model_call (Ok model) (Err n) args kw = Err n
-model_call (Err n) method args kw = Err n
-
--- the call of a caller's model and method, with the rest of the elements
+-- the call of a caller's model and method, with the rest of the elements; the first that is wrong is told
 abbrev pub call_in : List ModelInfo → (model method args : Data) → Items → Result Call ℕ
-call_in models model method args rest = model_call (element 3 (served_model models model)) (element 4 (method_from method)) args (named_args rest)
+call_in models model method args rest =
+    element 3 (option_and_then (model_named models) (as_str model)) >>= λ number. element 4 (method_of models number method)
+    >>= λ named. Ok (record { caller = record { 0 = 2 }; model = number; method = named; args = args; kw = named_args rest })
 
 -- The call that the elements of an envelope make, or the number of the first that is wrong;
 -- where there are fewer than six, of the first that is missing.

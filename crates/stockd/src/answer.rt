@@ -1,43 +1,41 @@
 //! The reply to one body. A reply's bytes are made before its changes are committed,
 //! so that want of memory for them comes before anything is kept.
 
-ghost use Rattle.std.specs.Prelude.{◌≡◌, ◌≤◌, ◌⊎◌, ℕ, ℤ, IfSome, Some, Err, false, option_map};
+ghost use Rattle.std.specs.Prelude.{◌≡◌, ◌≤◌, ◌⊎◌, ℕ, ℤ, IfOk, IfSome, Some, Err, false, option_map, ⊤};
 ghost use Rattle.serde_json.specs.View.{view, items_view};
 ghost use Rattle.serde_json.specs.Written.{has_float};
 ghost use Rattle.ob_base.specs.Times.{IsMoment};
+ghost use Rattle.ob_cache.specs.Calls.{IsAsked, IsCalled, IsResting, models_at, settled_over, standpoint};
 ghost use Rattle.ob_cache.specs.Kept.{OthersStay};
-ghost use Rattle.ob_cache.specs.Standing.{IsAtRest, NextIdsUpTo, RestsAt, Stands, max_next_id};
+ghost use Rattle.ob_cache.specs.Standing.{IsAtRest, NextIdsUpTo, RestsAt, Stands, Stays, max_next_id};
 ghost use Rattle.ob_cache.specs.declared.stages.Phase.TheVariants as phase;
+ghost use Rattle.ob_call.specs.Called.{called_by, result_view};
 ghost use Rattle.ob_io.specs.Cause.{Rose};
-ghost use Rattle.ob_orm.specs.Answer.{settled_over};
 ghost use Rattle.ob_orm.specs.RefusalText.{refusal_message, refusal_name};
-ghost use Rattle.ob_orm.specs.Served.{IsServed};
 ghost use Rattle.ob_rpc.specs.Envelope.{element_place, envelope_of};
 ghost use Rattle.ob_rpc.specs.declared.methods.Served.TheVariants.{ExecuteKw};
 ghost use Rattle.ob_rpc.specs.Reply.{error, reply_form, reply_of, OutcomeHasNoFloat};
 ghost use Rattle.ob_schema.specs.Models.{HasModel, model_at};
 ghost use Rattle.ob_schema.specs.Tables.{Tables};
 ghost use Rattle.stockd.specs.Body.{Serves, ServesOver};
-ghost use Rattle.stockd.specs.Machine.{moments_after};
-ghost use Rattle.stockd.specs.ModelCall.{call_view};
+ghost use Rattle.stockd.specs.Machine.{Makes, Tells, moments_after};
+ghost use Rattle.stockd.specs.MethodCall.{call_view, handed_view};
 ghost use Rattle.stockd.specs.Reply.{Keeps, MayTell, text_of};
-ghost use Rattle.stockd.specs.Request.{call_of, called, create, read, request_by, request_of};
+ghost use Rattle.stockd.specs.Request.{call_of, called, request_by, request_of};
 ghost use Rattle.stockd.specs.Texts.{malformed_text, no_memory_text, outcome_text, told};
 
 use crate::places::{body_place, element_place};
-use crate::request::{Method, ModelCall, call_of};
-use ob_base::{Ledger, NoMemory, RecId, Refusal, Steps, Word};
+use crate::request::{Method, MethodCall, ReadMethod, WriteMethod, call_of};
+use ob_base::{Ledger, NoMemory, Refusal, Steps, Word};
 use ob_cache::Engine;
 use ob_call::Call;
 use ob_io::{Clock, KeepFault, Keeper};
-use ob_orm::{create, read, refusal_text};
+use ob_orm::{create, refusal_text};
+use ob_query::read;
 use ob_rpc::{EnvFault, Envelope, Json, Outcome, Served, envelope, no_memory_reply, reply_text};
 use ob_schema::Schema;
 use serde_json::Map;
 use std::alloc::Global;
-
-/// The one caller so far.
-const CALLER: RecId = RecId(2);
 
 /// The text of a reply, or that there was no memory for it.
 #[derive(Drop)]
@@ -105,12 +103,11 @@ fn serve<K: Keeper, L: Ledger>(
     steps: &mut Steps<L>,
     envelope: &Envelope,
 ) -> Reply
-    requires rest { IsAtRest engine.old.held.models engine.old.held }
+    requires rest { IsResting (standpoint K.Keeper engine.old) }
     requires moment { IsMoment now }
     requires id { has_float (view envelope.now.id) ≡ false }
-    ensures served { ServesOver (record { kept = K.kept engine.old.keeper.now; held = engine.old.held }) (record { kept = K.kept engine.new.keeper.now; held = engine.new.held })
-        now (Rose (K.faults engine.old.keeper.now) (K.faults engine.new.keeper.now))
-        (request_by (view envelope.now.id) (call_of engine.old.held.models (items_view envelope.now.args))) (text_of result) }
+    ensures served { ServesOver (standpoint K.Keeper engine.old) (standpoint K.Keeper engine.new) now
+        (request_by (view envelope.now.id) (call_of (models_at (standpoint K.Keeper engine.old)) (items_view envelope.now.args))) (text_of result) }
     ensures others { OthersStay engine.old.held.models (K.kept engine.old.keeper.now) (K.kept engine.new.keeper.now) }
     ensures rests { IsAtRest engine.old.held.models engine.new.held }
     ensures lender { engine.new.keeper.ghost_name ≡ engine.old.keeper.ghost_name }
@@ -129,86 +126,129 @@ fn serve_call<K: Keeper, L: Ledger>(
     now: i64,
     steps: &mut Steps<L>,
     id: &Json,
-    call: &ModelCall<'_>,
+    call: &MethodCall<'_>,
 ) -> Reply
-    requires rest { IsAtRest engine.old.held.models engine.old.held }
+    requires rest { IsResting (standpoint K.Keeper engine.old) }
     requires moment { IsMoment now }
-    requires model { HasModel engine.old.held.models call.now.model }
-    requires model_served { IfSome (model_at engine.old.held.models call.now.model) IsServed }
+    requires model { HasModel (models_at (standpoint K.Keeper engine.old)) call.now.model }
     requires id { has_float (view id.now) ≡ false }
-    ensures served { ServesOver (record { kept = K.kept engine.old.keeper.now; held = engine.old.held }) (record { kept = K.kept engine.new.keeper.now; held = engine.new.held })
-        now (Rose (K.faults engine.old.keeper.now) (K.faults engine.new.keeper.now))
-        (called (view id.now) (call_view call.now)) (text_of result) }
+    ensures served { ServesOver (standpoint K.Keeper engine.old) (standpoint K.Keeper engine.new) now (called (view id.now) (call_view call.now)) (text_of result) }
     ensures others { OthersStay engine.old.held.models (K.kept engine.old.keeper.now) (K.kept engine.new.keeper.now) }
     ensures rests { IsAtRest engine.old.held.models engine.new.held }
     ensures lender { engine.new.keeper.ghost_name ≡ engine.old.keeper.ghost_name }
     ensures count { K.faults engine.old.keeper.now ≤ K.faults engine.new.keeper.now }
 {
     let none = Json::Object(Map::new(alloc));
-    let called = Call {
-        caller: CALLER,
+    let handed = Call {
+        caller: call.caller,
         now,
         model: call.model,
         args: call.args,
         kw: call.kw.unwrap_or(&none),
     };
     match call.method {
-        Method::Create => serve_create(alloc, engine, steps, id, &called),
-        Method::Read => serve_read(alloc, engine, steps, id, &called),
+        Method::Reads(method) => serve_reading(alloc, engine, steps, id, method, &handed),
+        Method::Writes(method) => serve_writing(alloc, engine, steps, id, method, &handed),
     }
 }
 
-/// Answers a create.
-fn serve_create<K: Keeper, L: Ledger>(
+/// Answers a call that reads.
+fn serve_reading<K: Keeper, L: Ledger>(
     alloc: Global,
     engine: &mut Engine<'_, K>,
     steps: &mut Steps<L>,
     id: &Json,
+    method: ReadMethod,
     call: &Call<'_>,
 ) -> Reply
-    requires rest { IsAtRest engine.old.held.models engine.old.held }
+    requires rest { IsResting (standpoint K.Keeper engine.old) }
     requires moment { IsMoment call.now.now }
-    requires model { HasModel engine.old.held.models call.now.model }
-    requires model_served { IfSome (model_at engine.old.held.models call.now.model) IsServed }
+    requires model { HasModel (models_at (standpoint K.Keeper engine.old)) call.now.model }
     requires id { has_float (view id.now) ≡ false }
-    ensures served { ServesOver (record { kept = K.kept engine.old.keeper.now; held = engine.old.held }) (record { kept = K.kept engine.new.keeper.now; held = engine.new.held })
-        call.entry.now.now (Rose (K.faults engine.old.keeper.now) (K.faults engine.new.keeper.now))
-        (called (view id.now) (record { model = call.entry.now.model; method = create; args = view call.entry.now.args.now; kw = view call.entry.now.kw.now })) (text_of result) }
+    ensures served { ServesOver (standpoint K.Keeper engine.old) (standpoint K.Keeper engine.new) call.entry.now.now
+        (called (view id.now) (handed_view (Method.Reads method) call.entry.now)) (text_of result) }
     ensures others { OthersStay engine.old.held.models (K.kept engine.old.keeper.now) (K.kept engine.new.keeper.now) }
     ensures rests { IsAtRest engine.old.held.models engine.new.held }
     ensures lender { engine.new.keeper.ghost_name ≡ engine.old.keeper.ghost_name }
     ensures count { K.faults engine.old.keeper.now ≤ K.faults engine.new.keeper.now }
 {
-    match create(alloc, engine, call, steps) {
+    match tell(alloc, engine, steps, method, call) {
+        Ok(json) => told(alloc, id, &Outcome::Result(json)),
+        Err(refusal) => call_refused(alloc, engine.schema(), id, refusal),
+    }
+}
+
+/// Answers a call that writes.
+fn serve_writing<K: Keeper, L: Ledger>(
+    alloc: Global,
+    engine: &mut Engine<'_, K>,
+    steps: &mut Steps<L>,
+    id: &Json,
+    method: WriteMethod,
+    call: &Call<'_>,
+) -> Reply
+    requires rest { IsResting (standpoint K.Keeper engine.old) }
+    requires moment { IsMoment call.now.now }
+    requires model { HasModel (models_at (standpoint K.Keeper engine.old)) call.now.model }
+    requires id { has_float (view id.now) ≡ false }
+    ensures served { ServesOver (standpoint K.Keeper engine.old) (standpoint K.Keeper engine.new) call.entry.now.now
+        (called (view id.now) (handed_view (Method.Writes method) call.entry.now)) (text_of result) }
+    ensures others { OthersStay engine.old.held.models (K.kept engine.old.keeper.now) (K.kept engine.new.keeper.now) }
+    ensures rests { IsAtRest engine.old.held.models engine.new.held }
+    ensures lender { engine.new.keeper.ghost_name ≡ engine.old.keeper.ghost_name }
+    ensures count { K.faults engine.old.keeper.now ≤ K.faults engine.new.keeper.now }
+{
+    match make(alloc, engine, steps, method, call) {
         Ok(json) => keep(alloc, engine, id, json),
         Err(refusal) => call_refused(alloc, engine.schema(), id, refusal),
     }
 }
 
-/// Answers a read.
-fn serve_read<K: Keeper, L: Ledger>(
+/// Carries out a method that reads.
+fn tell<K: Keeper, L: Ledger>(
     alloc: Global,
     engine: &mut Engine<'_, K>,
     steps: &mut Steps<L>,
-    id: &Json,
+    method: ReadMethod,
     call: &Call<'_>,
-) -> Reply
-    requires rest { IsAtRest engine.old.held.models engine.old.held }
-    requires moment { IsMoment call.now.now }
-    requires model { HasModel engine.old.held.models call.now.model }
-    requires model_served { IfSome (model_at engine.old.held.models call.now.model) IsServed }
-    requires id { has_float (view id.now) ≡ false }
-    ensures served { ServesOver (record { kept = K.kept engine.old.keeper.now; held = engine.old.held }) (record { kept = K.kept engine.new.keeper.now; held = engine.new.held })
-        call.entry.now.now (Rose (K.faults engine.old.keeper.now) (K.faults engine.new.keeper.now))
-        (called (view id.now) (record { model = call.entry.now.model; method = read; args = view call.entry.now.args.now; kw = view call.entry.now.kw.now })) (text_of result) }
-    ensures others { OthersStay engine.old.held.models (K.kept engine.old.keeper.now) (K.kept engine.new.keeper.now) }
-    ensures rests { IsAtRest engine.old.held.models engine.new.held }
-    ensures lender { engine.new.keeper.ghost_name ≡ engine.old.keeper.ghost_name }
+) -> Result<Json, Refusal>
+    requires model { HasModel (models_at (standpoint K.Keeper engine.old)) call.now.model }
+    requires rest { IsResting (standpoint K.Keeper engine.old) }
+    ensures call { IfSome (model_at (models_at (standpoint K.Keeper engine.old)) call.entry.now.model) (λ info.
+        IsAsked (Tells method (models_at (standpoint K.Keeper engine.old)) (called_by call.entry.now info)) (standpoint K.Keeper engine.old) (standpoint K.Keeper engine.new) (λ _. ⊤) (result_view result)) }
+    ensures plain { IfOk result (λ json. has_float (view json) ≡ false) }
+    ensures same { Stays (K.kept engine.old.keeper.now) engine.old.held (K.kept engine.new.keeper.now) engine.new.held }
     ensures count { K.faults engine.old.keeper.now ≤ K.faults engine.new.keeper.now }
+    ensures lender { engine.new.keeper.ghost_name ≡ engine.old.keeper.ghost_name }
 {
-    match read(alloc, engine, call, steps) {
-        Ok(json) => told(alloc, id, &Outcome::Result(json)),
-        Err(refusal) => call_refused(alloc, engine.schema(), id, refusal),
+    match method {
+        ReadMethod::Read => read(alloc, engine, call, steps),
+    }
+}
+
+/// Carries out a method that writes; what it settles isn't kept yet.
+fn make<K: Keeper, L: Ledger>(
+    alloc: Global,
+    engine: &mut Engine<'_, K>,
+    steps: &mut Steps<L>,
+    method: WriteMethod,
+    call: &Call<'_>,
+) -> Result<Json, Refusal>
+    requires model { HasModel (models_at (standpoint K.Keeper engine.old)) call.now.model }
+    requires moment { IsMoment call.now.now }
+    requires rest { IsResting (standpoint K.Keeper engine.old) }
+    ensures call { IfSome (model_at (models_at (standpoint K.Keeper engine.old)) call.entry.now.model) (λ info.
+        IsCalled (Makes method (models_at (standpoint K.Keeper engine.old)) (called_by call.entry.now info)) (standpoint K.Keeper engine.old) (standpoint K.Keeper engine.new) (λ _. ⊤) (result_view result)) }
+    ensures plain { IfOk result (λ json. has_float (view json) ≡ false) }
+    ensures models { engine.new.held.models ≡ engine.old.held.models }
+    ensures phase { engine.new.held.phase ≡ phase.Settled }
+    ensures next_ids { NextIdsUpTo max_next_id engine.new.held }
+    ensures same { K.kept engine.new.keeper.now ≡ K.kept engine.old.keeper.now }
+    ensures count { K.faults engine.old.keeper.now ≤ K.faults engine.new.keeper.now }
+    ensures lender { engine.new.keeper.ghost_name ≡ engine.old.keeper.ghost_name }
+{
+    match method {
+        WriteMethod::Create => create(alloc, engine, call, steps),
     }
 }
 

@@ -1,29 +1,45 @@
-//! What the elements of an envelope ask for: a call of a model. The caller and the methods that
-//! are served so far stand here; the first element that is wrong is told by its number.
+//! What the elements of an envelope ask for: a call of a method of a model. The caller and which
+//! methods a model has so far stand here; the first element that is wrong is told by its number.
 
-ghost use Rattle.std.specs.Prelude.{◌≡◌, option_map, IfOk, IfSome};
-ghost use Rattle.ob_orm.specs.Served.{IsServed};
-ghost use Rattle.ob_schema.specs.Models.{HasModel, model_at};
-ghost use Rattle.serde_json.specs.View.{view, items_view};
-ghost use Rattle.stockd.specs.ModelCall.{CallIs, method_view};
-ghost use Rattle.stockd.specs.Request.{call_of, is_caller, is_integer, method_from, served_model};
+ghost use Rattle.std.specs.Prelude.{◌≡◌, option_and_then, IfOk, IfSome};
 ghost use Rattle.ob_rpc.specs.Envelope.{is_text};
+ghost use Rattle.ob_schema.specs.Models.{HasModel, model_at, model_named};
+ghost use Rattle.serde_json.specs.Find.{as_str};
+ghost use Rattle.serde_json.specs.View.{view, items_view};
+ghost use Rattle.stockd.specs.MethodCall.{CallIs};
+ghost use Rattle.stockd.specs.Request.{call_of, is_caller, is_integer, method_named};
 
-use ob_base::ModelNo;
-use ob_orm::serves_calls;
+use ob_base::{ModelNo, RecId};
+use ob_orm::is_creatable;
 use ob_rpc::Json;
 use ob_schema::Schema;
 
-/// The methods that models serve.
+/// The one caller so far.
+const CALLER: RecId = RecId(2);
+
+/// The methods that read.
 #[derive(Clone, Copy, Debug, PartialEq, Eq)]
-pub(crate) enum Method {
-    Create,
+pub(crate) enum ReadMethod {
     Read,
 }
 
-/// A call of a model, with its arguments by position and, where they are there, by name.
+/// The methods that write.
+#[derive(Clone, Copy, Debug, PartialEq, Eq)]
+pub(crate) enum WriteMethod {
+    Create,
+}
+
+/// A method of a model.
+#[derive(Clone, Copy, Debug, PartialEq, Eq)]
+pub(crate) enum Method {
+    Reads(ReadMethod),
+    Writes(WriteMethod),
+}
+
+/// A call of a method, with its arguments by position and, where they are there, by name.
 #[derive(Clone, Copy)]
-pub(crate) struct ModelCall<'a> {
+pub(crate) struct MethodCall<'a> {
+    pub(crate) caller: RecId,
     pub(crate) model: ModelNo,
     pub(crate) method: Method,
     pub(crate) args: &'a Json,
@@ -32,9 +48,9 @@ pub(crate) struct ModelCall<'a> {
 
 /// The call that elements make: database, user, key, model, method, arguments, and maybe
 /// arguments by name. Or the number of the first that is wrong, or that is missing.
-pub(crate) fn call_of<'a>(schema: &Schema, elements: &'a [Json]) -> Result<ModelCall<'a>, u64>
+pub(crate) fn call_of<'a>(schema: &Schema, elements: &'a [Json]) -> Result<MethodCall<'a>, u64>
     ensures found { CallIs result (call_of schema.now (items_view elements.now)) }
-    ensures model { IfOk result (λ call. HasModel schema.now call.model × IfSome (model_at schema.now call.model) IsServed) }
+    ensures model { IfOk result (λ call. HasModel schema.now call.model) }
 {
     let [db, user, key, model, method, args, named @ ..] = elements else {
         return Err(elements.len() as u64);
@@ -45,13 +61,14 @@ pub(crate) fn call_of<'a>(schema: &Schema, elements: &'a [Json]) -> Result<Model
     if !is_caller(user, key) {
         return Err(1);
     }
-    let Some(model) = served_model(schema, model) else {
+    let Some(model) = model_named(schema, model) else {
         return Err(3);
     };
-    let Some(method) = method_from(method) else {
+    let Some(method) = method_named(schema, model, method) else {
         return Err(4);
     };
-    Ok(ModelCall {
+    Ok(MethodCall {
+        caller: CALLER,
         model,
         method,
         args,
@@ -66,27 +83,23 @@ fn is_caller(user: &Json, key: &Json) -> bool
     is_integer(user, 2) && is_text(key, "admin")
 }
 
-/// The model of a name, where there is one and it serves calls.
-fn served_model(schema: &Schema, model: &Json) -> Option<ModelNo>
-    ensures found { result ≡ served_model schema.now (view model.now) }
-    ensures served { IfSome result (λ number. HasModel schema.now number × IfSome (model_at schema.now number) IsServed) }
+/// The model of a name.
+fn model_named(schema: &Schema, model: &Json) -> Option<ModelNo>
+    ensures found { result ≡ option_and_then (model_named schema.now) (as_str (view model.now)) }
+    ensures there { IfSome result (HasModel schema.now) }
 {
-    let model = schema.model(model.as_str()?)?;
-    if serves_calls(schema, model) {
-        Some(model)
-    } else {
-        None
-    }
+    schema.model(model.as_str()?)
 }
 
-/// The method of a name.
-fn method_from(method: &Json) -> Option<Method>
-    ensures { option_map method_view result ≡ method_from (view method.now) }
+/// The method of a name that a model has.
+fn method_named(schema: &Schema, model: ModelNo, method: &Json) -> Option<Method>
+    requires model { HasModel schema.now model }
+    ensures { IfSome (model_at schema.now model) (λ info. result ≡ method_named info (view method.now)) }
 {
-    if is_text(method, "create") {
-        Some(Method::Create)
-    } else if is_text(method, "read") {
-        Some(Method::Read)
+    if is_text(method, "read") {
+        Some(Method::Reads(ReadMethod::Read))
+    } else if is_text(method, "create") && is_creatable(schema, model) {
+        Some(Method::Writes(WriteMethod::Create))
     } else {
         None
     }

@@ -14,6 +14,7 @@ mod modules;
 mod opened;
 mod pieces;
 mod places;
+mod relations;
 
 use case::play;
 use std::test::Fail;

@@ -170,7 +170,7 @@ fn faults_of_modules(rt: HostRuntime) -> Result<(), Fail> {
 }
 
 const MODELS_OF_A_MODULE: &str = r#"
-== every type of a served model
+== every type that is no relation
 2 demo.task create [{"notes":"x","due":"2024-02-29","closed":true,"kind":"b","hours":20}]
 = 1
 2 demo.task read [[1],[]]
@@ -203,16 +203,14 @@ kept demo.task 2 01 0009
 status 0
 kept demo.task next 1
 
-== models that serve no calls
-2 demo.note create [{"kind":"a"}]
-! Request malformed at params.args.3
-2 res.users read [[1],["name"]]
-! Request malformed at params.args.3
+== models that aren't there
 2 demo.lines create [{}]
 ! Request malformed at params.args.3
 words call
 2 demo.line create [{}]
 ! Request malformed at params.args.3
+2 res.users read [[1],["name"]]
+! Missing res.users 1 does not exist
 status 0
 
 == a model that two modules declare

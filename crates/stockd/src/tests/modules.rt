@@ -5,8 +5,8 @@ use ob_base::Word;
 use ob_io::MemFiles;
 use std::alloc::Global;
 
-/// The module that each case has: fields of every type that a served model may have so far,
-/// values that are computed in a chain, kept or not, and a model that serves no calls.
+/// The module that each case has: fields of every type that is no relation, values that are
+/// computed in a chain, kept or not, and a value that must be there.
 const DEMO: &str = r#"
 name = "demo"
 depends = ["stock"]

@@ -195,8 +195,8 @@ hold demo.ship 1 01 0003
   > 3 1
 2 demo.line read [[1],["id"]]
 = [{"id":1}]
-2 demo.ship read [[1],["id"]]
-! Request malformed at params.args.3
+2 demo.ship read [[1],["line_id"]]
+= [{"id":1,"line_id":1}]
 status 0
 
 == a reference that dangles

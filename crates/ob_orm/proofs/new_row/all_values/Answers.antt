@@ -9,7 +9,7 @@ use Rattle.ob_orm.proofs.new_row.all_values.Goals.{then-is_plain_kept+in_ok-valu
 pub new_value-requires-clause-givable : goal.new_value-requires-clause-givable
 new_value-requires-clause-givable c =
     let test = c.loop-index-test.true in
-    givable_at c.args.schema.now c.args.model c.model_info.result.now c.loop-index.index c.model_info.ensures.at (omega arith) c.model_info.ensures.fit c.requires.served
+    givable_at c.args.schema.now c.args.model c.model_info.result.now c.loop-index.index c.model_info.ensures.at (omega arith) c.model_info.ensures.fit
 
 pub returns-in_err-value-clause-value : goal.returns-in_err-value-clause-value
 returns-in_err-value-clause-value c =
@@ -27,8 +27,8 @@ loop-index-preserved c =
     let ms = members_view row.members.now.entries in
     let place = spot_place row.spot in
     elim c.if-is_plain_kept.branch [
-      | then-is_plain_kept+in_ok-value+in-Ok w ↦ rw w.values-is (taken_at models c.args.model info i row.now place ms c.info.result.now c.loop-index.values w.push.new.self w.in_ok-value.value
-          c.model_info.ensures.at (omega arith) c.info.ensures (sym c.is_plain_kept.ensures ∙ w.if-is_plain_kept.true) w.in_ok-value.ensures.value w.in_ok-value.ensures.holds w.in-Ok.ensures.ok c.loop-index.invariant)
+      | then-is_plain_kept+in_ok-value+in-Ok w ↦ rw w.values-is (taken_at models c.args.model info i row.now place ms c.info.result.now c.loop-index.values w.push_valued.new.values w.in_ok-value.value
+          c.model_info.ensures.at (omega arith) c.info.ensures (sym c.is_plain_kept.ensures ∙ w.if-is_plain_kept.true) w.in_ok-value.ensures.value w.in_ok-value.ensures.holds w.in-Ok.ensures c.loop-index.invariant)
       | else-is_plain_kept w ↦ rw w.values-is (passed_at models c.args.model info i row.now place ms c.info.result.now c.loop-index.values
           c.model_info.ensures.at (omega arith) c.info.ensures (sym c.is_plain_kept.ensures ∙ w.if-is_plain_kept.false) c.loop-index.invariant)
     ]

@@ -3,7 +3,7 @@ use Rattle.std.proofs.lemmas.Int.{to_z-of_z}
 use Rattle.serde_json.specs.View.{view, items_view}
 use Rattle.ob_base.specs.declared.refusal.Refusal.TheVariants as refusal
 use Rattle.ob_rpc.specs.Envelope.{element_place}
-use Rattle.stockd.specs.ModelCall.{call_view}
+use Rattle.stockd.specs.MethodCall.{call_view}
 use Rattle.stockd.specs.Request.{call_of, request_by}
 use Rattle.stockd.proofs.AnswerLaws.{element_serves, serves_same, tells_by}
 use Rattle.stockd.proofs.answer.serve.Goals as goal
@@ -12,7 +12,7 @@ pub returns-in-Ok-clause-served : goal.returns-in-Ok-clause-served
 returns-in-Ok-clause-served g c =
     let models = c.args.engine.now.held.models in
     let found : call_of models (items_view c.args.envelope.now.args) ≡ Ok (call_view c.in-Ok.call) = rw (← c.as_slice.ensures, ← c.schema.ensures) c.in-Ok.ensures.found in
-    serves_same _ _ _ _ _ _ _ _ (to_z-of_z _ _ c.ranges.now) (sym (ap (request_by (view c.args.envelope.now.id)) found)) c.serve_call.ensures.served
+    serves_same _ _ _ _ _ _ _ (to_z-of_z _ _ c.ranges.now) (sym (ap (request_by (view c.args.envelope.now.id)) found)) c.serve_call.ensures.served
 
 pub returns-in-Err-clause-served : goal.returns-in-Err-clause-served
 returns-in-Err-clause-served g c = λ tables rests.

@@ -1,0 +1,260 @@
+-- The answer of a read, by its arguments and the rows that were fetched.
+use Rattle.std.proofs.Common.{◌≡◌, ℕ, suc, ◌+◌, ◌<◌, List, [], ◌∷◌, map, length, get_or, Option, Some, None, option_map, option_and_then, Result, Ok, Err, refl, sym, ap, subst, ◌∙◌, arith}
+use Rattle.std.specs.Prelude.{All, Contains, IsSome, IfErr, IfSome}
+use Rattle.std.proofs.lemmas.List.Elements.{All-cons, All-nil, All-head, All-tail, All-filter}
+use Rattle.std.proofs.lemmas.List.FromFn.{get_or-enumerate_from, length-enumerate_from}
+use Rattle.std.proofs.lemmas.Option.{IfSome_then, slice_get-get_or}
+use Rattle.ob_base.specs.declared.id.FieldNo.{FieldNo}
+use Rattle.ob_base.specs.declared.place.PathStep.{PathStep}
+use Rattle.ob_base.specs.declared.refusal.Refusal.{Refusal}
+use Rattle.ob_base.specs.declared.refusal.Refusal.TheVariants as refusal
+use Rattle.ob_schema.specs.Fields.{Column, columns}
+use Rattle.ob_schema.specs.Built.{numbered}
+use Rattle.ob_cache.specs.Calls.{HasTables, KeeperRose, Refuses, Standpoint, TellsBy, models_at}
+use Rattle.ob_schema.specs.Models.{fields_of, model_at}
+use Rattle.ob_schema.specs.Tables.{Tables}
+use Rattle.ob_schema.specs.declared.info.FieldInfo.{FieldInfo}
+use Rattle.ob_schema.specs.declared.info.ModelInfo.{ModelInfo}
+use Rattle.serde_json.specs.Data.{Data, null, boolean, number, string, array, object}
+use Rattle.serde_json.specs.View.{view}
+use Rattle.ob_call.specs.Arguments as arguments
+use Rattle.ob_base.specs.Chain.{◌>>=◌}
+use Rattle.ob_call.specs.Arguments.{AreFit, arguments_of}
+use Rattle.ob_call.specs.Called.{Called, called_by}
+use Rattle.ob_call.specs.Forms.{fields_at}
+use Rattle.ob_codec.specs.Commands.{listed}
+use Rattle.ob_call.specs.ArgumentsSteps.{all_given_of, given_of}
+use Rattle.ob_call.specs.Results.{IsResultOf}
+use Rattle.ob_query.specs.Read.{Asked, IsLeastMissing, ReadCause, ReadRefuses, Reads, TellsRows, asked_by, asked_columns, asked_of, columns_in, columns_named, ids_in, once, read_expects}
+use Rattle.ob_query.specs.ReadParts.{columns_at}
+use Rattle.ob_query.specs.ReadRows.{AnswersRows, IsMissingAmong, MissesLeast}
+use Rattle.ob_call.specs.declared.arguments.Given.{Given}
+use Rattle.ob_call.specs.declared.call.Call.{Call}
+use Rattle.ob_query.proofs.ReadNumbers.{numbers_in}
+use Rattle.ob_cache.proofs.CallerLemmas.{Refuses-weaker}
+use Rattle.ob_call.proofs.CallerLemmas.{at_info}
+use Rattle.ob_query.proofs.ReadGiven.{ReadGiven, read_given}
+use Rattle.ob_call.proofs.CallerLemmas.{numbered-before}
+
+-- ---- the fields that are asked for
+
+-- the column is that of its number
+abbrev IsOwn : ModelInfo → Column → Type 0
+IsOwn info column = numbered info.fields column.0 ≡ Some column.1
+
+-- each column of a model is that of its number
+own_columns : (info : ModelInfo) → All (IsOwn info) (columns info)
+own_columns info k d lt =
+    let within : k < length info.fields = let e = length-enumerate_from 1 info.fields in omega arith in
+    let place : 1 + k ≡ suc k = omega arith in
+    subst (IsOwn info) (sym (get_or-enumerate_from 1 info.fields k d within))
+    (ap (numbered info.fields) place ∙ slice_get-get_or info.fields k d.1 within)
+
+-- and those that a list names
+own_named : (info : ModelInfo) (names : List Data) → All (IsOwn info) (columns_named info names)
+own_named info [] = own_columns info
+own_named info (d ∷ ds) = All-filter _ (IsOwn info) (columns info) (own_columns info)
+
+-- and those of an argument
+own_in : (info : ModelInfo) (d : Data) → All (IsOwn info) (columns_in info d)
+own_in info null = All-nil (IsOwn info)
+own_in info (boolean b) = All-nil (IsOwn info)
+own_in info (number n) = All-nil (IsOwn info)
+own_in info (string text) = All-nil (IsOwn info)
+own_in info (array items) = own_named info (listed items)
+own_in info (object _) = All-nil (IsOwn info)
+
+-- and those that are asked for
+own_asked : (info : ModelInfo) (g : Option arguments.Given) → All (IsOwn info) (asked_columns info g)
+own_asked info None = own_columns info
+own_asked info (Some g) = own_in info g.json
+
+-- the columns of these numbers are those that have them
+same_columns : (info : ModelInfo) (numbers : List FieldNo) (cs : List Column) → numbers_in numbers ≡ map (λ c. c.0) cs → All (IsOwn info) cs → columns_at info numbers ≡ cs
+same_columns info [] [] e own = refl
+same_columns info [] (c ∷ cs) e own = absurd cc
+same_columns info (n ∷ numbers) [] e own = absurd cc
+same_columns info (n ∷ numbers) (c ∷ cs) e own =
+    let first : n.0 ≡ c.0 = cc in
+    let rest : numbers_in numbers ≡ map (λ (x : Column). x.0) cs = cc in
+    let here : numbered info.fields n.0 ≡ Some c.1 = ap (numbered info.fields) first ∙ All-head (IsOwn info) c cs own in
+    rw (numbered-before info.fields info.hidden n.0 c.1 here) (ap (λ (m : ℕ). (m, c.1) ∷ columns_at info numbers) first ∙ ap (λ (xs : List Column). c ∷ xs) (same_columns info numbers cs rest (All-tail (IsOwn info) c cs own)))
+
+-- a field of this number is there
+abbrev IsThere : Option ModelInfo → FieldNo → Type 0
+IsThere found n = IsSome (option_and_then (λ info. numbered (fields_of info) n.0) found)
+
+-- each of the numbers is that of a field
+there_each : (info : ModelInfo) (numbers : List FieldNo) (cs : List Column) → numbers_in numbers ≡ map (λ c. c.0) cs → All (IsOwn info) cs → All (IsThere (Some info)) numbers
+there_each info [] cs e own = All-nil (IsThere (Some info))
+there_each info (n ∷ numbers) [] e own = absurd cc
+there_each info (n ∷ numbers) (c ∷ cs) e own =
+    let first : n.0 ≡ c.0 = cc in
+    let rest : numbers_in numbers ≡ map (λ (x : Column). x.0) cs = cc in
+    let here : numbered info.fields n.0 ≡ Some c.1 = ap (numbered info.fields) first ∙ All-head (IsOwn info) c cs own in
+    All-cons (IsThere (Some info)) n numbers (rw (numbered-before info.fields info.hidden n.0 c.1 here) refl) (there_each info numbers cs rest (All-tail (IsOwn info) c cs own))
+
+-- the numbers are those of the fields that are asked for
+abbrev pub AreAsked : Option ModelInfo → Option Given → List FieldNo → Type 0
+AreAsked found given numbers = IfSome found (λ info. numbers_in numbers ≡ map (λ c. c.0) (asked_columns info (option_map given_of given)))
+
+-- the numbers that are asked for are those of fields
+pub asked_there : (found : Option ModelInfo) (given : Option Given) (numbers : List FieldNo) → IsSome found → AreAsked found given numbers → All (IsThere found) numbers
+asked_there None given numbers known are = absurd cc
+asked_there (Some info) given numbers known are = there_each info numbers (asked_columns info (option_map given_of given)) are (own_asked info (option_map given_of given))
+
+-- ---- the arguments
+
+-- these are the arguments
+abbrev pub AreGiven : Option ModelInfo → Data → Data → List (Option Given) → Type 0
+AreGiven found args kw given = IfSome found (λ info. arguments_of (read_expects info.fields) args kw ≡ Ok (all_given_of given))
+
+-- three arguments, the first of which is given
+pub record Three (given : List (Option Given)) : Type 0 where
+  pub first : Given
+  pub second : Option Given
+  pub third : Option Given
+  pub are : given ≡ Some first ∷ second ∷ third ∷ []
+
+-- the arguments are three where what they stand for is
+three_of : (given : List (Option Given)) (ids : arguments.Given) (fields load : Option arguments.Given) → map (option_map given_of) given ≡ Some ids ∷ fields ∷ load ∷ [] → Three given
+three_of [] ids fields load e = absurd cc
+three_of (None ∷ given) ids fields load e = absurd cc
+three_of (Some first ∷ []) ids fields load e = absurd cc
+three_of (Some first ∷ second ∷ []) ids fields load e = absurd cc
+three_of (Some first ∷ second ∷ third ∷ []) ids fields load e = record { first = first; second = second; third = third; are = refl }
+three_of (Some first ∷ second ∷ third ∷ more ∷ given) ids fields load e = absurd cc
+
+-- the arguments of a read that fit
+pub three_given : (fields : List FieldInfo) (given : List (Option Given)) → AreFit (read_expects fields) (all_given_of given) → Three given
+three_given fields given fit = let is : ReadGiven (all_given_of given) = read_given fields (all_given_of given) fit in three_of given is.ids is.fields is.load is.three
+
+-- what is asked for: these ids, and the fields of these numbers
+pub record Asks (c : Called) (ids : List ℕ) (numbers : List FieldNo) : Type 0 where
+  pub asked : Asked
+  pub is : asked_of c ≡ Ok asked
+  pub ids_are : asked.ids ≡ ids
+  pub fields_are : asked.fields ≡ columns_at c.info numbers
+
+-- what the arguments ask for
+asks : (c : Called) (given : List (Option Given)) (three : Three given) (ids : List ℕ) (numbers : List FieldNo) → arguments_of (read_expects c.info.fields) c.args c.kw ≡ Ok (all_given_of given)
+    → ids ≡ once (ids_in (view three.first.json.now)) → AreAsked (Some c.info) three.second numbers → Asks c ids numbers
+asks c given three ids numbers are ids_are numbers_are = record {
+  asked = asked_by c.info (map (option_map given_of) (Some three.first ∷ three.second ∷ three.third ∷ []));
+  is = ap (λ (r : Result (List (Option arguments.Given)) _). r >>= λ gs. Ok (asked_by c.info gs)) are
+      ∙ ap (λ (gs : List (Option Given)). Ok (asked_by c.info (map (option_map given_of) gs))) three.are;
+  ids_are = sym ids_are;
+  fields_are = sym (same_columns c.info numbers (asked_columns c.info (option_map given_of three.second)) numbers_are (own_asked c.info (option_map given_of three.second)));
+}
+
+-- what the call asks for, of a model that may be there
+abbrev pub AsksIn : Option ModelInfo → Call → List ℕ → List FieldNo → Type 0
+AsksIn found call ids numbers = IfSome found (λ info. Asks (called_by call info) ids numbers)
+
+-- the ids and numbers by the arguments at their places
+pub asks_in : (found : Option ModelInfo) (call : Call) (given : List (Option Given)) (first : Given) (second : Option Given) (ids : List ℕ) (numbers : List FieldNo) → Three given
+    → AreGiven found (view call.args.now) (view call.kw.now) given
+    → Some first ≡ get_or given 0 (Some first) → second ≡ get_or given 1 second → ids ≡ once (ids_in (view first.json.now)) → AreAsked found second numbers → AsksIn found call ids numbers
+asks_in None call given first second ids numbers three are one two ids_are numbers_are = tt
+asks_in (Some info) call given first second ids numbers three are one two ids_are numbers_are =
+    let same_first : first ≡ three.first = let e : Some first ≡ Some three.first = one ∙ ap (λ (gs : List (Option Given)). get_or gs 0 (Some first)) three.are in cc in
+    let same_second : second ≡ three.second = two ∙ ap (λ (gs : List (Option Given)). get_or gs 1 second) three.are in
+    asks (called_by call info) given three ids numbers are (ids_are ∙ ap (λ (g : Given). once (ids_in (view g.json.now))) same_first) (subst (λ (g : Option Given). AreAsked (Some info) g numbers) same_second numbers_are)
+
+-- ---- the answer
+
+-- the call of a model over these arguments
+misses : (c : Called) (tables : Tables) (ids : List ℕ) (numbers : List FieldNo) → Asks c ids numbers → (why : Refusal) → MissesLeast c.model tables ids why → ReadRefuses c tables why
+misses c tables ids numbers a (refusal.Missing m id) h = (a.asked, a.is, h.0, subst (λ (xs : List ℕ). IsLeastMissing c.model tables xs id.0) (sym a.ids_are) h.1)
+misses c tables ids numbers a (refusal.Request place) h = absurd h
+misses c tables ids numbers a (refusal.Right m op) h = absurd h
+misses c tables ids numbers a (refusal.FieldRight m field) h = absurd h
+misses c tables ids numbers a (refusal.Rule m op id name) h = absurd h
+misses c tables ids numbers a (refusal.Constraint b) h = absurd h
+misses c tables ids numbers a refusal.Keeper h = absurd h
+misses c tables ids numbers a refusal.NoMemory h = absurd h
+
+-- the rows' answer is the read's
+answered : (models : List ModelInfo) (c : Called) (before after : Standpoint) (tables : Tables) (ids : List ℕ) (numbers : List FieldNo) (r : Result Data Refusal) → Asks c ids numbers
+    → AnswersRows models tables c.model (columns_at c.info numbers) ids (KeeperRose before after) r → TellsBy (Reads models c) before after tables r
+answered models c before after tables ids numbers (Ok json) a h = (
+  a.asked,
+  h.0,
+  a.is,
+  subst (λ (cs : List Column). TellsRows models tables c.model cs a.asked.ids h.0) (sym a.fields_are) (subst (λ (xs : List ℕ). TellsRows models tables c.model (columns_at c.info numbers) xs h.0) (sym a.ids_are) h.1),
+  h.2,
+)
+answered models c before after tables ids numbers (Err why) a h =
+    Refuses-weaker (KeeperRose before after) (KeeperRose before after) (MissesLeast c.model tables ids) (ReadRefuses c tables) why (λ r. r) (misses c tables ids numbers a) h
+
+-- an id that is missing was asked for
+cause_of : (c : Called) (ids : List ℕ) (numbers : List FieldNo) → Asks c ids numbers → (why : Refusal) → IsMissingAmong c.model ids why → ReadCause c why
+cause_of c ids numbers a (refusal.Missing m id) h = (a.asked, a.is, h.0, subst (λ (xs : List ℕ). Contains xs id.0) (sym a.ids_are) h.1)
+cause_of c ids numbers a (refusal.Request place) h = absurd h
+cause_of c ids numbers a (refusal.Right m op) h = absurd h
+cause_of c ids numbers a (refusal.FieldRight m field) h = absurd h
+cause_of c ids numbers a (refusal.Rule m op id name) h = absurd h
+cause_of c ids numbers a (refusal.Constraint b) h = absurd h
+cause_of c ids numbers a refusal.Keeper h = absurd h
+cause_of c ids numbers a refusal.NoMemory h = absurd h
+
+-- the same, of a model that may be there
+answered_in : (models : List ModelInfo) (found : Option ModelInfo) (call : Call) (before after : Standpoint) (ids : List ℕ) (numbers : List FieldNo) (r : Result Data Refusal) (tables : Tables) → AsksIn found call ids numbers
+    → IfSome found (λ info. AnswersRows models tables call.model (columns_at info numbers) ids (KeeperRose before after) r) → IfSome found (λ info. TellsBy (Reads models (called_by call info)) before after tables r)
+answered_in models None call before after ids numbers r tables a h = tt
+answered_in models (Some info) call before after ids numbers r tables a h = answered models (called_by call info) before after tables ids numbers r a h
+
+-- what a read tells of these tables, of a model that may be there
+abbrev pub TellsRead : Call → Standpoint → Standpoint → Tables → Result Data Refusal → Type 0
+TellsRead call before after tables r = IfSome (model_at (models_at before) call.model) (λ info. TellsBy (Reads (models_at before) (called_by call info)) before after tables r)
+
+-- by the tables at which the engine rests it is the machine's answer
+pub told_answer : (call : Call) (before after : Standpoint) (ids : List ℕ) (numbers : List FieldNo) (r : Result Data Refusal) → AsksIn (model_at (models_at before) call.model) call ids numbers
+    → ((tables : Tables) → HasTables before tables
+    → IfSome (model_at (models_at before) call.model) (λ info. AnswersRows (models_at before) tables call.model (columns_at info numbers) ids (KeeperRose before after) r))
+    → (tables : Tables) → HasTables before tables → TellsRead call before after tables r
+told_answer call before after ids numbers r a told tables rests = answered_in (models_at before) (model_at (models_at before) call.model) call before after ids numbers r tables a (told tables rests)
+
+-- over any keeper a refusal has its cause
+pub told_causes : {T : Type 0} (found : Option ModelInfo) (call : Call) (rose : Type 0) (ids : List ℕ) (numbers : List FieldNo) (r : Result T Refusal) → AsksIn found call ids numbers
+    → IfErr r (Refuses rose (IsMissingAmong call.model ids)) → IfErr r (Refuses rose (λ why. IfSome found (λ info. ReadCause (called_by call info) why)))
+told_causes found call rose ids numbers (Ok json) a missing = tt
+told_causes found call rose ids numbers (Err why) a missing =
+    Refuses-weaker rose rose (IsMissingAmong call.model ids) (λ cause. IfSome found (λ info. ReadCause (called_by call info) cause)) why (λ r. r)
+    (λ cause h. IfSome_then found a (λ info b. cause_of (called_by call info) ids numbers b cause h)) missing
+
+-- ---- arguments that are refused
+
+-- arguments that are wrong at a place ask for nothing
+abbrev IsWrongAt : Call → List PathStep → ModelInfo → Type 0
+IsWrongAt call place info = asked_of (called_by call info) ≡ Err place
+
+wrong_at : (models : List ModelInfo) (call : Call) (place : List PathStep) → arguments_of (read_expects (fields_at models call.model)) (view call.args.now) (view call.kw.now) ≡ Err place
+    → IfSome (model_at models call.model) (IsWrongAt call place)
+wrong_at models call place e =
+    IfSome_then (model_at models call.model) (at_info models call.model (λ fields. arguments_of (read_expects fields) (view call.args.now) (view call.kw.now) ≡ Err place) e)
+    (λ info is. ap (λ (r : Result (List (Option arguments.Given)) (List PathStep)). r >>= λ gs. Ok (asked_by info gs)) is)
+
+-- that is the cause
+pub denied_cause : {A : Type 0} (of : A → List (Option arguments.Given)) (models : List ModelInfo) (call : Call) (rose : Type 0) (why : Refusal)
+    → IsResultOf of (Err why) (arguments_of (read_expects (fields_at models call.model)) (view call.args.now) (view call.kw.now))
+    → Refuses rose (λ w. IfSome (model_at models call.model) (λ info. ReadCause (called_by call info) w)) why
+denied_cause of models call rose (refusal.Request place) e = wrong_at models call place e
+denied_cause of models call rose refusal.NoMemory e = tt
+denied_cause of models call rose _ e = absurd e
+
+-- and the machine's answer
+denied_over : {A : Type 0} (of : A → List (Option arguments.Given)) (call : Call) (before after : Standpoint) (why : Refusal) (tables : Tables)
+    → IsResultOf of (Err why) (arguments_of (read_expects (fields_at (models_at before) call.model)) (view call.args.now) (view call.kw.now)) → TellsRead call before after tables (Err why)
+denied_over of call before after (refusal.Request place) tables e = wrong_at (models_at before) call place e
+denied_over of call before after refusal.NoMemory tables e =
+    everywhere (model_at (models_at before) call.model) (λ info. TellsBy (Reads (models_at before) (called_by call info)) before after tables (Err refusal.NoMemory)) (λ info. tt) where
+      everywhere : (o : Option ModelInfo) (P : ModelInfo → Type 0) → ((info : ModelInfo) → P info) → IfSome o P
+      everywhere None P each = tt
+      everywhere (Some info) P each = each info
+denied_over of call before after _ tables e = absurd e
+
+pub denied_answer : {A : Type 0} (of : A → List (Option arguments.Given)) (call : Call) (before after : Standpoint) (why : Refusal)
+    → IsResultOf of (Err why) (arguments_of (read_expects (fields_at (models_at before) call.model)) (view call.args.now) (view call.kw.now))
+    → (tables : Tables) → HasTables before tables → TellsRead call before after tables (Err why)
+denied_answer of call before after why e tables rests = denied_over of call before after why tables e

@@ -1,0 +1,197 @@
+-- The steps of fetching rows one after another.
+use Rattle.std.proofs.Common.{◌≡◌, inl, inr, ℕ, ◌≤◌, false, min, List, [], ◌∷◌, ◌++◌, map, Option, Some, None, Ok, Err, refl, sym, subst, arith}
+use Rattle.std.specs.Prelude.{IfSome, IsSome, All, Contains}
+use Rattle.std.specs.Option.{option_map_or}
+use Rattle.std.proofs.lemmas.Bool.{cases_lt}
+use Rattle.std.proofs.lemmas.List.{map-append}
+use Rattle.std.proofs.lemmas.Option.{IfSome_then}
+use Rattle.std.proofs.lemmas.List.Elements.{All-push, All-weaker, All-cons, All-nil, Contains-push, Contains-append_left}
+use Rattle.ob_base.specs.declared.id.FieldNo.{FieldNo}
+use Rattle.ob_base.specs.declared.id.ModelNo.{ModelNo}
+use Rattle.ob_base.specs.declared.refusal.Refusal.TheVariants as refusal
+use Rattle.ob_cache.specs.Standing.{Holding, RestsAt, Stays}
+use Rattle.ob_io.specs.Store.{Store}
+use Rattle.ob_schema.specs.Fields.{Column}
+use Rattle.ob_schema.specs.Models.{model_at}
+use Rattle.ob_schema.specs.Tables.{PlainRow, Tables, row_at}
+use Rattle.ob_schema.specs.declared.info.ModelInfo.{ModelInfo}
+use Rattle.serde_json.specs.Data.{Data, array}
+use Rattle.serde_json.specs.View.{items_of, view}
+use Rattle.serde_json.specs.Written.{has_float, items_have_float}
+use Rattle.serde_json.specs.declared.value.Value.{Value as Json}
+use Rattle.ob_query.specs.Read.{IsLeastMissing, TellsRow, TellsRows}
+use Rattle.ob_query.specs.ReadParts.{TellsOrMisses, columns_at}
+use Rattle.ob_query.specs.ReadRows.{AnswersRows}
+use Rattle.ob_query.proofs.ReadObjects.{both_plain, left_plain, right_plain, stays-rests}
+use Rattle.ob_cache.proofs.CallerLemmas.{stays-then}
+
+module _ (models : List ModelInfo) (model : ModelNo) (tables : Tables) where
+  -- the objects of the ids so far, or the least id of those that no row has
+  abbrev pub Fetched : List Column → List ℕ → List Data → Option ℕ → Type 0
+  Fetched fields ids objects None = TellsRows models tables model fields ids objects
+  Fetched fields ids objects (Some id) = IsLeastMissing model tables ids id
+
+  -- an id that has a row is not missing
+  has_row : (id other : ℕ) → IsSome (row_at tables model (record { 0 = other })) → row_at tables model (record { 0 = other }) ≡ None → id ≤ other
+  has_row id other there none = absurd (let e = subst (λ (o : Option PlainRow). IsSome o) none there in cc)
+
+  -- no id above one that no row has
+  abbrev Least : ℕ → ℕ → Type 0
+  Least id other = row_at tables model (record { 0 = other }) ≡ None → id ≤ other
+
+  -- none of the ids of rows is missing
+  all_there : (fields : List Column) (id : ℕ) (ids : List ℕ) (objects : List Data) → TellsRows models tables model fields ids objects → All (Least id) ids
+  all_there fields id [] [] tell = All-nil (Least id)
+  all_there fields id [] (d ∷ objects) tell = absurd tell
+  all_there fields id (other ∷ ids) [] tell = absurd tell
+  all_there fields id (other ∷ ids) (d ∷ objects) tell = All-cons (Least id) other ids (has_row id other tell.0) (all_there fields id ids objects tell.2)
+
+  -- one row more is told
+  one_more : (fields : List Column) (ids : List ℕ) (objects : List Data) (id : ℕ) (d : Data) → TellsRows models tables model fields ids objects → IsSome (row_at tables model (record { 0 = id }))
+      → TellsRow models tables model fields (record { 0 = id }) d → TellsRows models tables model fields (ids ++ id ∷ []) (objects ++ d ∷ [])
+  one_more fields [] [] id d tell there told = (there, told, tt)
+  one_more fields [] (o ∷ objects) id d tell there told = absurd tell
+  one_more fields (other ∷ ids) [] id d tell there told = absurd tell
+  one_more fields (other ∷ ids) (o ∷ objects) id d tell there told = (tell.0, tell.1, one_more fields ids objects id d tell.2 there told)
+
+  -- one row more was fetched
+  fetched_row : (fields : List Column) (ids : List ℕ) (objects : List Data) (missing : Option ℕ) (id : ℕ) (d : Data) → Fetched fields ids objects missing → IsSome (row_at tables model (record { 0 = id }))
+      → TellsRow models tables model fields (record { 0 = id }) d
+      → Fetched fields (ids ++ id ∷ []) (objects ++ d ∷ []) missing
+  fetched_row fields ids objects None id d tell there told = one_more fields ids objects id d tell there told
+  fetched_row fields ids objects (Some gap) id d are there told = record {
+    asked = Contains-append_left ids (id ∷ []) gap are.asked;
+    missing = are.missing;
+    least = All-push (Least gap) ids id are.least (has_row gap id there);
+  }
+
+  -- of two ids that are missing the lesser one is the least
+  lesser : (ids : List ℕ) (gap id : ℕ) → IsLeastMissing model tables ids gap → row_at tables model (record { 0 = id }) ≡ None → IsLeastMissing model tables (ids ++ id ∷ []) (min gap id)
+  lesser ids gap id are none =
+      elim (cases_lt gap id) [
+        | inl lt ↦ (let same : min gap id ≡ gap = omega arith in
+            rw same (record {
+              asked = Contains-append_left ids (id ∷ []) gap are.asked;
+              missing = are.missing;
+              least = All-push (Least gap) ids id are.least (λ e. omega arith);
+            }))
+        | inr le ↦ (let same : min gap id ≡ id = omega arith in
+            rw same (record {
+              asked = Contains-push ids id;
+              missing = none;
+              least = All-push (Least id) ids id (All-weaker (Least gap) (Least id) (λ x h e. let lower = h e in omega arith) ids are.least) (λ e. omega arith);
+            }))
+      ]
+
+-- the least of an id and the one before it
+abbrev pub least_of : Option ℕ → ℕ → ℕ
+least_of before id = option_map_or (λ other. min other id) before id
+
+-- one id more is missing
+fetched_gap : (models : List ModelInfo) (model : ModelNo) (tables : Tables) (fields : List Column) (ids : List ℕ) (objects : List Data) (missing : Option ℕ) (id : ℕ) → Fetched models model tables fields ids objects missing
+    → row_at tables model (record { 0 = id }) ≡ None
+    → Fetched models model tables fields (ids ++ id ∷ []) objects (Some (least_of missing id))
+fetched_gap models model tables fields ids objects None id tell none = record {
+  asked = Contains-push ids id;
+  missing = none;
+  least = All-push (Least models model tables id) ids id (all_there models model tables fields id ids objects tell) (λ e. omega arith);
+}
+fetched_gap models model tables fields ids objects (Some gap) id are none = lesser models model tables ids gap id are none
+
+-- the least of the missing ids was asked for
+asked_gap : (ids : List ℕ) (missing : Option ℕ) (id : ℕ) → IfSome missing (Contains ids) → Contains (ids ++ id ∷ []) (least_of missing id)
+asked_gap ids None id asked = Contains-push ids id
+asked_gap ids (Some gap) id asked =
+    elim (cases_lt gap id) [
+      | inl lt ↦ (let same : min gap id ≡ gap = omega arith in rw same (Contains-append_left ids (id ∷ []) gap asked))
+      | inr le ↦ (let same : min gap id ≡ id = omega arith in rw same (Contains-push ids id))
+    ]
+
+-- it still is, with one id more
+asked_still : (ids : List ℕ) (missing : Option ℕ) (id : ℕ) → IfSome missing (Contains ids) → IfSome missing (Contains (ids ++ id ∷ []))
+asked_still ids None id asked = tt
+asked_still ids (Some gap) id asked = Contains-append_left ids (id ∷ []) gap asked
+
+-- one object more without a float
+plain_push : (objects : List Data) (d : Data) → items_have_float (items_of objects) ≡ false → has_float d ≡ false → items_have_float (items_of (objects ++ d ∷ [])) ≡ false
+plain_push [] d e f = both_plain (has_float d) false f refl
+plain_push (o ∷ objects) d e f =
+    both_plain (has_float o) (items_have_float (items_of (objects ++ d ∷ []))) (left_plain (has_float o) (items_have_float (items_of objects)) e)
+    (plain_push objects d (right_plain (has_float o) (items_have_float (items_of objects)) e) f)
+
+-- ---- of a model that may be there
+
+-- the objects of the ids so far, or the least that is missing, with the fields of these numbers
+abbrev pub FetchedIn : List ModelInfo → Option ModelInfo → ModelNo → List FieldNo → List ℕ → List Json → Option ℕ → Tables → Type 0
+FetchedIn models found model numbers ids objects missing tables = IfSome found (λ info. Fetched models model tables (columns_at info numbers) ids (map view objects) missing)
+
+-- an object tells of the id's row, or there is none
+abbrev pub ObjectIn : List ModelInfo → Option ModelInfo → ModelNo → List FieldNo → ℕ → Option Json → Tables → Type 0
+ObjectIn models found model numbers id told tables = IfSome found (λ info. TellsOrMisses models tables model (columns_at info numbers) (record { 0 = id }) told)
+
+-- one row more was fetched, of a model that may be there
+row_in : (models : List ModelInfo) (found : Option ModelInfo) (model : ModelNo) (numbers : List FieldNo) (ids : List ℕ) (objects : List Json) (missing : Option ℕ) (id : ℕ) (json : Json) (tables : Tables)
+    → FetchedIn models found model numbers ids objects missing tables → ObjectIn models found model numbers id (Some json) tables → FetchedIn models found model numbers (ids ++ id ∷ []) (objects ++ json ∷ []) missing tables
+row_in models None model numbers ids objects missing id json tables so_far are = tt
+row_in models (Some info) model numbers ids objects missing id json tables so_far are =
+    subst (λ (ds : List Data). Fetched models model tables (columns_at info numbers) (ids ++ id ∷ []) ds missing) (sym (map-append view objects (json ∷ [])))
+    (fetched_row models model tables (columns_at info numbers) ids (map view objects) missing id (view json) so_far are.0 are.1)
+
+-- one id more is missing, of a model that may be there
+gap_in : (models : List ModelInfo) (found : Option ModelInfo) (model : ModelNo) (numbers : List FieldNo) (ids : List ℕ) (objects : List Json) (missing : Option ℕ) (id : ℕ) (tables : Tables)
+    → FetchedIn models found model numbers ids objects missing tables → ObjectIn models found model numbers id None tables → FetchedIn models found model numbers (ids ++ id ∷ []) objects (Some (least_of missing id)) tables
+gap_in models None model numbers ids objects missing id tables so_far none = tt
+gap_in models (Some info) model numbers ids objects missing id tables so_far none = fetched_gap models model tables (columns_at info numbers) ids (map view objects) missing id so_far none
+
+-- ---- what holds after the ids so far were fetched, of an engine as it was and as it is
+
+-- the engine is as it was, and the ids so far were fetched by the tables at which it rests
+pub record IsFetching (kept : Option Store) (held : Holding) (now : Option Store) (new : Holding) (model : ModelNo) (numbers : List FieldNo) (ids : List ℕ) (objects : List Json) (missing : Option ℕ) : Type 0 where
+  pub same : Stays kept held now new
+  pub told : (tables : Tables) → RestsAt kept held tables → FetchedIn held.models (model_at held.models model) model numbers ids objects missing tables
+  pub asked : IfSome missing (Contains ids)
+  pub plain : items_have_float (items_of (map view objects)) ≡ false
+
+module _ (kept : Option Store) (held : Holding) (now : Option Store) (new : Holding) (model : ModelNo) (numbers : List FieldNo) where
+  -- what was told by an engine that asked before
+  by_first : (told : Option Json) (id : ℕ) → Stays kept held now new → ((tables : Tables) → RestsAt now new tables → ObjectIn new.models (model_at new.models model) model numbers id told tables)
+      → (tables : Tables) → RestsAt kept held tables → ObjectIn held.models (model_at held.models model) model numbers id told tables
+  by_first told id same found tables rests =
+      subst (λ (models : List ModelInfo). ObjectIn models (model_at models model) model numbers id told tables) same.models (found tables (stays-rests kept now held new same tables rests))
+
+  -- the next id has a row
+  pub IsFetching-row : (after : Option Store) (next : Holding) (ids : List ℕ) (objects : List Json) (missing : Option ℕ) (id : ℕ) (json : Json)
+      → ((tables : Tables) → RestsAt now new tables → ObjectIn new.models (model_at new.models model) model numbers id (Some json) tables) → has_float (view json) ≡ false → Stays now new after next
+      → IsFetching kept held now new model numbers ids objects missing → IsFetching kept held after next model numbers (ids ++ id ∷ []) (objects ++ json ∷ []) missing
+  IsFetching-row after next ids objects missing id json found plain stays so_far = record {
+    same = stays-then kept now after held new next so_far.same stays;
+    told = λ tables rests. row_in held.models (model_at held.models model) model numbers ids objects missing id json tables (so_far.told tables rests) (by_first (Some json) id so_far.same found tables rests);
+    asked = asked_still ids missing id so_far.asked;
+    plain = subst (λ (ds : List Data). items_have_float (items_of ds) ≡ false) (sym (map-append view objects (json ∷ []))) (plain_push (map view objects) (view json) so_far.plain plain);
+  }
+
+  -- the next id has none
+  pub IsFetching-gap : (after : Option Store) (next : Holding) (ids : List ℕ) (objects : List Json) (missing : Option ℕ) (id : ℕ)
+      → ((tables : Tables) → RestsAt now new tables → ObjectIn new.models (model_at new.models model) model numbers id None tables) → Stays now new after next
+      → IsFetching kept held now new model numbers ids objects missing → IsFetching kept held after next model numbers (ids ++ id ∷ []) objects (Some (least_of missing id))
+  IsFetching-gap after next ids objects missing id found stays so_far = record {
+    same = stays-then kept now after held new next so_far.same stays;
+    told = λ tables rests. gap_in held.models (model_at held.models model) model numbers ids objects missing id tables (so_far.told tables rests) (by_first None id so_far.same found tables rests);
+    asked = asked_gap ids missing id so_far.asked;
+    plain = so_far.plain;
+  }
+
+-- ---- the answer, once all were fetched
+
+module _ (kept : Option Store) (held : Holding) (now : Option Store) (new : Holding) (model : ModelNo) (numbers : List FieldNo) (rose : Type 0) (ids : List ℕ) (objects : List Json) where
+  -- an id is missing
+  pub answers_gap : (id : ℕ) → IsFetching kept held now new model numbers ids objects (Some id) → (tables : Tables) → RestsAt kept held tables
+      → IfSome (model_at held.models model) (λ info. AnswersRows held.models tables model (columns_at info numbers) ids rose (Err (refusal.Missing model (record { 0 = id }))))
+  answers_gap id so_far tables rests =
+      IfSome_then (model_at held.models model) (so_far.told tables rests) (λ info gap. (refl, gap))
+
+  -- all rows are told
+  pub answers_rows : (json : Data) → json ≡ array (items_of (map view objects)) → IsFetching kept held now new model numbers ids objects None → (tables : Tables) → RestsAt kept held tables
+      → IfSome (model_at held.models model) (λ info. AnswersRows held.models tables model (columns_at info numbers) ids rose (Ok json))
+  answers_rows json is so_far tables rests =
+      IfSome_then (model_at held.models model) (so_far.told tables rests) (λ info rows. (map view objects, rows, is))

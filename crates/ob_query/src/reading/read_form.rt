@@ -1,0 +1,60 @@
+//! The forms of a read's arguments.
+
+ghost use Rattle.std.specs.Prelude.{◌≡◌, ◌∷◌, codes, map, true};
+ghost use Rattle.ob_schema.specs.Models.{HasModel};
+ghost use Rattle.ob_call.specs.Arguments.{are_apart};
+ghost use Rattle.ob_call.specs.ArgumentsSteps.{expected_of, names_of};
+ghost use Rattle.ob_call.specs.Forms.{fields_at};
+ghost use Rattle.ob_query.specs.Read.{read_expects};
+ghost use Rattle.ob_query.specs.ReadForm.{read_fault};
+
+use ob_base::ModelNo;
+use ob_call::{Below, FieldNames, Form, Ids, Json, Parameter, Unread};
+use ob_schema::Schema;
+
+/// The form of an argument of a read.
+#[derive(Clone, Copy)]
+pub(crate) enum ReadForm<'s> {
+    Ids,
+    Fields(FieldNames<'s>),
+    Unread,
+}
+
+impl Form for ReadForm<'_> {
+    ghost use Rattle.ob_query.specs.ReadForm.{read_fault};
+
+    ghost fault = { λ form json. read_fault form json };
+
+    fn fault<'j>(&self, json: &'j Json) -> Option<Below<'j>> {
+        match self {
+            ReadForm::Ids => Ids.fault(json),
+            ReadForm::Fields(names) => names.fault(json),
+            ReadForm::Unread => Unread.fault(json),
+        }
+    }
+}
+
+/// What a read is called with: ids, fields, and a way of loading that is not read.
+pub(crate) fn read_parameters(schema: &Schema, model: ModelNo) -> [Parameter<ReadForm<'_>>; 3]
+    requires { HasModel schema.now model }
+    ensures expects { map (expected_of read_fault) result ≡ read_expects (fields_at schema.now model) }
+    ensures apart { are_apart (codes "context" ∷ names_of result) ≡ true }
+{
+    [
+        Parameter {
+            name: "ids",
+            required: true,
+            form: ReadForm::Ids,
+        },
+        Parameter {
+            name: "fields",
+            required: false,
+            form: ReadForm::Fields(FieldNames { schema, model }),
+        },
+        Parameter {
+            name: "load",
+            required: false,
+            form: ReadForm::Unread,
+        },
+    ]
+}

@@ -1,0 +1,23 @@
+use Rattle.std.proofs.Common.{Err, ◌∙◌}
+use Rattle.serde_json.specs.View.{view}
+use Rattle.ob_cache.specs.Calls.{models_at, standpoint}
+use Rattle.stockd.specs.Texts.{told}
+use Rattle.stockd.proofs.AnswerLaws.{known, known_model, refused_writing_serves, tells_by, writing_serves}
+use Rattle.stockd.proofs.Counts.{Rose-earlier}
+use Rattle.stockd.proofs.answer.serve_writing.Goals as goal
+
+pub returns-in-Ok-clause-served : goal.returns-in-Ok-clause-served
+returns-in-Ok-clause-served g c =
+    let before = standpoint g.K.Keeper c.args.engine.now in
+    let (info, is) = known_model _ c.requires.model in
+    let is_called = known _ info _ is c.in-Ok.ensures.call in
+    writing_serves before (standpoint g.K.Keeper c.make.new.engine) info c.args.call.now (view c.args.id.now) _ c.args.method is (view c.in-Ok.json) (standpoint g.K.Keeper c.keep.new.engine)
+    (Rose-earlier _ _ _ is_called.count) is_called c.keep.ensures.kept
+
+pub returns-in-Err-clause-served : goal.returns-in-Err-clause-served
+returns-in-Err-clause-served g c =
+    let before = standpoint g.K.Keeper c.args.engine.now in
+    let (info, is) = known_model _ c.requires.model in
+    let is_called = known _ info _ is c.in-Err.ensures.call in
+    refused_writing_serves before (standpoint g.K.Keeper c.make.new.engine) info c.args.call.now (view c.args.id.now) _ c.args.method is c.in-Err.refusal is_called
+    (tells_by (models_at before) c.schema.result.now (view c.args.id.now) (told (Err c.in-Err.refusal)) _ (c.schema.ensures ∙ is_called.rests.models_are) c.call_refused.ensures)

@@ -1,0 +1,107 @@
+"""Random streams of requests to the program and to the independent machine, for tools/compare.sh:
+
+    compare_requests.py ORACLE PROGRAM SEEDS COUNT PROFILE
+
+SEEDS is A-B or one number. Each seed gives two streams. One is of the machine's state that knows
+the one caller and serves the models without relations and conditions alone, so requests on other
+models are left out. The other is of the next state, which serves all models, and much that the
+program doesn't yet: of it are taken `read` of named fields and `create` of one object of plain
+values, as calls of the one caller, on models without parents. Prints what differs and how many
+streams do; the status is 1 where one does.
+"""
+import json
+import os
+import subprocess
+import sys
+import tempfile
+
+RELATED = {"demo.client", "demo.note", "demo.order", "demo.place", "demo.ship", "res.groups", "res.users"}
+# Models with parents, or with rows that the machine makes by itself.
+BEYOND = {"demo.client", "res.groups", "res.users"}
+# Fields that calls don't give (the machine names another refusal), or that come with users.
+SERVERS = {"id", "create_date", "write_date", "subtotal", "parent_path"}
+USERS = {"create_uid", "write_uid"}
+
+
+def parts(line):
+    """The elements of a request, with its whole and its parameters; none where there are none."""
+    try:
+        whole = json.loads(line)
+        params = whole["params"]
+        return whole, params, params["args"], params["args"][3]
+    except (ValueError, LookupError, TypeError, RecursionError):
+        return None
+
+
+def unrelated(line):
+    """The request, where it isn't of a model with relations."""
+    found = parts(line)
+    return None if found and isinstance(found[3], str) and found[3] in RELATED else line
+
+
+def argument(elements, place, name):
+    """What a call is given at a place or by a name."""
+    args, kw = elements[5], elements[6] if len(elements) > 6 else {}
+    if isinstance(args, list) and len(args) > place:
+        return args[place]
+    return kw.get(name) if isinstance(kw, dict) else None
+
+
+def is_served(model, elements):
+    """Whether the program serves such a call as the machine does."""
+    method, text = elements[4], json.dumps(elements[5:])
+    if model in BEYOND or any(name in text for name in USERS) or "_ids" in text:
+        return False
+    if method == "read":
+        return bool(argument(elements, 1, "fields")) and isinstance(argument(elements, 1, "fields"), list)
+    values = argument(elements, 0, "vals")
+    return method == "create" and not isinstance(values, list) and not any(f'"{name}"' in text for name in SERVERS)
+
+
+def of_one_caller(line):
+    """The request as one of the caller that the program knows, where it is served."""
+    found = parts(line)
+    try:
+        whole, params, elements, model = found
+        known = params["method"] == "execute_kw" and elements[0] == "stock" and elements[1] in (1, 2) and elements[2] in ("system", "admin")
+        if not known or elements[1] is True or not is_served(model, elements):
+            return None
+    except (LookupError, TypeError):
+        return None
+    elements[1:3] = [2, "admin"]
+    return json.dumps(whole).encode() + b"\n"
+
+
+def differs(oracle, program, seed, stage, words, take, more):
+    """Whether the two answer the stream of a seed differently, and how many requests it has."""
+    making = [sys.executable, f"{oracle}/fuzz.py", "--seed", str(seed), "--stage", stage, *words]
+    made = subprocess.run(making, stdout=subprocess.PIPE, check=True).stdout
+    kept = [line for line in map(take, made.splitlines(keepends=True)) if line]
+    with tempfile.NamedTemporaryFile() as stream:
+        stream.writelines(kept)
+        stream.flush()
+        comparing = [sys.executable, f"{oracle}/compare.py", "--stage", stage, "--mask", "--stream", stream.name, *more, "--", program]
+        ran = subprocess.run(comparing, stdout=subprocess.PIPE, stderr=subprocess.DEVNULL)
+    if ran.returncode:
+        print(f"seed {seed} of stage {stage}", flush=True)
+        sys.stdout.buffer.write(ran.stdout)
+    return ran.returncode != 0, len(kept)
+
+
+def main():
+    oracle, program, seeds, count, profile = sys.argv[1:]
+    first, _, last = seeds.partition("-")
+    words, modules = ["--count", count, "--profile", profile], os.path.join(os.getcwd(), "modules")
+    # Of four requests about one is taken.
+    related = ["--count", str(4 * int(count)), "--profile", "orm"]
+    results = []
+    for seed in range(int(first), int(last or first) + 1):
+        results.append(differs(oracle, program, seed, "3", words, unrelated, []))
+        results.append(differs(oracle, program, seed, "4", related, of_one_caller, ["--dir", modules, "--load", "demo"]))
+    wrong = sum(it for it, _ in results)
+    print(f"{wrong} of {len(results)} streams differ, of {sum(it for _, it in results)} requests")
+    sys.exit(1 if wrong else 0)
+
+
+if __name__ == "__main__":
+    main()
