@@ -134,6 +134,32 @@ def pull_chain(n):
     return "chain 8 " + " ".join(rules + ["%d:pull:%d:%d" % (i, 8 + i, 7 + i) for i in range(1, 9)])
 
 
+def closes(models, before, edits):
+    """What a change reaches between two tables."""
+    return 'closes {"definitions":"%s","cases":[{"before":[%s],"edits":[%s]}]}' % (models.replace("\\", "\\\\"), listed(before), listed(edits))
+
+
+def chains(n):
+    """A change of so many rows, each with a chain of eight fields over the one that is changed."""
+    fields = "".join(" | c%d integer store=yes compute=%s\\s+\\s1 depends=%s" % (i, of, of) for i, of in enumerate(["qty"] + ["c%d" % i for i in range(1, 8)], 1))
+    return closes("name=m.a | qty integer" + fields, ['["makes","m.a",1,%d,[]]' % n], ['["set","m.a",%d,"qty",1]' % i for i in range(1, n + 1)])
+
+
+def tree(n):
+    """A root gets a parent: a tree becomes one of 64 levels, of whose rows so many stand in the lowest."""
+    below = ['["make","m.a",%d,[["up",{"id":%d}]]]' % (i, i - 1) for i in range(2, 63)]
+    return closes("name=m.a parent=up | up many2one relation=m.a", ['["makes","m.a",1,1,[]]', *below, '["makes","m.a",64,%d,[["up",{"id":62}]]]' % (n + 63), '["make","m.a",63,[]]'],
+                  ['["set","m.a",1,"up",{"id":63}]'])
+
+
+def priced(n, others):
+    """The price changes of one of two products: so many lines have that one, and so many the other. Each order sums the lines of one."""
+    models = ("name=m.p | price integer || name=m.o | lines one2many relation=m.l inverse=order | total integer store=yes compute=sum(lines,\\svalue) depends=lines.value || "
+              "name=m.l | of many2one relation=m.p | order many2one relation=m.o | qty integer | value integer store=yes compute=qty\\s*\\sof.price depends=qty:of.price")
+    lines = ['["makes","m.l",%d,%d,[["of",{"id":%d}],["order",{"id":%d}]]]' % (first, last, of, of) for of, first, last in ((1, 1, n), (2, n + 1, n + others))]
+    return closes(models, ['["makes","m.p",1,2,[]]', '["makes","m.o",1,2,[]]', *lines], ['["set","m.p",1,"price",5]'])
+
+
 def requests(n):
     """So many creates, with one read after each hundred."""
     lines = []
@@ -165,6 +191,7 @@ CALLS = {"admissions": lambda n: four(n, '[2,[1,4],"m.a",1,"read","row"]'), "rig
          "child_of": lambda n: places(n, 1, '["id","child_of",3]'), "criteria": lambda n: places(0, n, '["up.up.name","not ilike","a%b"]'),
          "checked": checked, "chosen": chosen, "summed": summed, "small": small, "large": large, "modules": modules, "registry": registry,
          "takes": takes, "move_lines": move_lines, "pull_chain": pull_chain, "requests": requests,
+         "chains": chains, "tree": tree, "fan": lambda n: priced(n, 1), "others": lambda n: priced(1000, n),
          "row": lambda n: "times %d row %s" % (n, ROW), "body": lambda n: "times %d body %s" % (n, ROW),
          "json": lambda n: "\n".join("times %d value %s %s" % (n, *it) for it in zip(("day", "name", "qty"), TEXTS)),
          "bytes": lambda n: str(len("".join(map(module, range(n)))))}

@@ -16,6 +16,7 @@ codec        probe_values  5000000  1000000
 expr         probe_values  1        2000
 schema       probe_models  256      6
 load         probe_models  31       40
+trigger      probe_models  1000     200
 domain       probe_access  1000     300
 access       probe_access  100      2000
 stock_parts  probe_stock   10000    300
@@ -132,6 +133,13 @@ bench_load() {
         echo 'start: not measured, the proved program stockd is not there'
     fi
     doubled modules "$size" "size = $(lines bytes "$size"); "'printf "load: %.0f modules a second, %.1f MB of TOML; ratio of the times for %d and %d modules %.2f, of the instructions %s\n", n / (a / m), size / (a / m) / 1e6, n, 2 * n, b / a, counted'
+}
+
+bench_trigger() {
+    local call rows
+    while read -r call rows; do
+        doubled "$call" $((rows * size)) 'printf "%s: %.2f ms at %d rows, %.2f ms at %d; ratio of the times %.2f, of the instructions %s\n", what, a / m * 1e3, n, b / m * 1e3, 2 * n, b / a, counted'
+    done <<<$'chains 1\ntree 1\nfan 10\nothers 10'
 }
 
 bench_domain() {

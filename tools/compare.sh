@@ -15,8 +15,10 @@
 #       is one of theirs for which tools/probe makes lines, and without it all are asked. `body` is
 #       asked under `row`. `http_cuts` asks, whatever the seed and the count, the request of a
 #       login and those near it, ended at every place and cut into pieces of every length;
-#       `tables_deep` trees about as deep as they may be and rows of about as many targets. Prints
-#       the first answers that differ, and how many do.
+#       `tables_deep` trees about as deep as they may be and rows of about as many targets. Each
+#       line of `closes` has ten changes of tables; an answer is right where it holds what the
+#       machine finds changed, and lies within what it finds affected. Prints the first answers
+#       that differ, and how many do.
 #
 # The machine stands in the folder that ORACLE names (by default ../shared/oracle beside the
 # repository). Where it isn't there nothing is compared, and the status is 0; where it lacks the

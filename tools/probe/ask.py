@@ -21,7 +21,7 @@ TEXTS = ("", "bolt", "a b", "é", "\u0000", '"', "\\", "\n", "\U0001f529", "draf
          "2023-02-29", "0001-01-01", "9999-12-31", "10000-01-01", "2023-11-14 22:13:20", "2023-11-14 22:13:60")
 # The words that each program answers.
 PROGRAMS = {"probe_values": "row body value order day moment expression kinds evaluate",
-            "probe_models": "schema load tables engine",
+            "probe_models": "schema load tables engine closes",
             "probe_access": "domain access",
             "probe_stock": "takes lines state split chain push http envelope reply"}
 PROGRAM_OF = {word: program for program, words in PROGRAMS.items() for word in words.split()}
@@ -32,6 +32,8 @@ PARTS = (("expression_lines", "expression, kinds and evaluate"),
          ("domain_lines", "domain"),
          ("access_lines", "access"),
          ("tables_lines", "tables and tables_deep"),
+         ("audit_lines", "audit"),
+         ("trigger_lines", "closes"),
          ("stock_lines", "takes, lines, state, split, chain and push"),
          ("http_lines", "http and http_cuts"))
 # The bytes that are asked for at once.

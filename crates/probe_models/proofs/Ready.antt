@@ -1,8 +1,7 @@
 -- What comes behind the steps of a run.
-use Rattle.std.proofs.Common.{◌≡◌, ◌≤◌, Bool, List, Option, IsTrue, true, false, refl, sym, subst, ◌∙◌, arith}
-use Rattle.ob_base.specs.declared.id.ModelNo.{ModelNo}
+use Rattle.std.proofs.Common.{◌≡◌, ◌≤◌, Bool, List, Option, true, false, refl, sym, subst, ◌∙◌, arith}
 use Rattle.ob_cache.specs.Stages.{IsUsable}
-use Rattle.ob_cache.specs.Standing.{Holding, IsAtRest, KeepsBounds, NextIdsUpTo, Stays, max_next_id}
+use Rattle.ob_cache.specs.Standing.{Holding, IsAtRest, NextIdsUpTo, Stays, max_next_id}
 use Rattle.ob_cache.specs.declared.stages.Phase.{Phase}
 use Rattle.ob_cache.specs.declared.stages.Phase.TheVariants as phase
 use Rattle.ob_io.specs.Store.{Store}

@@ -7,6 +7,7 @@
 //! | `reads FAILS MODULES FILES` | `loaded`, or what stands against them first, where the read of number FAILS fails (0: none) |
 //! | `tables EDITS` | of each case the first that its edits break, or that they are sound, and what is asked of the tables after them; or the edits that don't fit |
 //! | `engine PARTS` | of each part what it comes to |
+//! | `closes CHANGES` | of each change the cells that it edits, and the computed ones that it may reach by the closure |
 //!
 //! DEFINITIONS are entries with ` || ` between them, such as
 //! `name=m.a order=b | b integer | c integer compute=b\s+\s1 depends=b || inherit=m.a | d char`;
@@ -23,9 +24,12 @@
 //! in memory that keeps nothing at first, whose calls of these numbers fail, counted from 1.
 //! `engines` says what a part is, `steps` and `asked` what is told of its steps.
 //!
-//! `times N` before `schema`, `load` or `tables` makes the library's call N times and tells the
-//! last answer. `not asked` stands where a call requires what isn't so.
+//! CHANGES is an object of the same form as EDITS; `closes` says what is told of its cases.
+//!
+//! `times N` before `schema`, `load`, `tables` or `closes` makes the library's call N times and
+//! tells the last answer. `not asked` stands where a call requires what isn't so.
 
+use crate::closes::put_closes;
 use crate::engines::put_parts;
 use crate::modules::{put_loaded, put_reading};
 use crate::schemas::put_built;
@@ -44,23 +48,22 @@ impl Probe for Models {
             "schema" => put_built(alloc, told, times, rest),
             "load" => put_loaded(alloc, told, times, rest),
             "reads" => put_reading(alloc, told, rest),
-            "tables" => put_of_json(alloc, told, times, true, rest),
-            "engine" => put_of_json(alloc, told, times, false, rest),
+            "tables" | "engine" | "closes" => put_of_json(alloc, told, times, word, rest),
             _ => told.put("no word"),
         }
     }
 }
 
-/// Tells the answer to a line of JSON: of tables, or of an engine.
-fn put_of_json(alloc: Global, told: &mut Told, times: u32, is_of_tables: bool, rest: &str) {
+/// Tells the answer to a line of JSON: of tables, of an engine, or of a closure.
+fn put_of_json(alloc: Global, told: &mut Told, times: u32, word: &str, rest: &str) {
     let json = json_of(alloc, told, rest);
     if told.is_malformed() {
         return told.tell_instead(alloc, "no JSON");
     }
-    if is_of_tables {
-        put_cases(alloc, told, times, &json);
-    } else {
-        put_parts(alloc, told, &json);
+    match word {
+        "tables" => put_cases(alloc, told, times, &json),
+        "closes" => put_closes(alloc, told, times, &json),
+        _ => put_parts(alloc, told, &json),
     }
     if told.is_malformed() {
         told.tell_instead(alloc, "no case");

@@ -1,18 +1,21 @@
 //! An engine over a keeper in memory, part by part. A part is `["run", STEP, ..]`: an engine
-//! opens what is kept, takes the steps (`steps`) and gives the keeper back; or a change of what
-//! is kept (`changes`). Of a run a list of what its steps tell is told, or where it isn't opened
-//! `{"fault":CAUSE}`, where the cause is `[MODEL, ID, FIELD]`, a cell that shows it, or words.
+//! opens what is kept, takes the steps (`steps`) and gives the keeper back; `["audit"]`, of which
+//! whether the report is equal is told and its lines, as a list, or the cause in words; or a
+//! change of what is kept (`changes`). Of a run a list of what its steps tell is told, or where it
+//! isn't opened `{"fault":CAUSE}`, where the cause is `[MODEL, ID, FIELD]`, a cell that shows it,
+//! or words.
 
 use crate::changes::put_change;
 use crate::steps::put_steps;
 use crate::told_tables::{put_cell, put_fault};
+use ob_audit::{Report, audit};
 use ob_base::Sequence;
 use ob_cache::{Engine, OpenFault};
 use ob_io::MemKeeper;
 use ob_schema::Schema;
 use probe_parts::definitions::schema_of;
 use probe_parts::parts::{Json, id_of, items_of, list_part, text_part};
-use probe_parts::told::Told;
+use probe_parts::told::{Told, put_text};
 use std::alloc::Global;
 
 /// How many rows an engine may hold.
@@ -74,6 +77,12 @@ fn put_part(
         [Json::String(word), steps @ ..] if word.as_str() == "run" => {
             put_run(alloc, told, schema, keeper, steps);
         }
+        [Json::String(word)] if word.as_str() == "audit" => {
+            match audit(alloc, keeper, schema) {
+                Ok(report) => put_report(alloc, told, &report),
+                Err(fault) => put_fault(told, &fault),
+            }
+        }
         _ => put_change(alloc, told, schema, keeper, part),
     }
 }
@@ -107,4 +116,15 @@ fn put_unopened(alloc: Global, told: &mut Told, schema: &Schema, fault: OpenFaul
         fault => put_fault(told, &fault),
     }
     told.put("}");
+}
+
+/// Adds a report.
+fn put_report(alloc: Global, told: &mut Told, report: &Report) {
+    told.put("[");
+    told.put_bool(report.equal);
+    for line in report.lines.as_slice() {
+        told.put(",");
+        put_text(alloc, told, line.as_str());
+    }
+    told.put("]");
 }

@@ -7,16 +7,19 @@
 //! `told_models` and `told_fields` tell a registry, `modules` asks ob_load, `tables` asks
 //! ob_tables what the edits that `edits` reads make, and `told_tables` tells what is asked of
 //! it, `engines` asks ob_cache over a keeper in memory, step by step (`steps`, `asked`), whose
-//! rows `changes` changes. How lines are read and values told stands in probe_parts.
+//! rows `changes` changes, `closes` asks ob_trigger what a change reaches, over the links of its
+//! two tables (`sides`). How lines are read and values told stands in probe_parts.
 #![tactic(auto)]
 
 mod answer;
 mod asked;
 mod changes;
+mod closes;
 mod edits;
 mod engines;
 mod modules;
 mod schemas;
+mod sides;
 mod steps;
 mod tables;
 mod told_fields;

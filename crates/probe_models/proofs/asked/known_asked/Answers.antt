@@ -1,5 +1,5 @@
 -- The row is known, as it was just told.
-use Rattle.std.proofs.Common.{◌≡◌, true, sym, ◌∙◌}
+use Rattle.std.proofs.Common.{sym, ◌∙◌}
 use Rattle.probe_models.proofs.asked.known_asked.Goals as goal
 
 pub value-requires-clause-row : goal.value-requires-clause-row

@@ -1,0 +1,25 @@
+-- Lemmas.
+pub mod CellOrder
+pub mod Compared
+pub mod FirstUnread
+pub mod IdFields
+pub mod JsonTexts
+pub mod Judged
+pub mod KeptForms
+pub mod KeptLoops
+pub mod LineTexts
+pub mod MadeTables
+pub mod ModelFields
+pub mod NamedModels
+pub mod OneRead
+pub mod PagedRows
+pub mod ReadModels
+pub mod ReadPages
+pub mod ReadStore
+pub mod Reported
+pub mod RowReads
+pub mod StoreTables
+pub mod StoredCells
+pub mod StoredRising
+pub mod Telling
+pub mod Totals
