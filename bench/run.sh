@@ -8,10 +8,11 @@ set -euo pipefail
 top=$(cd "$(dirname "$0")/.." && pwd)
 
 # The size of what is asked, and how often (of codec the rows and the values, of http the small
-# requests and the bodies).
+# requests and the bodies, of store the creates and the rows of a file that is opened).
 table='
 name         program       size     times
 call         stockd        500      1
+store        stockd        500      100000
 codec        probe_values  5000000  1000000
 expr         probe_values  1        2000
 schema       probe_models  256      6
@@ -26,6 +27,12 @@ work=$(mktemp -d)
 trap 'rm -rf "$work"' EXIT
 
 lines() { python3 "$top/bench/lines.py" "$@"; }
+
+# What a run of stockd takes on a file, with further words: seconds FILE [WORD..].
+seconds() { timed "$program" call --modules "$top/modules" --load demo "${@:2}" <"$1"; }
+
+# What the command takes by the clock.
+timed() { local TIMEFORMAT=%R; { time "$@" >/dev/null; } 2>&1; }
 
 # What the command takes of a processor, so that other work beside it counts little; without
 # the host's part, or with it.
@@ -69,14 +76,6 @@ doubled() {
     awk -v what="$1" -v n="$2" -v m="${4:-$times}" -v a="$(calls "$1" "$2" "${4:-$times}")" -v b="$(calls "$1" $((2 * $2)) "${4:-$times}")" -v counted="$([[ $3 != *counted* ]] || work_ratio "$1" "$2")" "BEGIN { m -= 1; $3 }"
 }
 
-seconds() {
-    local from to
-    from=$(date +%s.%N)
-    "$program" call --modules "$top/modules" --load demo <"$1" >/dev/null
-    to=$(date +%s.%N)
-    echo "$to $from" | awk '{ print $1 - $2 }'
-}
-
 bench_call() {
     local n t told=()
     for n in "$size" $((2 * size)); do
@@ -88,6 +87,21 @@ bench_call() {
             printf "%d creates and %d reads: %.2f s, %.0f requests a second\n", n, reads, t, (n + reads) / t }'
     done
     awk -v a="${told[0]}" -v b="${told[1]}" 'BEGIN { printf "ratio: %.2f\n", b / a }'
+}
+
+bench_store() {
+    local rows memory bare
+    lines requests "$size" >"$work/requests"
+    memory=$(seconds "$work/requests")
+    rows=$(seconds "$work/requests" --store "$work/rows")
+    bare=$(timed python3 "$top/bench/rows.py" upserts "$work/bare" "$size")
+    awk -v n="$size" -v r="$rows" -v m="$memory" -v b="$bare" 'BEGIN {
+        printf "%d creates in a file: %.2f s, %.0f a second; in memory %.2f s; what a file adds: %.2f ms each\n", n, r, n / r, m, (r - m) / n * 1000
+        printf "as many upserts by python, a transaction each: %.2f s, %.0f a second; ratio of what a file adds %.2f\n", b, n / b, (r - m) / b }'
+    lines requests 1 | "$program" call --modules "$top/modules" --load demo --store "$work/many" >/dev/null
+    python3 "$top/bench/rows.py" fill "$work/many" "$times"
+    awk -v n="$times" -v o="$(seconds /dev/null --store "$work/many")" -v a="$(timed "$program" audit --modules "$top/modules" --load demo --store "$work/many")" 'BEGIN {
+        printf "%d rows: opened in %.2f s, audited in %.2f s\n", n, o, a }'
 }
 
 bench_codec() {

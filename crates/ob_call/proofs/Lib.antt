@@ -4,4 +4,12 @@ pub mod Fitting
 pub mod ItsFields
 pub mod NumberedFields
 pub mod Viewed
+pub mod OnceEach
+pub mod MetIds
+pub mod NamedIds
+pub mod LeastMissing
+pub mod NamedNumbers
+pub mod NamedColumns
+pub mod AskedColumns
+pub mod Plain
 pub mod CallerLemmas

@@ -38,6 +38,11 @@ abbrev pub names_fault : List FieldInfo → Data → Option (List PathStep)
 names_fault fields (array items) = first_item (λ d. is_some (number_from fields d)) 0 (listed items)
 names_fault fields _ = Some []
 
+-- a list of texts
+abbrev pub texts_fault : Data → Option (List PathStep)
+texts_fault (array items) = first_item (λ d. is_some (as_str d)) 0 (listed items)
+texts_fault _ = Some []
+
 -- the fields of the model of a number, none where there is no such model
 abbrev pub fields_at : List ModelInfo → ModelNo → List FieldInfo
 fields_at models model = option_map_or (λ info. info.fields) (model_at models model) []

@@ -4,21 +4,28 @@
 //! expects, and gives each its form.
 //!
 //! Rooms: `call` (what a call is handed), `places` (where an argument is wrong), `form`
-//! (what a form is), with the forms that several calls share in `ids` (and any value) and
-//! `field_names`; `arguments` (which argument stands where). The definitions stand in
-//! specs/.
+//! (what a form is), with the forms that several calls share in `ids` (any value too, and the
+//! ids that an argument names), `field_names` and `texts`; `columns` (the fields that an
+//! argument names); `arguments` (which argument stands where); `members` (of the objects that
+//! calls answer). The definitions stand in specs/.
 #![tactic(auto)]
 
 mod arguments;
 mod call;
+mod columns;
 mod field_names;
 mod form;
 mod ids;
+mod members;
 mod places;
+mod texts;
 
 pub use arguments::{Given, Parameter, arguments_of};
 pub use call::{Call, Json};
+pub use columns::named_fields;
 pub use field_names::FieldNames;
 pub use form::Form;
-pub use ids::{Ids, Unread, id_of};
+pub use ids::{Ids, Unread, id_of, least, named_ids};
+pub use members::put_member;
 pub use places::{Below, Spot, malformed, malformed_below};
+pub use texts::Texts;

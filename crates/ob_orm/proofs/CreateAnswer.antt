@@ -1,5 +1,5 @@
 -- What a create answers over an engine, from what its steps say.
-use Rattle.std.proofs.Common.{◌≡◌, ℕ, ℤ, ◌<◌, ◌≤◌, ◌⊎◌, ◌∷◌, [], List, Option, Some, None, Result, Ok, Err, inl, inr, refl, sym, ap, subst, ◌∙◌, arith, w64}
+use Rattle.std.proofs.Common.{◌≡◌, ℕ, ℤ, ◌<◌, ◌≤◌, ◌⊎◌, ◌∷◌, [], List, Option, Some, None, option_map, Result, Ok, Err, inl, inr, refl, sym, ap, subst, ◌∙◌, arith, w64}
 use Rattle.std.specs.Int.{cast_signed, cast_unsigned}
 use Rattle.std.specs.Prelude.{FitsSigned, IfErr, IfOk, IfSome, IsSome, IsSomeAnd, MatchResult, is_some, true, ⊤}
 use Rattle.std.proofs.lemmas.Bool.{false≢true}
@@ -16,15 +16,15 @@ use Rattle.ob_base.specs.declared.refusal.BrokenKind.TheVariants as broken
 use Rattle.ob_base.specs.declared.refusal.Refusal.{Refusal}
 use Rattle.ob_base.specs.declared.refusal.Refusal.TheVariants as refusal
 use Rattle.ob_cache.proofs.CallerLemmas.{Refuses-weaker}
-use Rattle.ob_cache.specs.Calls.{AnswersBy, IsCalled, KeeperRose, Refuses, Standpoint, settled_over}
+use Rattle.ob_cache.specs.Calls.{AnswersBy, IsCalled, KeeperRose, Refuses, Standpoint, models_at, settled_over}
 use Rattle.ob_cache.specs.Stages.{StandsOver, resting, settled_of, with_edits}
 use Rattle.ob_cache.specs.Standing.{Holding, NextIdsUpTo, OfStages, RestsAt, Stands, Stays, max_next_id}
 use Rattle.ob_cache.specs.declared.stages.Phase.TheVariants as phase
-use Rattle.ob_call.proofs.CallerLemmas.{at_info}
+use Rattle.ob_call.proofs.CallerLemmas.{IfErr-result_view, at_info}
 use Rattle.ob_call.specs.Called.{called_by, result_view}
 use Rattle.ob_call.specs.Arguments as arguments
 use Rattle.ob_call.specs.Arguments.{arguments_of}
-use Rattle.ob_call.specs.ArgumentsSteps.{all_given_of}
+use Rattle.ob_call.specs.ArgumentsSteps.{all_given_of, given_of}
 use Rattle.ob_call.specs.Forms.{fields_at}
 use Rattle.ob_call.specs.Results.{IsResultOf}
 use Rattle.ob_call.specs.declared.arguments.Given.{Given}
@@ -40,9 +40,10 @@ use Rattle.ob_tables.proofs.CallerLemmas.{row-made}
 use Rattle.ob_tables.specs.After.{after}
 use Rattle.ob_tables.specs.declared.edit.Edit.TheVariants as edit
 use Rattle.ob_orm.specs.Create.{CreateCause, Creates, create_expects, created_row, made, row_from}
+use Rattle.ob_orm.specs.RowValues.{values_from}
 use Rattle.ob_orm.specs.CreateSteps.{CreateAnswers, IsBrokenBy}
-use Rattle.ob_orm.proofs.CreateFields.{told}
-use Rattle.ob_orm.proofs.CreateNewRow.{Values}
+use Rattle.ob_orm.proofs.CalledFound.{IsCalled-found}
+use Rattle.ob_orm.proofs.RowValues.{Values}
 
 -- what is known of an answer, where it was handed on
 pub handed_on : {X E : Type 0} (F : Type 0) (r : Result X E) (x : X) (P : X → Type 0) → MatchResult r (λ y. ◌≡◌ {A = Result X F} (Ok x) (Ok y)) (λ _. ⊥) → IfOk r P → P x
@@ -50,12 +51,12 @@ handed_on F (Ok y) x P same known = subst P (let e : y ≡ x = cc in e) known
 handed_on F (Err e) x P same known = absurd same
 
 -- what holds of each model holds of one that may be there
-everywhere : (o : Option ModelInfo) (P : ModelInfo → Type 0) → ((info : ModelInfo) → P info) → IfSome o P
+pub everywhere : (o : Option ModelInfo) (P : ModelInfo → Type 0) → ((info : ModelInfo) → P info) → IfSome o P
 everywhere None P each = tt
 everywhere (Some info) P each = each info
 
 -- what is known of a model that may be there, step by step
-known_of : (o : Option ModelInfo) (P Q : ModelInfo → Type 0) → ((info : ModelInfo) → P info → Q info) → IfSome o P → IfSome o Q
+pub known_of : (o : Option ModelInfo) (P Q : ModelInfo → Type 0) → ((info : ModelInfo) → P info → Q info) → IfSome o P → IfSome o Q
 known_of None P Q step h = tt
 known_of (Some info) P Q step h = step info h
 
@@ -93,23 +94,24 @@ denied_row of models call refusal.NoMemory e = everywhere (model_at models call.
 denied_row of models call _ e = absurd e
 
 -- values that are taken or refused
-pub row_passed : (models old : List ModelInfo) (call : Call) (items slice : List (Option Given)) (passed : ℤ) (r : Result Values Refusal) → models ≡ old → passed ≡ call.now → slice ≡ items → CreateGives models call items
-    → IfSome (model_at models call.model) (λ info. IsResultOf (λ (values : Values). values) r (row_from info passed (all_given_of slice))) → GivesRow old call r
-row_passed models old call items slice passed r kept is same given row =
+pub row_passed : (models old : List ModelInfo) (call : Call) (items : List (Option Given)) (given : Option Given) (passed : ℤ) (r : Result Values Refusal)
+    → models ≡ old → passed ≡ call.now → items ≡ given ∷ [] → CreateGives models call items
+    → IfSome (model_at models call.model) (λ info. IsResultOf (λ (values : Values). values) r (values_from true info passed (option_map given_of given))) → GivesRow old call r
+row_passed models old call items given passed r kept is one gives row =
     subst (λ (ms : List ModelInfo). GivesRow ms call r) kept
-    (by (model_at models call.model) (at_info models call.model (λ fields. arguments_of (create_expects fields) (view call.args.now) (view call.kw.now) ≡ Ok (all_given_of items)) given) row) where
+    (by (model_at models call.model) (at_info models call.model (λ fields. arguments_of (create_expects fields) (view call.args.now) (view call.kw.now) ≡ Ok (all_given_of items)) gives) row) where
       by : (o : Option ModelInfo) → IfSome o (λ info. arguments_of (create_expects info.fields) (view call.args.now) (view call.kw.now) ≡ Ok (all_given_of items))
-          → IfSome o (λ info. IsResultOf (λ (values : Values). values) r (row_from info passed (all_given_of slice))) → IfSome o (λ info. IsResultOf (λ (values : Values). values) r (row_by call info))
-      by None given row = tt
-      by (Some info) given row =
-          let e : row_from info passed (all_given_of slice) ≡ row_by call info =
-          ap (λ (n : ℤ). row_from info n (all_given_of slice)) is ∙ ap (λ (gs : List (Option Given)). row_from info call.now (all_given_of gs)) same
-          ∙ sym (ap (λ (r : Result (List (Option arguments.Given)) (List PathStep)). r >>= row_from info call.now) given) in
+          → IfSome o (λ info. IsResultOf (λ (values : Values). values) r (values_from true info passed (option_map given_of given))) → IfSome o (λ info. IsResultOf (λ (values : Values). values) r (row_by call info))
+      by None gives row = tt
+      by (Some info) gives row =
+          let e : values_from true info passed (option_map given_of given) ≡ row_by call info =
+          ap (λ (n : ℤ). values_from true info n (option_map given_of given)) is ∙ sym (ap (λ (gs : List (Option Given)). row_from info call.now (all_given_of gs)) one)
+          ∙ sym (ap (λ (r : Result (List (Option arguments.Given)) (List PathStep)). r >>= row_from info call.now) gives) in
           subst (IsResultOf (λ (values : Values). values) r) e row
 
 -- ---- refusals
 
-nowhere : (o : Option ModelInfo) → IsSome o → IfSome o (λ _. ⊥) → ⊥
+pub nowhere : (o : Option ModelInfo) → IsSome o → IfSome o (λ _. ⊥) → ⊥
 nowhere None there wrong = false≢true there
 nowhere (Some info) there wrong = wrong
 
@@ -128,7 +130,8 @@ Answered before old now new call rose r = (tables : Tables) → RestsAt before o
 pub row_answer : (kept : Option Store) (held : Holding) (call : Call) (rose : Type 0) (why : Refusal) → HasModel held.models call.model → GivesRow held.models call (Err why) → Answered kept held kept held call rose (Err why)
 row_answer kept held call rose (refusal.Request place) there wrong = λ tables rests.
     known_of (model_at held.models call.model) (λ info. row_by call info ≡ Err place) (λ info. CreateAnswers held.models kept held tables (called_by call info) rose (Err (refusal.Request place))) (λ info is. ((is, refl), rests)) wrong
-row_answer kept held call rose refusal.NoMemory there wrong = λ tables rests. everywhere (model_at held.models call.model) (λ info. CreateAnswers held.models kept held tables (called_by call info) rose (Err refusal.NoMemory)) (λ info. (tt, rests))
+row_answer kept held call rose refusal.NoMemory there wrong = λ tables rests.
+    everywhere (model_at held.models call.model) (λ info. CreateAnswers held.models kept held tables (called_by call info) rose (Err refusal.NoMemory)) (λ info. (tt, rests))
 row_answer kept held call rose _ there wrong = absurd (nowhere (model_at held.models call.model) there wrong)
 
 -- what the tables with the row break refuses the create
@@ -144,7 +147,7 @@ tell_and None is past = absurd is
 tell_and (Some info) is past = (is, inr past)
 
 -- tables that were settled are sound
-sound_in : (models : List ModelInfo) (old tables : Tables) (kept : Option Store) → IsSomeAnd kept (StandsOver (settled_over models old tables)) → Sound models tables
+pub sound_in : (models : List ModelInfo) (old tables : Tables) (kept : Option Store) → IsSomeAnd kept (StandsOver (settled_over models old tables)) → Sound models tables
 sound_in models old tables None over = absurd over
 sound_in models old tables (Some store) over = (over.settled (λ e. cc)).sound
 
@@ -218,12 +221,6 @@ answers_by : (models : List ModelInfo) (call : Call) (info : ModelInfo) (before 
 answers_by models call info before after tables (Ok json) answers = answers
 answers_by models call info before after tables (Err why) answers = answers
 
--- a cause of each model is one of this
-cause_of : (o : Option ModelInfo) (info : ModelInfo) (rose : Type 0) (P : ModelInfo → Refusal → Type 0) (r : Result Json Refusal) → o ≡ Some info
-    → IfErr r (Refuses rose (λ why. IfSome o (λ own. P own why))) → IfErr (result_view r) (Refuses rose (P info))
-cause_of o info rose P (Ok json) is causes = tt
-cause_of o info rose P (Err why) is causes = Refuses-weaker rose rose (λ w. IfSome o (λ own. P own w)) (P info) why (λ risen. risen) (λ w known. told o info (λ own. P own w) is known) causes
-
 -- what a create says, clause by clause
 pub record MadeBy (before after : Standpoint) (call : Call) (r : Result Json Refusal) : Type 0 where
   pub answer : Answered before.kept before.held after.kept after.held call (KeeperRose before after) (result_view r)
@@ -237,17 +234,10 @@ pub record MadeBy (before after : Standpoint) (call : Call) (r : Result Json Ref
 -- is a call by the machine's relation
 pub made_call : (before after : Standpoint) (call : Call) (r : Result Json Refusal) → MadeBy before after call r
     → IfSome (model_at before.held.models call.model) (λ info. IsCalled (Creates before.held.models (called_by call info)) before after (CreateCause before.held.models (called_by call info)) (result_view r))
-made_call before after call r says = by (model_at before.held.models call.model) refl where
-  models : List ModelInfo
-  models = before.held.models
-
-  by : (o : Option ModelInfo) → model_at models call.model ≡ o → IfSome o (λ info. IsCalled (Creates models (called_by call info)) before after (CreateCause models (called_by call info)) (result_view r))
-  by None at = tt
-  by (Some info) at = record {
-    answer = λ tables rests. answers_by models call info before after tables (result_view r)
-        (told (model_at models call.model) info (λ own. CreateAnswers models after.kept after.held tables (called_by call own) (KeeperRose before after) (result_view r)) at (says.answer tables rests));
-    causes = cause_of (model_at models call.model) info (KeeperRose before after) (λ own. CreateCause models (called_by call own)) r at says.causes;
-    rests = record { models_are = says.models; phase_is = says.phase_is; next_ids = says.next_ids };
-    same = says.same;
-    count = says.count;
-  }
+made_call before after call r says =
+    let models = models_at before in
+    IsCalled-found (model_at models call.model) (λ info. Creates models (called_by call info)) (λ info. CreateCause models (called_by call info)) before after (result_view r)
+    (λ tables rests. known_of (model_at models call.model) (λ info. CreateAnswers models after.kept after.held tables (called_by call info) (KeeperRose before after) (result_view r))
+    (λ info. AnswersBy (Creates models (called_by call info)) before after tables (result_view r)) (λ info. answers_by models call info before after tables (result_view r)) (says.answer tables rests))
+    (IfErr-result_view (Refuses (KeeperRose before after) (λ why. IfSome (model_at models call.model) (λ info. CreateCause models (called_by call info) why))) r says.causes)
+    (record { models_are = says.models; phase_is = says.phase_is; next_ids = says.next_ids }) says.same says.count

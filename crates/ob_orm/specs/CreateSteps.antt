@@ -1,5 +1,5 @@
 -- What the steps of a create say of their results.
-use Rattle.std.specs.Prelude.{◌≡◌, ◌++◌, List, IfSome, true, Option, Result, Ok, Err}
+use Rattle.std.specs.Prelude.{◌≡◌, ◌++◌, List, IfSome, Bool, true, Option, Result, Ok, Err}
 use Rattle.ob_base.specs.declared.place.PathStep.{PathStep}
 use Rattle.ob_base.specs.declared.refusal.Refusal.{Refusal}
 use Rattle.ob_base.specs.declared.refusal.Refusal.TheVariants as refusal
@@ -12,7 +12,8 @@ use Rattle.ob_codec.specs.declared.fault.CodecFault.{CodecFault}
 use Rattle.ob_codec.specs.declared.fault.CodecFault.TheVariants as codec
 use Rattle.ob_definition.specs.declared.field_type.FieldType.TheVariants as type
 use Rattle.ob_io.specs.Store.{Store}
-use Rattle.ob_orm.specs.Create.{Creates, is_stamp}
+use Rattle.ob_orm.specs.Create.{Creates}
+use Rattle.ob_orm.specs.RowValues.{is_stamp}
 use Rattle.ob_schema.specs.Broken.{IsBroken}
 use Rattle.ob_schema.specs.Fields.{Holds}
 use Rattle.ob_schema.specs.Models.{HasField}
@@ -21,9 +22,9 @@ use Rattle.ob_schema.specs.declared.info.FieldInfo.{FieldInfo}
 use Rattle.ob_schema.specs.declared.info.ModelInfo.{ModelInfo}
 use Rattle.serde_json.specs.Data.{Data}
 
--- what a create may rely on in a field: a stamp is a moment, and a default fits
+-- what a call may rely on in a field: a stamp is a moment, and a default fits
 pub record IsMakeable (field : FieldInfo) : Type 0 where
-  pub stamp : is_stamp field.name ≡ true → field.field_type ≡ type.Datetime
+  pub stamp : (made : Bool) → is_stamp made field.name ≡ true → field.field_type ≡ type.Datetime
   pub default : IfSome field.default (Holds field)
 
 -- the refusal tells a fault at its place below this one

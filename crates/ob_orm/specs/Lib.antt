@@ -1,6 +1,11 @@
 pub mod Creatable
 pub mod Values
+pub mod RowValues
 pub mod Create
+pub mod Write
+pub mod FieldsGet
 pub mod RefusalText
 pub mod Faults
 pub mod CreateSteps
+pub mod WriteSteps
+pub mod FieldsGetSteps

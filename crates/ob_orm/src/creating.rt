@@ -1,13 +1,13 @@
 //! `create`: one row under the model's next id.
 
-ghost use Rattle.std.specs.Prelude.{◌≡◌, ◌≤◌, ◌∷◌, [], ℕ, false, IfErr, IfOk, IfSome, IsSomeAnd, OnErr, OnOk, true};
+ghost use Rattle.std.specs.Prelude.{◌≡◌, ◌≤◌, ◌∷◌, [], ℕ, false, IfErr, IfOk, IfSome, IsSomeAnd, OnOk, true};
 ghost use Rattle.serde_json.specs.View.{view};
 ghost use Rattle.serde_json.specs.Written.{has_float};
 ghost use Rattle.ob_base.specs.Limits.{max_id};
 ghost use Rattle.ob_base.specs.Tally.{ticked_times};
 ghost use Rattle.ob_base.specs.Times.{IsMoment};
 ghost use Rattle.ob_cache.specs.Stages.{resting, settled_of, with_edits};
-ghost use Rattle.ob_cache.specs.Standing.{IsAtRest, NextIdsUpTo, OfStages, RestsAt, Stands, max_next_id};
+ghost use Rattle.ob_cache.specs.Standing.{IsAtRest, NextIdsUpTo, RestsAt, Stands, max_next_id};
 ghost use Rattle.ob_cache.specs.declared.stages.Phase.TheVariants as phase;
 ghost use Rattle.ob_io.specs.Cause.{Rose};
 ghost use Rattle.ob_schema.specs.Models.{HasModel, field_at, is_id_from, model_at};
@@ -15,13 +15,14 @@ ghost use Rattle.ob_schema.specs.Tables.{Tables};
 ghost use Rattle.ob_cache.specs.Calls.{IsCalled, IsResting, Refuses, models_at, standpoint};
 ghost use Rattle.ob_call.specs.Called.{called_by, result_view};
 ghost use Rattle.ob_orm.specs.Create.{CreateCause, Creates};
-ghost use Rattle.ob_orm.specs.CreateSteps.{BreaksField, CreateAnswers, IsBrokenBy, KeepsTables};
+ghost use Rattle.ob_orm.specs.CreateSteps.{BreaksField, CreateAnswers, IsBrokenBy};
 ghost use Rattle.ob_tables.specs.After.{after};
 ghost use Rattle.ob_tables.specs.Fitting.{IsFitEdit};
 ghost use Rattle.ob_tables.specs.declared.edit.Edit.TheVariants as edit;
 
-use crate::fault::{keeper_refusal, settle_refusal};
-use crate::new_row::plain_values;
+use crate::fault::keeper_refusal;
+use crate::row_values::given_values;
+use crate::settling::settle_edits;
 use crate::values::Values;
 use ob_base::limits::MAX_ID;
 use ob_base::{
@@ -96,7 +97,7 @@ fn make<K: Keeper, L: Ledger>(
         },
     }];
     let given = arguments_of(alloc, &expected, call.args, call.kw)?;
-    let values = plain_values(alloc, schema, call.model, call.now, given.as_slice())?;
+    let values = given_values(alloc, schema, call.model, true, call.now, &given[0])?;
     let id = engine.next_id(call.model).map_err(keeper_refusal)?;
     if id > MAX_ID {
         return Err(past_limit(schema, call.model, id));
@@ -130,45 +131,12 @@ fn make_row<K: Keeper, L: Ledger>(
     ensures same { K.kept engine.new.keeper.now ≡ K.kept engine.old.keeper.now }
     ensures lender { engine.new.keeper.ghost_name ≡ engine.old.keeper.ghost_name }
 {
-    let made = stage_row(engine, model, id, values, steps);
-    if made.is_err() {
-        engine.forget();
-    }
-    made
-}
-
-/// Stages a row and settles. After a refusal the engine is spoiled.
-fn stage_row<K: Keeper, L: Ledger>(
-    engine: &mut Engine<'_, K>,
-    model: ModelNo,
-    id: u64,
-    values: Sequence<(FieldNo, Value)>,
-    steps: &mut Steps<L>,
-) -> Result<(), Refusal>
-    requires id { id ≤ max_id }
-    requires fit { IsFitEdit engine.old.held.models (edit.Make model (record { 0 = id }) values) }
-    requires rest { IsAtRest engine.old.held.models engine.old.held }
-    ensures settled { OnOk result (OfStages (K.kept engine.old.keeper.now) engine.old.held
-        (λ at. Stands (K.kept engine.new.keeper.now) engine.new.held (settled_of (with_edits at (edit.Make model (record { 0 = id }) values ∷ []))))) }
-    ensures phase { OnOk result (engine.new.held.phase ≡ phase.Settled) }
-    ensures next_ids { OnOk result (NextIdsUpTo max_next_id engine.new.held) }
-    ensures refused { IfErr result (λ why. OfStages (K.kept engine.old.keeper.now) engine.old.held
-        (λ at. Refuses (Rose (K.faults engine.old.keeper.now) (K.faults engine.new.keeper.now)) (IsBrokenBy at.models (after at.models at.staged (edit.Make model (record { 0 = id }) values ∷ []))) why)) }
-    ensures spoiled { OnErr result ((tables : Tables) → RestsAt (K.kept engine.old.keeper.now) engine.old.held tables → KeepsTables (K.kept engine.new.keeper.now) engine.new.held tables) }
-    ensures causes { IfErr result (Refuses (Rose (K.faults engine.old.keeper.now) (K.faults engine.new.keeper.now)) (BreaksField engine.old.held.models)) }
-    ensures models { engine.new.held.models ≡ engine.old.held.models }
-    ensures count { K.faults engine.old.keeper.now ≤ K.faults engine.new.keeper.now }
-    ensures ticks { (n : ℕ) × (steps.new ≡ ticked_times n L.noted steps.old) }
-    ensures same { K.kept engine.new.keeper.now ≡ K.kept engine.old.keeper.now }
-    ensures lender { engine.new.keeper.ghost_name ≡ engine.old.keeper.ghost_name }
-{
     let edits = [Edit::Make {
         model,
         id: RecId(id),
         values,
     }];
-    engine.stage(&edits).map_err(keeper_refusal)?;
-    engine.settle(steps).map_err(settle_refusal)
+    settle_edits(engine, &edits, steps)
 }
 
 /// The refusal of an id past its limit.

@@ -25,83 +25,21 @@ use Rattle.ob_call.specs.Forms.{fields_at}
 use Rattle.ob_codec.specs.Commands.{listed}
 use Rattle.ob_call.specs.ArgumentsSteps.{all_given_of, given_of}
 use Rattle.ob_call.specs.Results.{IsResultOf}
-use Rattle.ob_query.specs.Read.{Asked, IsLeastMissing, ReadCause, ReadRefuses, Reads, TellsRows, asked_by, asked_columns, asked_of, columns_in, columns_named, ids_in, once, read_expects}
-use Rattle.ob_query.specs.ReadParts.{columns_at}
-use Rattle.ob_query.specs.ReadRows.{AnswersRows, IsMissingAmong, MissesLeast}
+use Rattle.ob_call.specs.Ids.{IsLeastMissing, IsMissingAmong, MissesLeast, named_ids}
+use Rattle.ob_query.specs.Read.{Asked, ReadCause, ReadRefuses, Reads, TellsRows, asked_by, asked_of, read_expects}
+use Rattle.ob_call.specs.Columns.{asked_columns, columns_at}
+use Rattle.ob_query.specs.ReadRows.{AnswersRows}
 use Rattle.ob_call.specs.declared.arguments.Given.{Given}
 use Rattle.ob_call.specs.declared.call.Call.{Call}
-use Rattle.ob_query.proofs.ReadNumbers.{numbers_in}
 use Rattle.ob_cache.proofs.CallerLemmas.{Refuses-weaker}
 use Rattle.ob_call.proofs.CallerLemmas.{at_info}
 use Rattle.ob_query.proofs.ReadGiven.{ReadGiven, read_given}
-use Rattle.ob_call.proofs.CallerLemmas.{numbered-before}
 
 -- ---- the fields that are asked for
 
--- the column is that of its number
-abbrev IsOwn : ModelInfo → Column → Type 0
-IsOwn info column = numbered info.fields column.0 ≡ Some column.1
-
--- each column of a model is that of its number
-own_columns : (info : ModelInfo) → All (IsOwn info) (columns info)
-own_columns info k d lt =
-    let within : k < length info.fields = let e = length-enumerate_from 1 info.fields in omega arith in
-    let place : 1 + k ≡ suc k = omega arith in
-    subst (IsOwn info) (sym (get_or-enumerate_from 1 info.fields k d within))
-    (ap (numbered info.fields) place ∙ slice_get-get_or info.fields k d.1 within)
-
--- and those that a list names
-own_named : (info : ModelInfo) (names : List Data) → All (IsOwn info) (columns_named info names)
-own_named info [] = own_columns info
-own_named info (d ∷ ds) = All-filter _ (IsOwn info) (columns info) (own_columns info)
-
--- and those of an argument
-own_in : (info : ModelInfo) (d : Data) → All (IsOwn info) (columns_in info d)
-own_in info null = All-nil (IsOwn info)
-own_in info (boolean b) = All-nil (IsOwn info)
-own_in info (number n) = All-nil (IsOwn info)
-own_in info (string text) = All-nil (IsOwn info)
-own_in info (array items) = own_named info (listed items)
-own_in info (object _) = All-nil (IsOwn info)
-
--- and those that are asked for
-own_asked : (info : ModelInfo) (g : Option arguments.Given) → All (IsOwn info) (asked_columns info g)
-own_asked info None = own_columns info
-own_asked info (Some g) = own_in info g.json
-
--- the columns of these numbers are those that have them
-same_columns : (info : ModelInfo) (numbers : List FieldNo) (cs : List Column) → numbers_in numbers ≡ map (λ c. c.0) cs → All (IsOwn info) cs → columns_at info numbers ≡ cs
-same_columns info [] [] e own = refl
-same_columns info [] (c ∷ cs) e own = absurd cc
-same_columns info (n ∷ numbers) [] e own = absurd cc
-same_columns info (n ∷ numbers) (c ∷ cs) e own =
-    let first : n.0 ≡ c.0 = cc in
-    let rest : numbers_in numbers ≡ map (λ (x : Column). x.0) cs = cc in
-    let here : numbered info.fields n.0 ≡ Some c.1 = ap (numbered info.fields) first ∙ All-head (IsOwn info) c cs own in
-    rw (numbered-before info.fields info.hidden n.0 c.1 here) (ap (λ (m : ℕ). (m, c.1) ∷ columns_at info numbers) first ∙ ap (λ (xs : List Column). c ∷ xs) (same_columns info numbers cs rest (All-tail (IsOwn info) c cs own)))
-
--- a field of this number is there
-abbrev IsThere : Option ModelInfo → FieldNo → Type 0
-IsThere found n = IsSome (option_and_then (λ info. numbered (fields_of info) n.0) found)
-
--- each of the numbers is that of a field
-there_each : (info : ModelInfo) (numbers : List FieldNo) (cs : List Column) → numbers_in numbers ≡ map (λ c. c.0) cs → All (IsOwn info) cs → All (IsThere (Some info)) numbers
-there_each info [] cs e own = All-nil (IsThere (Some info))
-there_each info (n ∷ numbers) [] e own = absurd cc
-there_each info (n ∷ numbers) (c ∷ cs) e own =
-    let first : n.0 ≡ c.0 = cc in
-    let rest : numbers_in numbers ≡ map (λ (x : Column). x.0) cs = cc in
-    let here : numbered info.fields n.0 ≡ Some c.1 = ap (numbered info.fields) first ∙ All-head (IsOwn info) c cs own in
-    All-cons (IsThere (Some info)) n numbers (rw (numbered-before info.fields info.hidden n.0 c.1 here) refl) (there_each info numbers cs rest (All-tail (IsOwn info) c cs own))
-
 -- the numbers are those of the fields that are asked for
 abbrev pub AreAsked : Option ModelInfo → Option Given → List FieldNo → Type 0
-AreAsked found given numbers = IfSome found (λ info. numbers_in numbers ≡ map (λ c. c.0) (asked_columns info (option_map given_of given)))
-
--- the numbers that are asked for are those of fields
-pub asked_there : (found : Option ModelInfo) (given : Option Given) (numbers : List FieldNo) → IsSome found → AreAsked found given numbers → All (IsThere found) numbers
-asked_there None given numbers known are = absurd cc
-asked_there (Some info) given numbers known are = there_each info numbers (asked_columns info (option_map given_of given)) are (own_asked info (option_map given_of given))
+AreAsked found given numbers = IfSome found (λ info. columns_at info numbers ≡ asked_columns info (option_map given_of given))
 
 -- ---- the arguments
 
@@ -138,13 +76,13 @@ pub record Asks (c : Called) (ids : List ℕ) (numbers : List FieldNo) : Type 0 
 
 -- what the arguments ask for
 asks : (c : Called) (given : List (Option Given)) (three : Three given) (ids : List ℕ) (numbers : List FieldNo) → arguments_of (read_expects c.info.fields) c.args c.kw ≡ Ok (all_given_of given)
-    → ids ≡ once (ids_in (view three.first.json.now)) → AreAsked (Some c.info) three.second numbers → Asks c ids numbers
+    → ids ≡ named_ids (view three.first.json.now) → AreAsked (Some c.info) three.second numbers → Asks c ids numbers
 asks c given three ids numbers are ids_are numbers_are = record {
   asked = asked_by c.info (map (option_map given_of) (Some three.first ∷ three.second ∷ three.third ∷ []));
   is = ap (λ (r : Result (List (Option arguments.Given)) _). r >>= λ gs. Ok (asked_by c.info gs)) are
       ∙ ap (λ (gs : List (Option Given)). Ok (asked_by c.info (map (option_map given_of) gs))) three.are;
   ids_are = sym ids_are;
-  fields_are = sym (same_columns c.info numbers (asked_columns c.info (option_map given_of three.second)) numbers_are (own_asked c.info (option_map given_of three.second)));
+  fields_are = sym numbers_are;
 }
 
 -- what the call asks for, of a model that may be there
@@ -154,12 +92,12 @@ AsksIn found call ids numbers = IfSome found (λ info. Asks (called_by call info
 -- the ids and numbers by the arguments at their places
 pub asks_in : (found : Option ModelInfo) (call : Call) (given : List (Option Given)) (first : Given) (second : Option Given) (ids : List ℕ) (numbers : List FieldNo) → Three given
     → AreGiven found (view call.args.now) (view call.kw.now) given
-    → Some first ≡ get_or given 0 (Some first) → second ≡ get_or given 1 second → ids ≡ once (ids_in (view first.json.now)) → AreAsked found second numbers → AsksIn found call ids numbers
+    → Some first ≡ get_or given 0 (Some first) → second ≡ get_or given 1 second → ids ≡ named_ids (view first.json.now) → AreAsked found second numbers → AsksIn found call ids numbers
 asks_in None call given first second ids numbers three are one two ids_are numbers_are = tt
 asks_in (Some info) call given first second ids numbers three are one two ids_are numbers_are =
     let same_first : first ≡ three.first = let e : Some first ≡ Some three.first = one ∙ ap (λ (gs : List (Option Given)). get_or gs 0 (Some first)) three.are in cc in
     let same_second : second ≡ three.second = two ∙ ap (λ (gs : List (Option Given)). get_or gs 1 second) three.are in
-    asks (called_by call info) given three ids numbers are (ids_are ∙ ap (λ (g : Given). once (ids_in (view g.json.now))) same_first) (subst (λ (g : Option Given). AreAsked (Some info) g numbers) same_second numbers_are)
+    asks (called_by call info) given three ids numbers are (ids_are ∙ ap (λ (g : Given). named_ids (view g.json.now)) same_first) (subst (λ (g : Option Given). AreAsked (Some info) g numbers) same_second numbers_are)
 
 -- ---- the answer
 

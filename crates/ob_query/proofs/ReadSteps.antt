@@ -1,11 +1,9 @@
 -- The steps of fetching rows one after another.
-use Rattle.std.proofs.Common.{◌≡◌, inl, inr, ℕ, ◌≤◌, false, min, List, [], ◌∷◌, ◌++◌, map, Option, Some, None, Ok, Err, refl, sym, subst, arith}
+use Rattle.std.proofs.Common.{◌≡◌, ℕ, false, List, [], ◌∷◌, ◌++◌, map, Option, Some, None, Ok, Err, refl, sym, subst}
 use Rattle.std.specs.Prelude.{IfSome, IsSome, All, Contains}
-use Rattle.std.specs.Option.{option_map_or}
-use Rattle.std.proofs.lemmas.Bool.{cases_lt}
 use Rattle.std.proofs.lemmas.List.{map-append}
 use Rattle.std.proofs.lemmas.Option.{IfSome_then}
-use Rattle.std.proofs.lemmas.List.Elements.{All-push, All-weaker, All-cons, All-nil, Contains-push, Contains-append_left}
+use Rattle.std.proofs.lemmas.List.Elements.{All-cons, All-nil}
 use Rattle.ob_base.specs.declared.id.FieldNo.{FieldNo}
 use Rattle.ob_base.specs.declared.id.ModelNo.{ModelNo}
 use Rattle.ob_base.specs.declared.refusal.Refusal.TheVariants as refusal
@@ -13,16 +11,20 @@ use Rattle.ob_cache.specs.Standing.{Holding, RestsAt, Stays}
 use Rattle.ob_io.specs.Store.{Store}
 use Rattle.ob_schema.specs.Fields.{Column}
 use Rattle.ob_schema.specs.Models.{model_at}
-use Rattle.ob_schema.specs.Tables.{PlainRow, Tables, row_at}
+use Rattle.ob_schema.specs.Tables.{Tables, row_at}
 use Rattle.ob_schema.specs.declared.info.ModelInfo.{ModelInfo}
 use Rattle.serde_json.specs.Data.{Data, array}
 use Rattle.serde_json.specs.View.{items_of, view}
 use Rattle.serde_json.specs.Written.{has_float, items_have_float}
 use Rattle.serde_json.specs.declared.value.Value.{Value as Json}
-use Rattle.ob_query.specs.Read.{IsLeastMissing, TellsRow, TellsRows}
-use Rattle.ob_query.specs.ReadParts.{TellsOrMisses, columns_at}
+use Rattle.ob_call.proofs.CallerLemmas.{IsThere, asked-gap, asked-still, least_of, missing-first, missing-kept, missing-lesser}
+use Rattle.ob_call.specs.Ids.{IsLeastMissing}
+use Rattle.ob_query.specs.Read.{TellsRow, TellsRows}
+use Rattle.ob_query.specs.ReadParts.{TellsOrMisses}
+use Rattle.ob_call.specs.Columns.{columns_at}
 use Rattle.ob_query.specs.ReadRows.{AnswersRows}
-use Rattle.ob_query.proofs.ReadObjects.{both_plain, left_plain, right_plain, stays-rests}
+use Rattle.ob_query.proofs.ReadObjects.{stays-rests}
+use Rattle.ob_call.proofs.CallerLemmas.{both_plain, left_plain, right_plain}
 use Rattle.ob_cache.proofs.CallerLemmas.{stays-then}
 
 module _ (models : List ModelInfo) (model : ModelNo) (tables : Tables) where
@@ -31,20 +33,12 @@ module _ (models : List ModelInfo) (model : ModelNo) (tables : Tables) where
   Fetched fields ids objects None = TellsRows models tables model fields ids objects
   Fetched fields ids objects (Some id) = IsLeastMissing model tables ids id
 
-  -- an id that has a row is not missing
-  has_row : (id other : ℕ) → IsSome (row_at tables model (record { 0 = other })) → row_at tables model (record { 0 = other }) ≡ None → id ≤ other
-  has_row id other there none = absurd (let e = subst (λ (o : Option PlainRow). IsSome o) none there in cc)
-
-  -- no id above one that no row has
-  abbrev Least : ℕ → ℕ → Type 0
-  Least id other = row_at tables model (record { 0 = other }) ≡ None → id ≤ other
-
-  -- none of the ids of rows is missing
-  all_there : (fields : List Column) (id : ℕ) (ids : List ℕ) (objects : List Data) → TellsRows models tables model fields ids objects → All (Least id) ids
-  all_there fields id [] [] tell = All-nil (Least id)
-  all_there fields id [] (d ∷ objects) tell = absurd tell
-  all_there fields id (other ∷ ids) [] tell = absurd tell
-  all_there fields id (other ∷ ids) (d ∷ objects) tell = All-cons (Least id) other ids (has_row id other tell.0) (all_there fields id ids objects tell.2)
+  -- the ids of rows that are told have rows
+  all_there : (fields : List Column) (ids : List ℕ) (objects : List Data) → TellsRows models tables model fields ids objects → All (IsThere model tables) ids
+  all_there fields [] [] tell = All-nil (IsThere model tables)
+  all_there fields [] (d ∷ objects) tell = absurd tell
+  all_there fields (other ∷ ids) [] tell = absurd tell
+  all_there fields (other ∷ ids) (d ∷ objects) tell = All-cons (IsThere model tables) other ids tell.0 (all_there fields ids objects tell.2)
 
   -- one row more is told
   one_more : (fields : List Column) (ids : List ℕ) (objects : List Data) (id : ℕ) (d : Data) → TellsRows models tables model fields ids objects → IsSome (row_at tables model (record { 0 = id }))
@@ -59,58 +53,14 @@ module _ (models : List ModelInfo) (model : ModelNo) (tables : Tables) where
       → TellsRow models tables model fields (record { 0 = id }) d
       → Fetched fields (ids ++ id ∷ []) (objects ++ d ∷ []) missing
   fetched_row fields ids objects None id d tell there told = one_more fields ids objects id d tell there told
-  fetched_row fields ids objects (Some gap) id d are there told = record {
-    asked = Contains-append_left ids (id ∷ []) gap are.asked;
-    missing = are.missing;
-    least = All-push (Least gap) ids id are.least (has_row gap id there);
-  }
-
-  -- of two ids that are missing the lesser one is the least
-  lesser : (ids : List ℕ) (gap id : ℕ) → IsLeastMissing model tables ids gap → row_at tables model (record { 0 = id }) ≡ None → IsLeastMissing model tables (ids ++ id ∷ []) (min gap id)
-  lesser ids gap id are none =
-      elim (cases_lt gap id) [
-        | inl lt ↦ (let same : min gap id ≡ gap = omega arith in
-            rw same (record {
-              asked = Contains-append_left ids (id ∷ []) gap are.asked;
-              missing = are.missing;
-              least = All-push (Least gap) ids id are.least (λ e. omega arith);
-            }))
-        | inr le ↦ (let same : min gap id ≡ id = omega arith in
-            rw same (record {
-              asked = Contains-push ids id;
-              missing = none;
-              least = All-push (Least id) ids id (All-weaker (Least gap) (Least id) (λ x h e. let lower = h e in omega arith) ids are.least) (λ e. omega arith);
-            }))
-      ]
-
--- the least of an id and the one before it
-abbrev pub least_of : Option ℕ → ℕ → ℕ
-least_of before id = option_map_or (λ other. min other id) before id
+  fetched_row fields ids objects (Some gap) id d are there told = missing-kept model tables ids gap id are there
 
 -- one id more is missing
 fetched_gap : (models : List ModelInfo) (model : ModelNo) (tables : Tables) (fields : List Column) (ids : List ℕ) (objects : List Data) (missing : Option ℕ) (id : ℕ) → Fetched models model tables fields ids objects missing
     → row_at tables model (record { 0 = id }) ≡ None
     → Fetched models model tables fields (ids ++ id ∷ []) objects (Some (least_of missing id))
-fetched_gap models model tables fields ids objects None id tell none = record {
-  asked = Contains-push ids id;
-  missing = none;
-  least = All-push (Least models model tables id) ids id (all_there models model tables fields id ids objects tell) (λ e. omega arith);
-}
-fetched_gap models model tables fields ids objects (Some gap) id are none = lesser models model tables ids gap id are none
-
--- the least of the missing ids was asked for
-asked_gap : (ids : List ℕ) (missing : Option ℕ) (id : ℕ) → IfSome missing (Contains ids) → Contains (ids ++ id ∷ []) (least_of missing id)
-asked_gap ids None id asked = Contains-push ids id
-asked_gap ids (Some gap) id asked =
-    elim (cases_lt gap id) [
-      | inl lt ↦ (let same : min gap id ≡ gap = omega arith in rw same (Contains-append_left ids (id ∷ []) gap asked))
-      | inr le ↦ (let same : min gap id ≡ id = omega arith in rw same (Contains-push ids id))
-    ]
-
--- it still is, with one id more
-asked_still : (ids : List ℕ) (missing : Option ℕ) (id : ℕ) → IfSome missing (Contains ids) → IfSome missing (Contains (ids ++ id ∷ []))
-asked_still ids None id asked = tt
-asked_still ids (Some gap) id asked = Contains-append_left ids (id ∷ []) gap asked
+fetched_gap models model tables fields ids objects None id tell none = missing-first model tables ids id (all_there models model tables fields ids objects tell) none
+fetched_gap models model tables fields ids objects (Some gap) id are none = missing-lesser model tables ids gap id are none
 
 -- one object more without a float
 plain_push : (objects : List Data) (d : Data) → items_have_float (items_of objects) ≡ false → has_float d ≡ false → items_have_float (items_of (objects ++ d ∷ [])) ≡ false
@@ -166,7 +116,7 @@ module _ (kept : Option Store) (held : Holding) (now : Option Store) (new : Hold
   IsFetching-row after next ids objects missing id json found plain stays so_far = record {
     same = stays-then kept now after held new next so_far.same stays;
     told = λ tables rests. row_in held.models (model_at held.models model) model numbers ids objects missing id json tables (so_far.told tables rests) (by_first (Some json) id so_far.same found tables rests);
-    asked = asked_still ids missing id so_far.asked;
+    asked = asked-still ids missing id so_far.asked;
     plain = subst (λ (ds : List Data). items_have_float (items_of ds) ≡ false) (sym (map-append view objects (json ∷ []))) (plain_push (map view objects) (view json) so_far.plain plain);
   }
 
@@ -177,7 +127,7 @@ module _ (kept : Option Store) (held : Holding) (now : Option Store) (new : Hold
   IsFetching-gap after next ids objects missing id found stays so_far = record {
     same = stays-then kept now after held new next so_far.same stays;
     told = λ tables rests. gap_in held.models (model_at held.models model) model numbers ids objects missing id tables (so_far.told tables rests) (by_first None id so_far.same found tables rests);
-    asked = asked_gap ids missing id so_far.asked;
+    asked = asked-gap ids missing id so_far.asked;
     plain = so_far.plain;
   }
 

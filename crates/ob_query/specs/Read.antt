@@ -1,7 +1,5 @@
 -- The machine's `read`: the named fields of the named rows.
-use Rattle.std.specs.Prelude.{◌≡◌, ℕ, ◌≤◌, ◌==◌, List, [], ◌∷◌, filter, not, codes, Bool, true, false, Option, Some, None, Result, Ok, Err, Contains, All, IsSome, ⊤}
-use Rattle.std.specs.List.{filter_map, list_any}
-use Rattle.std.specs.Option.{option_map_or}
+use Rattle.std.specs.Prelude.{◌≡◌, ℕ, List, [], ◌∷◌, codes, true, false, Option, Some, None, Result, Ok, Err, Contains, IsSome, ⊤}
 use Rattle.ob_base.specs.Chain.{◌>>=◌}
 use Rattle.ob_base.specs.declared.id.ModelNo.{ModelNo}
 use Rattle.ob_base.specs.declared.id.RecId.{RecId}
@@ -10,7 +8,7 @@ use Rattle.ob_base.specs.declared.place.PathStep.{PathStep}
 use Rattle.ob_base.specs.declared.refusal.Refusal.{Refusal}
 use Rattle.ob_base.specs.declared.refusal.Refusal.TheVariants as refusal
 use Rattle.ob_codec.specs.JsonForm.{IsJsonOf}
-use Rattle.ob_schema.specs.Fields.{Column, columns}
+use Rattle.ob_schema.specs.Fields.{Column}
 use Rattle.ob_schema.specs.Tables.{Tables, row_at}
 use Rattle.ob_schema.specs.Val.{val}
 use Rattle.ob_schema.specs.declared.info.FieldInfo.{FieldInfo}
@@ -19,8 +17,9 @@ use Rattle.serde_json.specs.Data.{unsigned, Data, number, array, object, Members
 use Rattle.serde_json.specs.View.{items_of}
 use Rattle.ob_call.specs.Arguments.{Expected, Given, arguments_of}
 use Rattle.ob_call.specs.Called.{Called}
-use Rattle.ob_call.specs.Forms.{id_from, ids_fault, names_fault, number_from}
-use Rattle.ob_codec.specs.Commands.{listed}
+use Rattle.ob_call.specs.Columns.{asked_columns}
+use Rattle.ob_call.specs.Forms.{ids_fault, names_fault}
+use Rattle.ob_call.specs.Ids.{IsLeastMissing, named_ids}
 
 -- what a read is called with: ids, fields, and a way of loading that is not read
 abbrev pub read_expects : List FieldInfo → List Expected
@@ -31,44 +30,14 @@ read_expects fields = record { name = codes "ids"; required = true; fault = ids_
   fault = λ _. None;
 } ∷ []
 
--- the ids of an argument of that form
-abbrev pub ids_in : Data → List ℕ
-ids_in (number n) = filter_map id_from (number n ∷ [])
-ids_in (array items) = filter_map id_from (listed items)
-ids_in _ = []
-
--- whether one of these texts names the field of this number
-abbrev pub is_named : ModelInfo → List Data → ℕ → Bool
-is_named info names n = list_any (λ d. option_map_or (λ named. named.0 == n) (number_from info.fields d) false) names
-
--- the fields that the texts of a list name, or all where it is empty
-abbrev pub columns_named : ModelInfo → List Data → List Column
-columns_named info [] = columns info
-columns_named info (d ∷ ds) = filter (λ column. is_named info (d ∷ ds) column.0) (columns info)
-
--- the fields of an argument of that form
-abbrev pub columns_in : ModelInfo → Data → List Column
-columns_in info (array items) = columns_named info (listed items)
-columns_in info _ = []
-
--- each id once, at its first place
-abbrev pub once : List ℕ → List ℕ
-once [] = []
-once (id ∷ ids) = id ∷ filter (λ other. not (other == id)) (once ids)
-
 -- what a read asks for
 pub record Asked : Type 0 where
   pub ids : List ℕ
   pub fields : List Column
 
--- the fields that are asked for: all where none is named
-abbrev pub asked_columns : ModelInfo → Option Given → List Column
-asked_columns info None = columns info
-asked_columns info (Some g) = columns_in info g.json
-
 -- what the arguments ask for; the ids are given
 abbrev pub asked_by : ModelInfo → List (Option Given) → Asked
-asked_by info (Some ids ∷ fields ∷ gs) = record { ids = once (ids_in ids.json); fields = asked_columns info fields }
+asked_by info (Some ids ∷ fields ∷ gs) = record { ids = named_ids ids.json; fields = asked_columns info fields }
 asked_by info _ = record { ids = []; fields = [] }
 
 -- what a read asks for, or the first place that is wrong
@@ -91,12 +60,6 @@ TellsRows models tables model fields [] [] = ⊤
 TellsRows models tables model fields (id ∷ ids) (d ∷ ds) =
     IsSome (row_at tables model (record { 0 = id })) × TellsRow models tables model fields (record { 0 = id }) d × TellsRows models tables model fields ids ds
 TellsRows models tables model fields _ _ = ⊥
-
--- the least of the ids that no row has
-pub record IsLeastMissing (model : ModelNo) (tables : Tables) (ids : List ℕ) (id : ℕ) : Type 0 where
-  pub asked : Contains ids id
-  pub missing : row_at tables model (record { 0 = id }) ≡ None
-  pub least : All (λ other. row_at tables model (record { 0 = other }) ≡ None → id ≤ other) ids
 
 -- why a read is refused
 abbrev pub ReadRefuses : Called → Tables → Refusal → Type 0

@@ -1,6 +1,5 @@
 -- What the parts of a read give.
-use Rattle.std.specs.Prelude.{◌≡◌, ℕ, ◌+◌, ◌||◌, List, [], ◌∷◌, Bool, IsSome, Option, Some, None, Result, Ok, Err, option_map, if◌then◌else◌}
-use Rattle.std.specs.List.{filter_map}
+use Rattle.std.specs.Prelude.{◌≡◌, List, IsSome, Option, Some, None, Result, Ok, Err}
 use Rattle.ob_base.specs.declared.id.FieldNo.{FieldNo}
 use Rattle.ob_base.specs.declared.id.ModelNo.{ModelNo}
 use Rattle.ob_base.specs.declared.id.RecId.{RecId}
@@ -13,9 +12,7 @@ use Rattle.ob_cache.specs.declared.fault.ReadFault.{ReadFault}
 use Rattle.ob_cache.specs.declared.fault.ReadFault.TheVariants as read_fault
 use Rattle.ob_codec.specs.JsonForm.{IsJsonOf}
 use Rattle.ob_query.specs.Read.{TellsRow}
-use Rattle.ob_schema.specs.Built.{numbered}
 use Rattle.ob_schema.specs.Fields.{Column}
-use Rattle.ob_schema.specs.Models.{fields_of}
 use Rattle.ob_schema.specs.Tables.{Tables, row_at}
 use Rattle.ob_schema.specs.Val.{val}
 use Rattle.ob_schema.specs.declared.info.ModelInfo.{ModelInfo}
@@ -25,15 +22,6 @@ use Rattle.serde_json.specs.declared.value.Value.{Value as Json}
 -- all that is told of an engine is what it was
 abbrev pub LeavesAll : (before after : Standpoint) → Type 0
 LeavesAll before after = Stays before.kept before.held after.kept after.held
-
--- the numbers of the flags that are set, or of all, the first one at this number
-abbrev pub flagged : Bool → ℕ → List Bool → List ℕ
-flagged all n [] = []
-flagged all n (flag ∷ flags) = if flag || all then n ∷ flagged all (n + 1) flags else flagged all (n + 1) flags
-
--- the fields of these numbers
-abbrev pub columns_at : ModelInfo → List FieldNo → List Column
-columns_at info numbers = filter_map (λ number. option_map (λ field. (number.0, field)) (numbered (fields_of info) number.0)) numbers
 
 -- the JSON of a cell of a row that is there; none where it isn't
 abbrev pub TellsCell : List ModelInfo → Tables → ModelNo → FieldNo → RecId → Option Json → Type 0

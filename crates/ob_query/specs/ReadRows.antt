@@ -1,27 +1,17 @@
 -- The objects that a read tells of rows, by the tables.
-use Rattle.std.specs.Prelude.{◌≡◌, ℕ, List, Contains, Result, Ok, Err}
+use Rattle.std.specs.Prelude.{◌≡◌, ℕ, List, Result, Ok, Err}
 use Rattle.ob_base.specs.declared.id.ModelNo.{ModelNo}
 use Rattle.ob_base.specs.declared.refusal.Refusal.{Refusal}
-use Rattle.ob_base.specs.declared.refusal.Refusal.TheVariants as refusal
 use Rattle.ob_cache.specs.Calls.{Refuses}
-use Rattle.ob_query.specs.Read.{IsLeastMissing, TellsRows}
+use Rattle.ob_call.specs.Ids.{MissesLeast}
+use Rattle.ob_query.specs.Read.{TellsRows}
 use Rattle.ob_schema.specs.Fields.{Column}
 use Rattle.ob_schema.specs.Tables.{Tables}
 use Rattle.ob_schema.specs.declared.info.ModelInfo.{ModelInfo}
 use Rattle.serde_json.specs.Data.{Data, array}
 use Rattle.serde_json.specs.View.{items_of}
 
--- why not all rows are told: the least id that has none
-abbrev pub MissesLeast : ModelNo → Tables → List ℕ → Refusal → Type 0
-MissesLeast model tables ids (refusal.Missing m id) = (m ≡ model) × IsLeastMissing model tables ids id.0
-MissesLeast model tables ids _ = ⊥
-
 -- the objects that tell of the rows of these ids in their order, or why not
 abbrev pub AnswersRows : List ModelInfo → Tables → ModelNo → List Column → List ℕ → Type 0 → Result Data Refusal → Type 0
 AnswersRows models tables model fields ids rose (Ok json) = (objects : List Data) × TellsRows models tables model fields ids objects × (json ≡ array (items_of objects))
 AnswersRows models tables model fields ids rose (Err why) = Refuses rose (MissesLeast model tables ids) why
-
--- an id that is missing is one of these
-abbrev pub IsMissingAmong : ModelNo → List ℕ → Refusal → Type 0
-IsMissingAmong model ids (refusal.Missing m id) = (m ≡ model) × Contains ids id.0
-IsMissingAmong model ids _ = ⊥

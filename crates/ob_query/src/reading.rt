@@ -1,32 +1,31 @@
 //! `read`: the named fields of the named rows.
 //!
-//! Rooms: `read_form` (the forms of its arguments), `asked` (what is asked for) and `told_rows`
+//! Rooms: `read_form` (the forms of its arguments), `asked` (which fields are asked for) and `told_rows`
 //! (how rows are told). What it means is `Reads`, and why it may be refused over any keeper
 //! `ReadCause`: a change begins with these.
 
-ghost use Rattle.std.specs.Prelude.{◌≡◌, ◌≤◌, false, min, All, IfErr, IfOk, IfSome, Some};
-ghost use Rattle.std.specs.Option.{option_map_or};
+ghost use Rattle.std.specs.Prelude.{◌≡◌, ◌≤◌, false, All, IfErr, IfOk, IfSome};
 ghost use Rattle.serde_json.specs.View.{view};
 ghost use Rattle.serde_json.specs.Written.{has_float};
 ghost use Rattle.ob_cache.specs.Calls.{HasTables, IsAsked, IsResting, KeeperRose, Refuses, TellsBy, models_at, standpoint};
 ghost use Rattle.ob_cache.specs.declared.stages.Phase.TheVariants as phase;
 ghost use Rattle.ob_call.specs.Called.{called_by, result_view};
 ghost use Rattle.ob_query.specs.Read.{ReadCause, Reads};
-ghost use Rattle.ob_query.specs.ReadParts.{LeavesAll, columns_at};
-ghost use Rattle.ob_query.specs.ReadRows.{AnswersRows, IsMissingAmong};
+ghost use Rattle.ob_call.specs.Ids.{IsMissingAmong};
+ghost use Rattle.ob_query.specs.ReadParts.{LeavesAll};
+ghost use Rattle.ob_call.specs.Columns.{columns_at};
+ghost use Rattle.ob_query.specs.ReadRows.{AnswersRows};
 ghost use Rattle.ob_schema.specs.Models.{HasField, HasModel, model_at};
 ghost use Rattle.ob_schema.specs.Tables.{Tables};
 
-mod asked;
 mod read_form;
 mod told_rows;
 
-use crate::reading::asked::{asked_fields, asked_ids};
 use crate::reading::read_form::read_parameters;
 use crate::reading::told_rows::row_object;
 use ob_base::{FieldNo, Ledger, ModelNo, NoMemory, RecId, Refusal, Steps};
 use ob_cache::Engine;
-use ob_call::{Call, Json, arguments_of};
+use ob_call::{Call, Json, arguments_of, least, named_fields, named_ids};
 use ob_io::Keeper;
 use std::alloc::Global;
 
@@ -85,8 +84,8 @@ fn asked_objects<K: Keeper>(
     let Some(ids) = &given[0] else {
         unreachable!();
     };
-    let ids = asked_ids(alloc, ids.json).map_err(no_memory)?;
-    let fields = asked_fields(alloc, schema, call.model, &given[1]).map_err(no_memory)?;
+    let ids = named_ids(alloc, ids.json).map_err(no_memory)?;
+    let fields = named_fields(alloc, schema, call.model, &given[1]).map_err(no_memory)?;
     objects_of(alloc, engine, call.model, ids.as_slice(), fields.as_slice())
 }
 
@@ -127,15 +126,5 @@ fn objects_of<K: Keeper>(
     match missing {
         Some(id) => Err(Refusal::Missing(model, RecId(id))),
         None => Ok(Json::Array(objects)),
-    }
-}
-
-/// The lesser of an id and the one before it, where there is one.
-fn least(before: Option<u64>, id: u64) -> Option<u64>
-    ensures { result ≡ Some (option_map_or (λ other. min other id) before id) }
-{
-    match before {
-        Some(other) => Some(other.min(id)),
-        None => Some(id),
     }
 }

@@ -10,7 +10,7 @@ ghost use Rattle.ob_io.specs.Store.{Fits63, IsAnswerOf, IsChangeFit, IsPage};
 use crate::opened::Opened;
 use ob_base::{FieldNo, ModelNo, RecId, RefList, Sequence};
 use ob_io::{Change, KeepFault, Keeper, KeptRow};
-use sqlite::{Alter, Connection};
+use sqlite::{Alter, Connection, File, FileStore};
 use std::marker::Model;
 
 /// Keeps rows in a database of SQLite. It doesn't tell what it keeps.
@@ -55,6 +55,17 @@ impl<S: Alter> SqliteKeeper<S> {
         SqliteKeeper {
             held: Err(fault),
             faults: 0,
+        }
+    }
+}
+
+impl SqliteKeeper<FileStore<File>> {
+    /// Ends the work on a file: what was kept in its log is copied into the file, where the disk
+    /// lets it. Without this it is kept in the log, which belongs to the file.
+    pub fn close(self) {
+        let SqliteKeeper { held, faults: _ } = self;
+        if let Ok(opened) = held {
+            opened.close();
         }
     }
 }

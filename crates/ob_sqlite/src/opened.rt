@@ -9,7 +9,7 @@ use crate::tables::make_tables;
 use crate::{reading, writing};
 use ob_base::{FieldNo, ModelNo, RecId, RefList, Sequence};
 use ob_io::{Change, KeepFault, KeptRow};
-use sqlite::{Alter, Connection};
+use sqlite::{Alter, Connection, File, FileStore};
 
 /// An open connection, and what its calls came to.
 #[derive(Drop)]
@@ -113,5 +113,17 @@ impl<S: Alter> Opened<S> {
         }
         self.spoiled = true;
         Err(KeepFault::Failed)
+    }
+}
+
+impl Opened<FileStore<File>> {
+    /// Copies the log into the file, where the disk lets it.
+    pub(crate) fn close(self) {
+        let Opened {
+            connection,
+            has_tables: _,
+            spoiled: _,
+        } = self;
+        let _ = connection.close();
     }
 }

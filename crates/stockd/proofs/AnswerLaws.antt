@@ -16,8 +16,6 @@ use Rattle.ob_cache.specs.Standing.{Holding, OfStages, RestsAt, Stands}
 use Rattle.ob_call.specs.Called.{Called, called_by}
 use Rattle.ob_call.specs.declared.call.Call.{Call as Handed}
 use Rattle.ob_io.specs.Store.{Store}
-use Rattle.ob_orm.specs.Create.{Creates}
-use Rattle.ob_query.specs.Read.{Reads}
 use Rattle.ob_rpc.specs.Envelope.{Envelope, Fault, element_place, envelope_of}
 use Rattle.ob_rpc.specs.declared.methods.Served.TheVariants.{ExecuteKw}
 use Rattle.ob_schema.specs.Models.{model_at}
@@ -28,9 +26,7 @@ use Rattle.stockd.specs.declared.request.Method.{Method}
 use Rattle.stockd.specs.declared.request.Method.TheVariants as method
 use Rattle.stockd.specs.declared.request.MethodCall.{MethodCall}
 use Rattle.stockd.specs.declared.request.ReadMethod.{ReadMethod}
-use Rattle.stockd.specs.declared.request.ReadMethod.TheVariants as reading
 use Rattle.stockd.specs.declared.request.WriteMethod.{WriteMethod}
-use Rattle.stockd.specs.declared.request.WriteMethod.TheVariants as writing
 use Rattle.stockd.specs.Request.{Call, Request, call_of, called, request_by, request_of}
 use Rattle.stockd.specs.Texts.{malformed_text, no_memory_text, outcome_text, told}
 use Rattle.stockd.specs.Body.{Serves, ServesOver}
@@ -193,9 +189,16 @@ pub seen_as : (id : Data) (call : MethodCall) (named : Method) (kw : Data) → c
     → called id (record { caller = call.caller; model = call.model; method = named; args = view call.args.now; kw = kw }) ≡ called id (call_view call)
 seen_as id call named kw is kw_is = rw (← is, kw_is) refl
 
--- what each method tells and makes
-pub tells_read : (reads : ReadMethod) → Tells reads ≡ Reads
-tells_read reading.Read = refl
+-- a call by what one method tells is one by the method that it is
+pub tells_as : (before after : Standpoint) (call : Handed) (reads named : ReadMethod) → reads ≡ named → (r : Result Data Refusal)
+    → IfSome (model_at (models_at before) call.model) (λ info. IsAsked (Tells named (models_at before) (called_by call info)) before after (λ _. ⊤) r)
+    → IfSome (model_at (models_at before) call.model) (λ info. IsAsked (Tells reads (models_at before) (called_by call info)) before after (λ _. ⊤) r)
+tells_as before after call reads named is r =
+    subst (λ (method : ReadMethod). IfSome (model_at (models_at before) call.model) (λ info. IsAsked (Tells method (models_at before) (called_by call info)) before after (λ _. ⊤) r)) (sym is)
 
-pub makes_create : (writes : WriteMethod) → Makes writes ≡ Creates
-makes_create writing.Create = refl
+-- a call by what one method makes is one by the method that it is
+pub makes_as : (before after : Standpoint) (call : Handed) (writes named : WriteMethod) → writes ≡ named → (r : Result Data Refusal)
+    → IfSome (model_at (models_at before) call.model) (λ info. IsCalled (Makes named (models_at before) (called_by call info)) before after (λ _. ⊤) r)
+    → IfSome (model_at (models_at before) call.model) (λ info. IsCalled (Makes writes (models_at before) (called_by call info)) before after (λ _. ⊤) r)
+makes_as before after call writes named is r =
+    subst (λ (method : WriteMethod). IfSome (model_at (models_at before) call.model) (λ info. IsCalled (Makes method (models_at before) (called_by call info)) before after (λ _. ⊤) r)) (sym is)

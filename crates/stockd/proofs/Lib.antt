@@ -8,6 +8,7 @@ pub mod RunOn
 pub mod ServedOn
 pub mod SessionOn
 pub mod WordsRead
+pub mod ReportWritten
 pub mod WholeCall
 pub mod WrittenParts
 pub mod Others

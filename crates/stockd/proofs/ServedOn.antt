@@ -32,7 +32,7 @@ served_none start first left at stands rests = record {
   written_is = stands.written_is ∙ ap Some (sym (append-nil start.written));
 }
 
-reply_lines-append : (replies : List (List ℕ)) (reply : List ℕ) → reply_lines (replies ++ reply ∷ []) ≡ reply_lines replies ++ (reply ++ 10 ∷ [])
+pub reply_lines-append : (replies : List (List ℕ)) (reply : List ℕ) → reply_lines (replies ++ reply ∷ []) ≡ reply_lines replies ++ (reply ++ 10 ∷ [])
 reply_lines-append replies reply =
     flat_map-append (λ (r : List ℕ). r ++ 10 ∷ []) replies (reply ∷ []) ∙ ap (λ x. reply_lines replies ++ x) (append-nil (reply ++ 10 ∷ []))
 

@@ -25,6 +25,7 @@ CutsNone why = (replies : List (List ℕ)) → WritesReplies why replies (reply_
 
 pub session_ending : (why : Ending) → CutsNone why → IsSessionEnding why
 session_ending ending.Done h = tt
+session_ending ending.Differs h = absurd (h [])
 session_ending ending.Usage h = absurd (h [])
 session_ending (ending.Module text) h = absurd (h [])
 session_ending ending.ReadFault h = tt

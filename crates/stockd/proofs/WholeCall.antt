@@ -1,5 +1,5 @@
 -- From the loading and the opening to what the whole run did.
-use Rattle.std.proofs.Common.{◌≡◌, ℕ, ℤ, ◌≤◌, ◌⊎◌, List, Option, Some, None, refl, sym, ap, ◌∙◌, subst, arith, inl, inr, IfSome}
+use Rattle.std.proofs.Common.{◌≡◌, ℕ, ℤ, ◌≤◌, ◌⊎◌, ◌++◌, List, Option, Some, None, refl, sym, ap, ◌∙◌, subst, arith, inl, inr, IfSome}
 use Rattle.std.specs.Option.{IsSome, IsSomeAnd, is_some}
 use Rattle.ob_cache.specs.Kept.{Kept, OthersStay}
 use Rattle.ob_cache.specs.Stages.{StandsOver, resting}
@@ -15,10 +15,12 @@ use Rattle.ob_schema.specs.declared.info.ModelInfo.{ModelInfo}
 use Rattle.stockd.specs.declared.ending.Ending.TheVariants as ending
 use Rattle.stockd.specs.declared.ending.Ending.{Ending}
 use Rattle.stockd.specs.Ending.{HasReason}
-use Rattle.stockd.specs.Program.{EndsCall, HasCauses, Outside}
+use Rattle.stockd.specs.Audit.{TellsReport}
+use Rattle.stockd.specs.Program.{EndsAction, EndsAudit, EndsCall, HasCauses, Outside}
 use Rattle.stockd.specs.Session.{Start, Surroundings, StandsAt, StandsFor, Session, first_state}
 use Rattle.stockd.specs.Store.{EndsLoading, EndsOpening, TellsFault}
-use Rattle.stockd.specs.Words.{Command}
+use Rattle.stockd.specs.Words.{Action, Command, audit, call}
+use Rattle.stockd.proofs.ReportWritten.{at_told}
 use Rattle.stockd.proofs.RunOn.{run_from}
 
 -- a fault that is the first one, and is told, stops the loading
@@ -27,6 +29,7 @@ stops_told : (text_of : List ℕ → Option (List ℕ)) (names : List (List ℕ)
 stops_told text_of names rose faulty (ending.Module line) first told = (faulty, first, told)
 stops_told text_of names rose faulty ending.NoMemory first told = tt
 stops_told text_of names rose faulty ending.Done first told = absurd told
+stops_told text_of names rose faulty ending.Differs first told = absurd told
 stops_told text_of names rose faulty ending.Usage first told = absurd told
 stops_told text_of names rose faulty ending.ReadFault first told = absurd told
 stops_told text_of names rose faulty ending.WriteFault first told = absurd told
@@ -117,27 +120,62 @@ module _ {D : Type 0} (faults : D → ℕ) (kept : D → Option Store) where
       subst (λ (k : Option Store). OthersStay models k (kept after)) kept_is (subst (λ (m : List ModelInfo). OthersStay m (kept opened) (kept after)) same ended)
 
 -- a fault of reading has its reason
-read_reason : (source output keeper : Type 0) (why : Ending) → HasReason source output keeper why → why ≡ ending.ReadFault → source
-read_reason source output keeper why reason is = subst (λ (w : Ending). HasReason source output keeper w) is reason
+read_reason : (audits source output keeper : Type 0) (why : Ending) → HasReason audits source output keeper why → why ≡ ending.ReadFault → source
+read_reason audits source output keeper why reason is = subst (λ (w : Ending). HasReason audits source output keeper w) is reason
 
 -- the modules were loaded; what the opening did is what the call did
-pub ends_opened : (command : Command) (why : Ending) (start : Start) (rose source output keeper : Type 0) (left_now : Option (List ℕ)) (now : Surroundings) (models : List ModelInfo) (texts : Option (List ℕ → Option (List ℕ)))
+pub ends_opened : (command : Command) (why : Ending) (start : Start) (audits rose source output keeper : Type 0) (left_now : Option (List ℕ)) (now : Surroundings) (models : List ModelInfo) (texts : Option (List ℕ → Option (List ℕ)))
     → texts ≡ Some start.texts → IfSome texts (λ texts. IsLoaded (text_in texts command.folder) command.names models)
     → (EndsOpening models start.store (Rose start.faults now.faults) why × StandsAt (record start { faults = now.faults }) left_now now)
     ⊎ ((first : Tables) × StandsFor models first start.store × Session models first why start left_now now)
-    → HasReason source output keeper why → EndsCall command why start rose source left_now now
-ends_opened command why start rose source output keeper left_now now models texts told loaded (inl stopped) reason =
-    let loaded = subst (λ (t : Option (List ℕ → Option (List ℕ))). IfSome t (λ texts. IsLoaded (text_in texts command.folder) command.names models)) told loaded in
+    → HasReason audits source output keeper why → EndsCall command why start rose source left_now now
+ends_opened command why start audits rose source output keeper left_now now models texts told loaded (inl stopped) reason =
+    let loaded = at_told (λ (t : FileTexts). IsLoaded (text_in t command.folder) command.names models) start.texts texts told loaded in
     inr (inl (record { models = models; loaded = loaded; stops = stopped.0; same = stopped.1 }))
-ends_opened command why start rose source output keeper left_now now models texts told loaded (inr opened) reason =
-    let loaded = subst (λ (t : Option (List ℕ → Option (List ℕ))). IfSome t (λ texts. IsLoaded (text_in texts command.folder) command.names models)) told loaded in
-    inr (inr (record { models = models; loaded = loaded; first = opened.0; stands = opened.1; session = opened.2; read_fault = read_reason source output keeper why reason }))
+ends_opened command why start audits rose source output keeper left_now now models texts told loaded (inr opened) reason =
+    let loaded = at_told (λ (t : FileTexts). IsLoaded (text_in t command.folder) command.names models) start.texts texts told loaded in
+    inr (inr (record { models = models; loaded = loaded; first = opened.0; stands = opened.1; session = opened.2; read_fault = read_reason audits source output keeper why reason }))
+
+-- the modules were loaded; what of the report on the rows was written is what the audit did
+pub ends_audited : (command : Command) (why : Ending) (start : Start) (rose : Type 0) (left : Option (List ℕ)) (old new : Surroundings) (models : List ModelInfo) (texts : Option (List ℕ → Option (List ℕ)))
+    → texts ≡ Some start.texts → IfSome texts (λ texts. IsLoaded (text_in texts command.folder) command.names models)
+    → (told : (written : List ℕ) × TellsReport models start.store (Rose old.faults new.faults) why written × (new.written ≡ Some (start.written ++ written)))
+    → new.kept ≡ old.kept → new.coming ≡ old.coming → StandsAt start left old → EndsAudit command why start rose left new
+ends_audited command why start rose left old new models texts told_texts loaded (written, tells, now) kept coming at = inr (record {
+  models = models;
+  loaded = at_told (λ (t : FileTexts). IsLoaded (text_in t command.folder) command.names models) start.texts texts told_texts loaded;
+  written = written;
+  tells = subst (λ (faults : ℕ). TellsReport models start.store (Rose faults new.faults) why written) at.faults_are tells;
+  same = record {
+    left_is = at.left_is;
+    kept_is = kept ∙ at.kept_is;
+    coming_is = coming ∙ at.coming_is;
+    written_is = now;
+    faults_are = refl;
+  };
+})
+
+-- what an action did by itself
+pub called : (action : Action) (command : Command) (why : Ending) (start : Start) (rose source : Type 0) (left_now : Option (List ℕ)) (now : Surroundings) → action ≡ call
+    → EndsCall command why start rose source left_now now → EndsAction action command why start rose source left_now now
+called action command why start rose source left_now now is ends = rw is ends
+
+pub audited : (action : Action) (command : Command) (why : Ending) (start : Start) (rose source : Type 0) (left_now : Option (List ℕ)) (now : Surroundings) → action ≡ audit
+    → EndsAudit command why start rose left_now now → EndsAction action command why start rose source left_now now
+audited action command why start rose source left_now now is ends = rw is ends
+
+-- where memory is wanting before anything is done, nothing is
+pub not_begun : (action : Action) (command : Command) (start : Start) (rose source : Type 0) (left_now : Option (List ℕ)) (now : Surroundings) → StandsAt start left_now now
+    → EndsAction action command ending.NoMemory start rose source left_now now
+not_begun call command start rose source left_now now at = inl (record { stops = tt; same = at })
+not_begun audit command start rose source left_now now at = inl (record { stops = tt; same = at })
 
 -- words that ask for nothing end with status 2, whatever the objects do
 pub no_command : (command : Option Command) (before after : Outside) (status : ℕ) → status ≡ 2 → command ≡ None → HasCauses command before after status
 no_command command before after status is none = record {
   ending = ending.Usage;
   status_is = is;
+  differs = λ one. absurd (omega arith);
   usage = λ _. none;
   other_words = λ _. is;
   read_fault = λ four. absurd (omega arith);
@@ -150,6 +188,7 @@ pub no_room : (command : Option Command) (before after : Outside) (status : ℕ)
 no_room command before after status is asked = record {
   ending = ending.NoMemory;
   status_is = is;
+  differs = λ one. absurd (omega arith);
   usage = λ two. absurd (omega arith);
   other_words = λ none. absurd (asked none);
   read_fault = λ four. absurd (omega arith);

@@ -1,115 +1,214 @@
 -- What words ask for, read one after the other.
-use Rattle.std.proofs.Common.{◌≡◌, ℕ, suc, ◌+◌, ◌<◌, ◌==◌, leb, arith, Bool, true, false, ◌&&◌, cond, Bor, refl, sym, ap, ◌∙◌}
-use Rattle.std.proofs.Common.{List, [], ◌∷◌, ◌++◌, append_assoc, length, drop, get_or, map, string_bytes, Option, Some, None, option_map, option_and_then}
-use Rattle.std.proofs.lemmas.Bool.Decides.{nat_tests}
+use Rattle.std.proofs.Common.{◌≡◌, ◌≢◌, ℕ, ◌+◌, ◌<◌, Bor, refl, sym, ap, ◌∙◌, subst, codes}
+use Rattle.std.proofs.Common.{List, [], ◌∷◌, ◌++◌, append_assoc, length, drop, get_or, map, string_bytes, Option, Some, None, option_map, option_and_then, IfSome, IsSomeAnd}
 use Rattle.std.proofs.lemmas.List.{at_drop_more}
 use Rattle.std.specs.declared.alloc.Global.{Global}
 use Rattle.std.specs.declared.string.String.{String}
-use Rattle.std.specs.List.{filter, filter_map}
-use Rattle.std.specs.Option.{is_some}
+use Rattle.std.specs.List.{filter_map}
+use Rattle.std.specs.Option.{option_map_or}
 use Rattle.stockd.specs.declared.words.Piece as declared
 use Rattle.stockd.specs.declared.words.Piece.TheVariants as variant
-use Rattle.stockd.specs.WordPieces.{piece_view}
-use Rattle.stockd.specs.Words.{Setting, Piece, call, awaiting, folder, loads, Command, command_from, folder_in, is_action, module_in, piece_of, pieces_from, waits_of}
+use Rattle.stockd.specs.WordPieces.{HasNames, Parts, parts_from, parts_of, parts_with, piece_view}
+use Rattle.stockd.specs.Words.{Action, Setting, Piece, acts, awaiting, folder, loads, keeps, Command, action_in, at_most_one, command_from, command_of, file_in, folder_in, module_in, piece_of, pieces_from, the_one, waits_of}
 
--- pieces behind the action, where it was said
-abbrev pub with_action : Bool → List Piece → List Piece
-with_action true pieces = call ∷ pieces
-with_action false pieces = pieces
+-- ---- what may be said once
 
--- pieces behind a folder, where one was said
-abbrev pub with_folder : Option (List ℕ) → List Piece → List Piece
-with_folder (Some text) pieces = folder text ∷ pieces
-with_folder None pieces = pieces
+-- what comes behind something that was said, where it was
+abbrev pub behind : {A : Type 0} → Option A → List A → List A
+behind None more = more
+behind (Some said) more = said ∷ more
 
--- the folder of a command
-abbrev pub folder_asked : Option Command → Option (List ℕ)
-folder_asked command = option_map (λ (asked : Command). asked.folder) command
+-- none of a type
+abbrev none_of : (A : Type 0) → Option A
+none_of A = None
 
--- the folder that pieces name behind what was said
-abbrev pub folder_after : Bool → Option (List ℕ) → List Piece → Option (List ℕ)
-folder_after acted named pieces = folder_asked (command_from (with_action acted (with_folder named pieces)))
+-- the parts of what was said of each kind, where it was at most once
+abbrev pub parts_if : Option (Option Action) → (named file : Option (Option (List ℕ))) → Option Parts
+parts_if action named file = option_and_then (λ action. option_and_then (λ folder. option_map (λ file. record { action = action; folder = folder; file = file }) file) named) action
 
--- the folder that words name behind what was said
-abbrev pub folder_on : Option Setting → Bool → Option (List ℕ) → List (List ℕ) → Option (List ℕ)
-folder_on waits acted named words = option_and_then (folder_after acted named) (pieces_from waits words)
+abbrev pub joined : List Action → (folders files : List (List ℕ)) → Option Parts
+joined actions folders files = parts_if (at_most_one actions) (at_most_one folders) (at_most_one files)
 
--- what a word says stands before what the words behind it say
-pub word_said : (words : List (String Global)) (i : ℕ) (word : String Global) (waits : Option Setting) (acted : Bool) (named : Option (List ℕ)) (piece : Piece) (whole : Option (List ℕ))
-    → i < length words → word ≡ get_or words i word → Some piece ≡ piece_of waits (string_bytes word) → whole ≡ folder_on waits acted named (map string_bytes (drop i words))
-    → whole ≡ option_and_then (λ more. folder_after acted named (piece ∷ more)) (pieces_from (waits_of piece) (map string_bytes (drop (i + 1) words)))
-word_said words i word waits acted named piece whole within item says so_far =
-    so_far ∙ at_drop_more (λ (rest : List (String Global)). folder_on waits acted named (map string_bytes rest)) words i word within
-    ∙ rw (← item, ← says) (joined (pieces_from (waits_of piece) (map string_bytes (drop (i + 1) words))))
+-- what pieces say behind what was said
+abbrev pub parts_after : Parts → List Piece → Option Parts
+parts_after parts pieces = joined (behind parts.action (filter_map action_in pieces)) (behind parts.folder (filter_map folder_in pieces)) (behind parts.file (filter_map file_in pieces))
+
+-- what words say behind what was said
+abbrev pub parts_on : Option Setting → Parts → List (List ℕ) → Option Parts
+parts_on waits parts words = option_and_then (parts_after parts) (pieces_from waits words)
+
+-- of what isn't there nothing comes
+nothing : {A B : Type 0} (some : Option A) → option_and_then (λ (a : A). none_of B) some ≡ none_of B
+nothing None = refl
+nothing (Some a) = refl
+
+-- an action is said, for the first time or again
+action_joins : (said : Option Action) (named file : Option (List ℕ)) (action : Action) (more : List Piece)
+    → parts_after (record { action = said; folder = named; file = file }) (acts action ∷ more)
+    ≡ option_and_then (λ now. parts_after now more) (parts_with (record { action = said; folder = named; file = file }) (acts action))
+action_joins None named file action more = refl
+action_joins (Some other) named file action more = refl
+
+-- so is a folder
+folder_joins : (said : Option Action) (named file : Option (List ℕ)) (text : List ℕ) (more : List Piece)
+    → parts_after (record { action = said; folder = named; file = file }) (folder text ∷ more)
+    ≡ option_and_then (λ now. parts_after now more) (parts_with (record { action = said; folder = named; file = file }) (folder text))
+folder_joins said None file text more = refl
+folder_joins said (Some other) file text more = nothing (at_most_one (behind said (filter_map action_in more)))
+
+-- so is a file
+file_joins : (said : Option Action) (named file : Option (List ℕ)) (text : List ℕ) (more : List Piece)
+    → parts_after (record { action = said; folder = named; file = file }) (keeps text ∷ more)
+    ≡ option_and_then (λ now. parts_after now more) (parts_with (record { action = said; folder = named; file = file }) (keeps text))
+file_joins said named None text more = refl
+file_joins said named (Some other) text more =
+    never (at_most_one (behind said (filter_map action_in more))) (at_most_one (behind named (filter_map folder_in more)))
   where
-    joined : (read : Option (List Piece)) → option_and_then (folder_after acted named) (option_map (λ more. piece ∷ more) read) ≡ option_and_then (λ more. folder_after acted named (piece ∷ more)) read
-    joined None = refl
-    joined (Some more) = refl
+    never : {A B C : Type 0} (a : Option A) (b : Option B) → option_and_then (λ (x : A). option_and_then (λ (y : B). none_of C) b) a ≡ none_of C
+    never None b = refl
+    never (Some x) b = nothing b
 
--- the action is said
-pub call_said : (acted : Bool) (named : Option (List ℕ)) (read : Option (List Piece)) → acted ≡ false
-    → option_and_then (λ more. folder_after acted named (call ∷ more)) read ≡ option_and_then (folder_after true named) read
-call_said acted named None is = refl
-call_said true named (Some more) is = cc
-call_said false (Some text) (Some more) is = refl
-call_said false None (Some more) is = refl
+-- a piece and those behind it say what it and what was said make of them
+piece_joins : (parts : Parts) (piece : Piece) (more : List Piece) → parts_after parts (piece ∷ more) ≡ option_and_then (λ now. parts_after now more) (parts_with parts piece)
+piece_joins parts (acts action) more = action_joins parts.action parts.folder parts.file action more
+piece_joins parts (awaiting setting) more = refl
+piece_joins parts (folder text) more = folder_joins parts.action parts.folder parts.file text more
+piece_joins parts (loads name) more = refl
+piece_joins parts (keeps text) more = file_joins parts.action parts.folder parts.file text more
 
--- a text is there where what it is seen by is
-pub still_some : {A B : Type 0} (f : A → B) (o : Option A) → is_some (option_map f o) ≡ is_some o
-still_some f None = refl
-still_some f (Some a) = refl
-
--- a folder is said
-pub folder_said : (acted : Bool) (named : Option (List ℕ)) (text : List ℕ) (read : Option (List Piece)) → is_some named ≡ false
-    → option_and_then (λ more. folder_after acted named (folder text ∷ more)) read ≡ option_and_then (folder_after acted (Some text)) read
-folder_said acted (Some other) text read is = cc
-folder_said acted None text None is = refl
-folder_said true None text (Some more) is = refl
-folder_said false None text (Some more) is = refl
-
--- an option whose value is the next word is said
-pub option_said : (acted : Bool) (named : Option (List ℕ)) (setting : Setting) (read : Option (List Piece))
-    → option_and_then (λ more. folder_after acted named (awaiting setting ∷ more)) read ≡ option_and_then (folder_after acted named) read
-option_said acted named setting None = refl
-option_said true (Some text) setting (Some more) = refl
-option_said true None setting (Some more) = refl
-option_said false (Some text) setting (Some more) = refl
-option_said false None setting (Some more) = refl
-
--- the folder of a command tells nothing of its modules
-same_folder : (test : Bool) (text : List ℕ) (names others : List (List ℕ))
-    → folder_asked (cond test (Some (record { folder = text; names = names })) None) ≡ folder_asked (cond test (Some (record { folder = text; names = others })) None)
-same_folder true text names others = refl
-same_folder false text names others = refl
-
--- a module is said
-pub module_said : (acted : Bool) (named : Option (List ℕ)) (name : List ℕ) (read : Option (List Piece))
-    → option_and_then (λ more. folder_after acted named (loads name ∷ more)) read ≡ option_and_then (folder_after acted named) read
-module_said acted named name None = refl
-module_said true (Some text) name (Some more) = same_folder _ _ _ _
-module_said true None name (Some more) = same_folder _ _ _ _
-module_said false (Some text) name (Some more) = same_folder _ _ _ _
-module_said false None name (Some more) = same_folder _ _ _ _
-
--- two are more than one at most
-two_exceed_one : (n : ℕ) → leb (suc (suc n)) 1 ≡ false
-two_exceed_one n = grind (arith, nat_tests)
-
--- two folders make no command
-two_folders : (pieces : List Piece) (n : ℕ) → length (filter_map folder_in pieces) ≡ suc (suc n) → command_from pieces ≡ None
-two_folders pieces n two = rw (two, two_exceed_one n) (never (length (filter is_action pieces) == 1) (Some _))
+-- what a word says and what was said make of the words behind it what the whole is
+word_said : (words : List (String Global)) (i : ℕ) (word : String Global) (waits : Option Setting) (parts : Parts) (piece : Piece) (whole : Option Parts)
+    → i < length words → word ≡ get_or words i word → Some piece ≡ piece_of waits (string_bytes word) → whole ≡ parts_on waits parts (map string_bytes (drop i words))
+    → whole ≡ option_and_then (λ now. parts_on (waits_of piece) now (map string_bytes (drop (i + 1) words))) (parts_with parts piece)
+word_said words i word waits parts piece whole within item says so_far =
+    so_far ∙ at_drop_more (λ (rest : List (String Global)). parts_on waits parts (map string_bytes rest)) words i word within
+    ∙ rw (← item, ← says) (behind_it (pieces_from (waits_of piece) (map string_bytes (drop (i + 1) words))))
   where
-    never : {C : Type 0} (test : Bool) (some : Option C) → cond (test && false) some None ≡ None
-    never true some = refl
-    never false some = refl
+    behind_it : (read : Option (List Piece))
+        → option_and_then (parts_after parts) (option_map (λ more. piece ∷ more) read) ≡ option_and_then (λ now. option_and_then (parts_after now) read) (parts_with parts piece)
+    behind_it None = sym (nothing (parts_with parts piece))
+    behind_it (Some more) = piece_joins parts piece more
 
--- a folder that is said again makes no command
-pub folder_twice : (acted : Bool) (named : Option (List ℕ)) (text : List ℕ) (read : Option (List Piece)) → is_some named ≡ true
-    → option_and_then (λ more. folder_after acted named (folder text ∷ more)) read ≡ None
-folder_twice acted None text read is = cc
-folder_twice acted (Some other) text None is = refl
-folder_twice true (Some other) text (Some more) is = ap folder_asked (two_folders (call ∷ folder other ∷ folder text ∷ more) (length (filter_map folder_in more)) refl)
-folder_twice false (Some other) text (Some more) is = ap folder_asked (two_folders (folder other ∷ folder text ∷ more) (length (filter_map folder_in more)) refl)
+-- it says nothing again: the words behind it go on from what was said with it
+pub said_on : (words : List (String Global)) (i : ℕ) (word : String Global) (waits next : Option Setting) (parts now : Parts) (piece : Piece) (whole : Option Parts)
+    → i < length words → word ≡ get_or words i word → Some piece ≡ piece_of waits (string_bytes word) → Some now ≡ parts_with parts piece → next ≡ waits_of piece
+    → whole ≡ parts_on waits parts (map string_bytes (drop i words)) → whole ≡ parts_on next now (map string_bytes (drop (i + 1) words))
+said_on words i word waits next parts now piece whole within item says joins waited so_far =
+    word_said words i word waits parts piece whole within item says so_far
+    ∙ ap (option_and_then (λ (now : Parts). parts_on (waits_of piece) now (map string_bytes (drop (i + 1) words)))) (sym joins)
+    ∙ ap (λ (waits : Option Setting). parts_on waits now (map string_bytes (drop (i + 1) words))) (sym waited)
+
+-- it says again what may be said once: the words say nothing
+pub said_twice : (words : List (String Global)) (i : ℕ) (word : String Global) (waits : Option Setting) (parts : Parts) (piece : Piece) (whole : Option Parts)
+    → i < length words → word ≡ get_or words i word → Some piece ≡ piece_of waits (string_bytes word) → None ≡ parts_with parts piece
+    → whole ≡ parts_on waits parts (map string_bytes (drop i words)) → whole ≡ None
+said_twice words i word waits parts piece whole within item says joins so_far =
+    word_said words i word waits parts piece whole within item says so_far
+    ∙ ap (option_and_then (λ (now : Parts). parts_on (waits_of piece) now (map string_bytes (drop (i + 1) words)))) (sym joins)
+
+-- ---- what is asked for
+
+-- one that is said at most once is the one where it is said
+the_one_is : {A : Type 0} (said : List A) → the_one said ≡ option_and_then (λ one. one) (at_most_one said)
+the_one_is [] = refl
+the_one_is (a ∷ []) = refl
+the_one_is (a ∷ b ∷ more) = refl
+
+-- a command of an action, with these modules and what was said of the others, where it was at most once
+abbrev makes : (names : List (List ℕ)) (named file : Option (Option (List ℕ))) → Action → Option Command
+makes names named file action =
+    option_and_then (λ folder. option_map (λ file. record { action = action; folder = option_map_or (λ text. text) folder (codes "modules"); names = names; file = file }) file) named
+
+abbrev command_if : (names : List (List ℕ)) → Option (Option Action) → (named file : Option (Option (List ℕ))) → Option Command
+command_if names action named file = option_and_then (makes names named file) (option_and_then (λ one. one) action)
+
+-- a command of what was said, with these modules
+abbrev pub command_by : Parts → List (List ℕ) → Option Command
+command_by parts names =
+    option_map (λ action. record { action = action; folder = option_map_or (λ text. text) parts.folder (codes "modules"); names = names; file = parts.file }) parts.action
+
+-- the parts that were said are those of the command
+command_is : (parts : Parts) (names : List (List ℕ)) (action : Option (Option Action)) (named file : Option (Option (List ℕ)))
+    → Some parts ≡ parts_if action named file → command_if names action named file ≡ command_by parts names
+command_is parts names None named file said = cc
+command_is parts names (Some action) None file said = cc
+command_is parts names (Some action) (Some named) None said = cc
+command_is parts names (Some action) (Some named) (Some file) said =
+    let is : parts ≡ record { action = action; folder = named; file = file } = cc in
+    by_action action ∙ ap (λ (p : Parts). command_by p names) (sym is)
+  where
+    by_action : (action : Option Action) → command_if names (Some action) (Some named) (Some file) ≡ command_by (record { action = action; folder = named; file = file }) names
+    by_action None = refl
+    by_action (Some action) = refl
+
+-- where something was said twice there is no command
+no_command : (names : List (List ℕ)) (action : Option (Option Action)) (named file : Option (Option (List ℕ))) → None ≡ parts_if action named file → command_if names action named file ≡ None
+no_command names None named file said = refl
+no_command names (Some action) None file said = nothing action
+no_command names (Some action) (Some named) None said = nothing action
+no_command names (Some action) (Some named) (Some file) said = cc
+
+module _ (pieces : List Piece) where
+  -- the command of pieces goes by what they say of each kind
+  command_of_kinds : command_from pieces
+      ≡ command_if (filter_map module_in pieces) (at_most_one (filter_map action_in pieces)) (at_most_one (filter_map folder_in pieces)) (at_most_one (filter_map file_in pieces))
+  command_of_kinds =
+      ap (option_and_then (makes (filter_map module_in pieces) (at_most_one (filter_map folder_in pieces)) (at_most_one (filter_map file_in pieces)))) (the_one_is (filter_map action_in pieces))
+
+  command_of_parts : (parts : Parts) → Some parts ≡ parts_from pieces → command_from pieces ≡ command_by parts (filter_map module_in pieces)
+  command_of_parts parts said =
+      command_of_kinds ∙ command_is parts (filter_map module_in pieces) (at_most_one (filter_map action_in pieces)) (at_most_one (filter_map folder_in pieces)) (at_most_one (filter_map file_in pieces)) said
+
+  no_command_of : None ≡ parts_from pieces → command_from pieces ≡ None
+  no_command_of said =
+      command_of_kinds ∙ no_command (filter_map module_in pieces) (at_most_one (filter_map action_in pieces)) (at_most_one (filter_map folder_in pieces)) (at_most_one (filter_map file_in pieces)) said
+
+-- the command of what words say, with the modules that they name
+pub asked_by : (words : List (String Global)) (parts : Parts) (names : List (List ℕ)) → Some parts ≡ parts_of words → HasNames words names → command_of words ≡ command_by parts names
+asked_by words parts names said named = of_read (pieces_from None (map string_bytes words)) said named
+  where
+    of_read : (read : Option (List Piece)) → Some parts ≡ option_and_then parts_from read → IfSome read (λ pieces. names ≡ filter_map module_in pieces)
+        → option_and_then command_from read ≡ command_by parts names
+    of_read None said named = cc
+    of_read (Some pieces) said named = command_of_parts pieces parts said ∙ ap (command_by parts) (sym named)
+
+-- words that say something name some modules
+said_with_names : (words : List (String Global)) (parts : Parts) → Some parts ≡ parts_of words → (names : List (List ℕ)) × (command_of words ≡ command_by parts names)
+said_with_names words parts said = of_read (pieces_from None (map string_bytes words)) said
+  where
+    of_read : (read : Option (List Piece)) → Some parts ≡ option_and_then parts_from read → (names : List (List ℕ)) × (option_and_then command_from read ≡ command_by parts names)
+    of_read None said = cc
+    of_read (Some pieces) said = (filter_map module_in pieces, command_of_parts pieces parts said)
+
+-- where something was said twice, or no action, nothing is asked for
+pub none_asked : (words : List (String Global)) → None ≡ parts_of words → command_of words ≡ None
+none_asked words none = of_read (pieces_from None (map string_bytes words)) none
+  where
+    of_read : (read : Option (List Piece)) → None ≡ option_and_then parts_from read → option_and_then command_from read ≡ None
+    of_read None none = refl
+    of_read (Some pieces) none = no_command_of pieces none
+
+pub no_action_asked : (words : List (String Global)) (parts : Parts) → Some parts ≡ parts_of words → parts.action ≡ None → command_of words ≡ None
+no_action_asked words parts said none =
+    let asked = said_with_names words parts said in
+    asked.1 ∙ ap (λ (action : Option Action). command_by (record parts { action = action }) asked.0) none
+
+-- with an action something is
+pub action_asked : (words : List (String Global)) (parts : Parts) (action : Action) → Some parts ≡ parts_of words → parts.action ≡ Some action → command_of words ≢ None
+action_asked words parts action said acted none =
+    let asked = said_with_names words parts said in
+    let is = sym (ap (λ (action : Option Action). command_by (record parts { action = action }) asked.0) acted) ∙ sym asked.1 ∙ none in
+    cc
+
+-- and its file is the one that was said
+pub file_asked : (words : List (String Global)) (parts : Parts) (action : Action) → Some parts ≡ parts_of words → parts.action ≡ Some action
+    → IsSomeAnd (command_of words) (λ command. command.file ≡ parts.file)
+file_asked words parts action said acted =
+    let asked = said_with_names words parts said in
+    let is = asked.1 ∙ ap (λ (action : Option Action). command_by (record parts { action = action }) asked.0) acted in
+    subst (λ (command : Option Command). IsSomeAnd command (λ it. it.file ≡ parts.file)) (sym is) refl
+
+-- ---- modules
 
 -- the modules that words name behind those that were named
 abbrev pub names_on : Option Setting → List (List ℕ) → List (List ℕ) → Option (List (List ℕ))
@@ -135,15 +234,17 @@ module_named names name (Some more) = ap Some (sym (append_assoc names (name ∷
 
 -- a piece that loads nothing names no module
 pub no_module : (piece : declared.Piece) → ((name : Bor (List ℕ)) → piece ≡ variant.Loads name → ⊥) → module_in (piece_view piece) ≡ None
-no_module variant.Call other = refl
+no_module (variant.Acts action) other = refl
 no_module (variant.Awaiting setting) other = refl
 no_module (variant.Folder text) other = refl
 no_module (variant.Loads name) other = absurd (other name refl)
+no_module (variant.Keeps text) other = refl
 
 -- no module is named
 pub none_named : (names : List (List ℕ)) (piece : Piece) (read : Option (List Piece)) → module_in piece ≡ None
     → option_map (λ more. names ++ filter_map module_in (piece ∷ more)) read ≡ option_map (λ more. names ++ filter_map module_in more) read
-none_named names call read none = refl
+none_named names (acts action) read none = refl
 none_named names (awaiting setting) read none = refl
 none_named names (folder text) read none = refl
 none_named names (loads name) read none = cc
+none_named names (keeps text) read none = refl

@@ -6,6 +6,7 @@ use Rattle.stockd.specs.declared.ending.Ending.TheVariants as ending
 -- the status of each ending
 abbrev pub status_of : Ending → ℕ
 status_of ending.Done = 0
+status_of ending.Differs = 1
 status_of ending.Usage = 2
 status_of (ending.Module text) = 3
 status_of ending.ReadFault = 4
@@ -26,9 +27,10 @@ last_text (ending.Store cell) = codes "store " ++ cell
 last_text (ending.TooLong number) = codes "line " ++ decimal number ++ codes " too long"
 last_text _ = []
 
--- the last line of each ending, with its line feed; the others have none
+-- the last line of each ending, with its line feed; the others have none: an audit that differs says so in its report
 abbrev pub last_line : Ending → List ℕ
 last_line ending.Done = []
+last_line ending.Differs = []
 last_line ending.WriteFault = []
 last_line why = last_text why ++ 10 ∷ []
 
@@ -41,13 +43,14 @@ IsSessionEnding ending.NoMemory = ⊤
 IsSessionEnding (ending.TooLong number) = ⊤
 IsSessionEnding _ = ⊥
 
--- When each ending of `call` may come, whatever the objects tell, by which of them failed.
-abbrev pub HasReason : (input_rose output_rose keeper_rose : Type 0) → Ending → Type 0
-HasReason input_rose output_rose keeper_rose ending.Usage = ⊥
-HasReason input_rose output_rose keeper_rose ending.ReadFault = input_rose
-HasReason input_rose output_rose keeper_rose ending.WriteFault = output_rose
-HasReason input_rose output_rose keeper_rose ending.KeeperFault = keeper_rose
-HasReason input_rose output_rose keeper_rose _ = ⊤
+-- When each ending of a command may come, whatever the objects tell: one that differs of an audit alone, a fault by which of them failed.
+abbrev pub HasReason : (audits input_rose output_rose keeper_rose : Type 0) → Ending → Type 0
+HasReason audits input_rose output_rose keeper_rose ending.Usage = ⊥
+HasReason audits input_rose output_rose keeper_rose ending.Differs = audits
+HasReason audits input_rose output_rose keeper_rose ending.ReadFault = input_rose
+HasReason audits input_rose output_rose keeper_rose ending.WriteFault = output_rose
+HasReason audits input_rose output_rose keeper_rose ending.KeeperFault = keeper_rose
+HasReason audits input_rose output_rose keeper_rose _ = ⊤
 
 -- the list is a front of the other, and lacks something of it
 abbrev pub IsCutShort : {X : Type 0} → List X → List X → Type 0

@@ -8,6 +8,7 @@ pub mod Words
 pub mod WordPieces
 pub mod Ending
 pub mod Store
+pub mod Audit
 pub mod Session
 pub mod SessionSteps
 pub mod Reply

@@ -6,6 +6,8 @@ use Rattle.ob_call.specs.Called.{Called}
 use Rattle.ob_io.specs.Cause.{Rose}
 use Rattle.ob_io.specs.Moments.{later}
 use Rattle.ob_orm.specs.Create.{Creates}
+use Rattle.ob_orm.specs.FieldsGet.{GetsFields}
+use Rattle.ob_orm.specs.Write.{Writes}
 use Rattle.ob_query.specs.Read.{Reads}
 use Rattle.ob_rpc.specs.Envelope.{Envelope, Fault, envelope_of}
 use Rattle.ob_rpc.specs.declared.methods.Served.TheVariants.{ExecuteKw}
@@ -28,10 +30,12 @@ called_at now call info = record { caller = call.caller; now = now; model = call
 -- what a method that reads tells of tables
 abbrev pub Tells : ReadMethod → List ModelInfo → Called → Tables → Result Data Refusal → Type 0
 Tells reading.Read = Reads
+Tells reading.FieldsGet = GetsFields
 
 -- what a method that writes makes of tables
 abbrev pub Makes : WriteMethod → List ModelInfo → Called → Tables → Result Data Refusal → Tables → Type 0
 Makes writing.Create = Creates
+Makes writing.Write = Writes
 
 -- the outcome of a method, and the tables after it: one that reads leaves them
 abbrev pub Means : Method → List ModelInfo → Called → Tables → Result Data Refusal → Tables → Type 0

@@ -6,7 +6,7 @@ use Rattle.ob_base.specs.declared.id.ModelNo.{ModelNo}
 use Rattle.ob_base.specs.declared.id.RecId.{RecId}
 use Rattle.ob_base.specs.declared.place.PathStep.{PathStep}
 use Rattle.ob_rpc.specs.Envelope.{Envelope, Fault, element_place, is_text}
-use Rattle.ob_orm.specs.Creatable.{is_creatable}
+use Rattle.ob_orm.specs.Creatable.{is_creatable, is_writable}
 use Rattle.ob_schema.specs.Models.{model_at, model_named}
 use Rattle.ob_schema.specs.declared.info.ModelInfo.{ModelInfo}
 use Rattle.serde_json.specs.Data.{Data, object, no_members, Items, no_items, item}
@@ -38,9 +38,14 @@ is_integer n d = option_map_or (λ m. m == n) (option_and_then as_u64 (as_number
 abbrev pub is_caller : (user key : Data) → Bool
 is_caller user key = is_integer 2 user && is_text (codes "admin") key
 
--- the method of a name that a model has: each can be read, and rows are made of those of which a create makes any
+-- the method of a name that a model has: each can be read and has its fields told, rows are made of those of which a create makes any, and changed of those of which a write changes any
 abbrev pub method_named : ModelInfo → Data → Option Method
-method_named info d = if is_text (codes "read") d then Some (method.Reads reading.Read) else (if is_text (codes "create") d && is_creatable info then Some (method.Writes writing.Create) else None)
+method_named info d =
+    if is_text (codes "read") d then Some (method.Reads reading.Read)
+    else if is_text (codes "fields_get") d then Some (method.Reads reading.FieldsGet)
+    else if is_text (codes "create") d && is_creatable info then Some (method.Writes writing.Create)
+    else if is_text (codes "write") d && is_writable info then Some (method.Writes writing.Write)
+    else None
 
 -- of the model of a number
 abbrev pub method_of : List ModelInfo → ModelNo → Data → Option Method

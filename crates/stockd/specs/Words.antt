@@ -1,31 +1,47 @@
 -- What the words of the command line ask for.
-use Rattle.std.specs.Prelude.{◌≡◌, ℕ, ◌==◌, ◌&&◌, nat_le, List, [], ◌∷◌, codes, length, filter, map, string_bytes, Bool, true, false, not, if◌then◌else◌, Option, Some, None, option_map, option_and_then}
+use Rattle.std.specs.Prelude.{◌≡◌, ℕ, ◌==◌, List, [], ◌∷◌, codes, map, string_bytes, Bool, true, false, not, if◌then◌else◌, Option, Some, None, option_map, option_and_then}
 use Rattle.std.specs.List.{after_first, before_first, filter_map, list_any}
+use Rattle.std.specs.Option.{option_map_or}
 use Rattle.std.specs.Str.{bytes_eq}
 use Rattle.std.specs.declared.alloc.Global.{Global}
 use Rattle.std.specs.declared.string.String.{String}
 use Rattle.ob_definition.specs.Names.{is_field_name}
 
--- an option, by its name: the folder of module texts, or a module to load
+-- an option, by its name: the folder of module texts, a module to load, or the file of the store
 pub data Setting : Type 0 where
   modules : Setting
   load : Setting
+  store : Setting
 
--- what one word says: the action, an option whose value is the next word, a folder, or a module
+-- what a run does: it serves the lines of the input, or it audits the store
+pub data Action : Type 0 where
+  call : Action
+  audit : Action
+
+-- what one word says: an action, an option whose value is the next word, a folder, a module, or a file
 pub data Piece : Type 0 where
-  call : Piece
+  acts : Action → Piece
   awaiting : Setting → Piece
   folder : List ℕ → Piece
   loads : List ℕ → Piece
+  keeps : List ℕ → Piece
 
 -- the option of a name
 abbrev pub setting_of : List ℕ → Option Setting
-setting_of name = if bytes_eq name (codes "--modules") then Some modules else if bytes_eq name (codes "--load") then Some load else None
+setting_of name =
+    if bytes_eq name (codes "--modules") then Some modules
+    else if bytes_eq name (codes "--load") then Some load
+    else if bytes_eq name (codes "--store") then Some store
+    else None
 
--- a folder is any text that doesn't begin with a hyphen, of a byte at least
-abbrev pub is_folder : List ℕ → Bool
-is_folder [] = false
-is_folder (byte ∷ _) = not (byte == 45)
+-- the action of a name
+abbrev pub action_of : List ℕ → Option Action
+action_of name = if bytes_eq name (codes "call") then Some call else if bytes_eq name (codes "audit") then Some audit else None
+
+-- a path is any text that doesn't begin with a hyphen, of a byte at least
+abbrev pub is_path : List ℕ → Bool
+is_path [] = false
+is_path (byte ∷ _) = not (byte == 45)
 
 -- a module is named as a field is
 abbrev pub is_module_name : List ℕ → Bool
@@ -33,8 +49,9 @@ is_module_name name = is_field_name name
 
 -- what a value says of an option, where it may
 abbrev pub valued : Setting → List ℕ → Option Piece
-valued modules text = if is_folder text then Some (folder text) else None
+valued modules text = if is_path text then Some (folder text) else None
 valued load text = if is_module_name text then Some (loads text) else None
+valued store text = if is_path text then Some (keeps text) else None
 
 -- an equals sign stands between an option and its value in one word
 abbrev pub is_equals : ℕ → Bool
@@ -48,7 +65,7 @@ option_piece word =
 
 -- what a word says that is no value
 abbrev pub begun : List ℕ → Option Piece
-begun word = if bytes_eq word (codes "call") then Some call else option_piece word
+begun word = option_map_or (λ action. Some (acts action)) (action_of word) (option_piece word)
 
 -- what a word says, by the option that waits for its value
 abbrev pub piece_of : Option Setting → List ℕ → Option Piece
@@ -66,10 +83,10 @@ pieces_from None [] = Some []
 pieces_from (Some _) [] = None
 pieces_from waits (word ∷ words) = option_and_then (λ piece. option_map (λ more. piece ∷ more) (pieces_from (waits_of piece) words)) (piece_of waits word)
 
--- the one action that is served
-abbrev pub is_action : Piece → Bool
-is_action call = true
-is_action _ = false
+-- the action that a piece names
+abbrev pub action_in : Piece → Option Action
+action_in (acts action) = Some action
+action_in _ = None
 
 -- the folder that a piece names
 abbrev pub folder_in : Piece → Option (List ℕ)
@@ -81,22 +98,34 @@ abbrev pub module_in : Piece → Option (List ℕ)
 module_in (loads name) = Some name
 module_in _ = None
 
--- the one text of a list, or what stands for none
-abbrev pub one_or : List ℕ → List (List ℕ) → List ℕ
-one_or default [] = default
-one_or default (text ∷ _) = text
+-- the file that a piece names
+abbrev pub file_in : Piece → Option (List ℕ)
+file_in (keeps text) = Some text
+file_in _ = None
 
--- what a run is asked for: modules by their names, and the folder where their texts are
+-- what is said once; and what is said once at most, where it is
+abbrev pub the_one : {A : Type 0} → List A → Option A
+the_one (a ∷ []) = Some a
+the_one _ = None
+
+abbrev pub at_most_one : {A : Type 0} → List A → Option (Option A)
+at_most_one [] = Some None
+at_most_one (a ∷ []) = Some (Some a)
+at_most_one _ = None
+
+-- what a run is asked for: what it does, modules by their names, the folder where their texts are, and the file of the store, where it isn't in memory
 pub record Command : Type 0 where
+  pub action : Action
   pub folder : List ℕ
   pub names : List (List ℕ)
+  pub file : Option (List ℕ)
 
--- the action once and a folder at most once, in any order with the modules; the folder is `modules` where none is named
+-- an action once, a folder and a file at most once, in any order with the modules; the folder is `modules` where none is named
 abbrev pub command_from : List Piece → Option Command
 command_from pieces =
-    if length (filter is_action pieces) == 1 && nat_le (length (filter_map folder_in pieces)) 1
-    then Some (record { folder = one_or (codes "modules") (filter_map folder_in pieces); names = filter_map module_in pieces })
-    else None
+    option_and_then (λ action. option_and_then (λ folder. option_map (λ file.
+    record { action = action; folder = option_map_or (λ text. text) folder (codes "modules"); names = filter_map module_in pieces; file = file })
+    (at_most_one (filter_map file_in pieces))) (at_most_one (filter_map folder_in pieces))) (the_one (filter_map action_in pieces))
 
 -- what words ask for, where they may
 abbrev pub command_of : List (String Global) → Option Command

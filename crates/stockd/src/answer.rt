@@ -30,7 +30,7 @@ use ob_base::{Ledger, NoMemory, Refusal, Steps, Word};
 use ob_cache::Engine;
 use ob_call::Call;
 use ob_io::{Clock, KeepFault, Keeper};
-use ob_orm::{create, refusal_text};
+use ob_orm::{create, fields_get, refusal_text, write};
 use ob_query::read;
 use ob_rpc::{EnvFault, Envelope, Json, Outcome, Served, envelope, no_memory_reply, reply_text};
 use ob_schema::Schema;
@@ -223,6 +223,7 @@ fn tell<K: Keeper, L: Ledger>(
 {
     match method {
         ReadMethod::Read => read(alloc, engine, call, steps),
+        ReadMethod::FieldsGet => fields_get(alloc, engine, call, steps),
     }
 }
 
@@ -249,6 +250,7 @@ fn make<K: Keeper, L: Ledger>(
 {
     match method {
         WriteMethod::Create => create(alloc, engine, call, steps),
+        WriteMethod::Write => write(alloc, engine, call, steps),
     }
 }
 

@@ -12,17 +12,20 @@ use ob_io::{Failed, Sink};
 /// Why a run ended.
 #[derive(Debug, Drop)]
 pub(crate) enum Ending {
-    /// The input was read to its end and all replies were written.
+    /// The input was read to its end and all replies were written; or the store was audited, and
+    /// what it keeps is what it should be.
     Done,
+    /// The store was audited, and what it keeps isn't what it should be, as the report says.
+    Differs,
     /// The words are none that are served.
     Usage,
     /// Something stands against a module: `module NAME: KIND PLACE`.
     Module(Word),
     /// The input or the files could not be read.
     ReadFault,
-    /// A reply could not be written.
+    /// A reply or a report could not be written.
     WriteFault,
-    /// The keeper failed while the store was opened.
+    /// The keeper failed while the store was opened or audited.
     KeeperFault,
     /// An allocation failed outside a request.
     NoMemory,
@@ -39,6 +42,7 @@ impl Ending {
     {
         match self {
             Ending::Done => 0,
+            Ending::Differs => 1,
             Ending::Usage => 2,
             Ending::Module(_) => 3,
             Ending::ReadFault => 4,
@@ -57,7 +61,7 @@ impl Ending {
         ensures count { W.faults output.old ≤ W.faults output.new }
     {
         match self {
-            Ending::Done | Ending::WriteFault => {}
+            Ending::Done | Ending::Differs | Ending::WriteFault => {}
             Ending::Usage => tell(
                 output,
                 "",

@@ -1,16 +1,19 @@
 //! The program `stockd`: a business-object server. It runs over the host's files, input,
-//! output and clock, and keeps its rows in memory. The contract of `run`: its replies are
-//! those of a machine that keeps plain fields alone and evaluates each computed field from
-//! scratch, its rows are the machine's tables, and its status has a cause.
+//! output and clock, and keeps its rows in memory or in a file. The contract of `run`: its
+//! replies are those of a machine that keeps plain fields alone and evaluates each computed
+//! field from scratch, its rows are the machine's tables, an audit tells what they are, and its
+//! status has a cause.
 //!
 //! Rooms: `run` has a whole run, over any objects; `words` says what it is asked for;
 //! `session` serves the lines of the input, `lines` cuts them, `request` reads what one asks
-//! for, `answer` answers it, and `places` says where it is wrong; `output` writes, and `ending`
-//! says how a run ends; `start` has the words of the command line and the host's things.
+//! for, `answer` answers it, and `places` says where it is wrong; `auditing` writes a report;
+//! `output` writes, and `ending` says how a run ends; `start` has the words of the command line
+//! and the host's things.
 //! Nothing but `main` stands here.
 #![tactic(auto)]
 
 mod answer;
+mod auditing;
 mod ending;
 mod lines;
 mod output;
@@ -25,7 +28,8 @@ mod words;
 
 pub use run::run;
 use std::process::ExitCode;
+pub use words::{Store, Usage, store_of};
 
 fn main(rt: HostRuntime) -> ExitCode {
-    ExitCode::from(start::started(&rt, &rt))
+    ExitCode::from(start::started(&rt, &rt, &rt))
 }

@@ -10,7 +10,7 @@ ghost use Rattle.stockd.specs.MethodCall.{CallIs};
 ghost use Rattle.stockd.specs.Request.{call_of, is_caller, is_integer, method_named};
 
 use ob_base::{ModelNo, RecId};
-use ob_orm::is_creatable;
+use ob_orm::{is_creatable, is_writable};
 use ob_rpc::Json;
 use ob_schema::Schema;
 
@@ -21,12 +21,14 @@ const CALLER: RecId = RecId(2);
 #[derive(Clone, Copy, Debug, PartialEq, Eq)]
 pub(crate) enum ReadMethod {
     Read,
+    FieldsGet,
 }
 
 /// The methods that write.
 #[derive(Clone, Copy, Debug, PartialEq, Eq)]
 pub(crate) enum WriteMethod {
     Create,
+    Write,
 }
 
 /// A method of a model.
@@ -98,8 +100,12 @@ fn method_named(schema: &Schema, model: ModelNo, method: &Json) -> Option<Method
 {
     if is_text(method, "read") {
         Some(Method::Reads(ReadMethod::Read))
+    } else if is_text(method, "fields_get") {
+        Some(Method::Reads(ReadMethod::FieldsGet))
     } else if is_text(method, "create") && is_creatable(schema, model) {
         Some(Method::Writes(WriteMethod::Create))
+    } else if is_text(method, "write") && is_writable(schema, model) {
+        Some(Method::Writes(WriteMethod::Write))
     } else {
         None
     }

@@ -1,7 +1,7 @@
 //! A run of the program, from its words to its status. What is done in which order stands
 //! here; what a session does is settled in `session`, and what modules mean in `ob_load`.
 
-ghost use Rattle.std.specs.Prelude.{◌≡◌, ◌≤◌, ◌⊎◌, List, Some, IfErr, IfOk, IfSome, option_map};
+ghost use Rattle.std.specs.Prelude.{◌≡◌, ◌≤◌, ◌⊎◌, ℕ, ℤ, List, Option, Some, ⊤, IfErr, IfOk, IfSome, option_map};
 ghost use Rattle.ob_cache.specs.Kept.{OthersStay};
 ghost use Rattle.ob_cache.specs.Opening.{ShowsField};
 ghost use Rattle.ob_io.specs.Cause.{Rose};
@@ -10,15 +10,16 @@ ghost use Rattle.ob_load.specs.Loading.{IsLoaded};
 ghost use Rattle.ob_load.specs.Texts.{text_in};
 ghost use Rattle.ob_schema.specs.Tables.{Tables};
 ghost use Rattle.stockd.specs.Ending.{HasReason, WritesLast, last_line, status_of};
-ghost use Rattle.stockd.specs.Program.{EndsCall, HasCauses, KeepsOthers, RunsCall};
+ghost use Rattle.stockd.specs.Program.{EndsAction, EndsAudit, EndsCall, HasCauses, KeepsOthers, Runs};
 ghost use Rattle.stockd.specs.Session.{Session, StandsAt, StandsFor, Start};
 ghost use Rattle.stockd.specs.Store.{IsOpeningEnding, MayEndLoading, MayEndOpening, EndsLoading, EndsOpening, TellsFault};
 ghost use Rattle.stockd.specs.WordPieces.{command_view};
-ghost use Rattle.stockd.specs.Words.{Command as Asked, IsUsage, command_of};
+ghost use Rattle.stockd.specs.Words.{Command as Asked, IsUsage, audit, command_of};
 
+use crate::auditing::audited;
 use crate::ending::Ending;
 use crate::session::serve_lines;
-use crate::words::{Command, command_of};
+use crate::words::{Action, Command, command_of};
 use ob_base::{NoMemory, Word};
 use ob_cache::{Engine, OpenFault};
 use ob_io::{Clock, Door, Files, Keeper, Sink, Source};
@@ -48,9 +49,9 @@ pub fn run<F: Files, K: Keeper, S: Source, W: Sink, D: Door, C: Clock>(
     ensures untouched { IsUsage words.now →
         (files.new ≡ files.old) × (keeper.new ≡ keeper.old) × (input.new ≡ input.old) × (clock.new ≡ clock.old) }
 
-    // `call`: the machine's replies to the bodies of the input, and its tables as kept
-    // rows. This is where the headline stands.
-    ensures call { (command : Asked) → command_of words.now ≡ Some command → RunsCall command
+    // A command. `call`: the machine's replies to the bodies of the input, and its tables as kept
+    // rows. This is where the headline stands. `audit`: the report on the rows that are kept.
+    ensures runs { (command : Asked) → command_of words.now ≡ Some command → Runs command
         (record {
           texts = F.texts files.old;
           left = S.left input.old;
@@ -97,7 +98,7 @@ pub fn run<F: Files, K: Keeper, S: Source, W: Sink, D: Door, C: Clock>(
 {
     match command_of(alloc, words) {
         Ok(Some(command)) => {
-            let ending = call(alloc, &command, files, keeper, input, output, clock);
+            let ending = carried_out(alloc, &command, files, keeper, input, output, clock);
             finish(&ending, output)
         }
         Ok(None) => finish(&Ending::Usage, output),
@@ -114,6 +115,61 @@ fn finish<W: Sink>(ending: &Ending, output: &mut W) -> u8
 {
     ending.tell(output);
     ending.status()
+}
+
+/// Does what is asked for.
+fn carried_out<F: Files, K: Keeper, S: Source, W: Sink, C: Clock>(
+    alloc: Global,
+    command: &Command<'_>,
+    files: &mut F,
+    keeper: &mut K,
+    input: &mut S,
+    output: &mut W,
+    clock: &mut C,
+) -> Ending
+    ensures outcome { (start : Start) → F.texts files.old ≡ Some start.texts → StandsAt start (S.left input.old)
+        (record { faults = K.faults keeper.old; kept = K.kept keeper.old; coming = C.coming clock.old; written = W.written output.old })
+        → EndsAction (command_view command.now).action (command_view command.now) result start
+        (Rose (F.faults files.old) (F.faults files.new)) (Rose (S.faults input.old) (S.faults input.new)) (S.left input.new)
+        (record { faults = K.faults keeper.new; kept = K.kept keeper.new; coming = C.coming clock.new; written = W.written output.new }) }
+    ensures others { IfSome (F.texts files.old) (λ texts. KeepsOthers (command_view command.now) texts (K.kept keeper.old) (K.kept keeper.new)) }
+    ensures reason { HasReason ((command_view command.now).action ≡ audit)
+        (Rose (F.faults files.old) (F.faults files.new) ⊎ Rose (S.faults input.old) (S.faults input.new))
+        (Rose (W.faults output.old) (W.faults output.new))
+        (Rose (K.faults keeper.old) (K.faults keeper.new)) result }
+    ensures texts { F.texts files.new ≡ F.texts files.old }
+    ensures output_count { W.faults output.old ≤ W.faults output.new }
+{
+    match command.action {
+        Action::Call => call(alloc, command, files, keeper, input, output, clock),
+        Action::Audit => audit(alloc, command, files, keeper, output),
+    }
+}
+
+/// Loads the modules and audits the store.
+fn audit<F: Files, K: Keeper, W: Sink>(
+    alloc: Global,
+    command: &Command<'_>,
+    files: &mut F,
+    keeper: &mut K,
+    output: &mut W,
+) -> Ending
+    // Over objects that tell what they hold: the loading stopped, or the rows were audited.
+    ensures outcome { (start : Start) (left : Option (List ℕ)) (coming : Option (ℕ → ℤ)) → F.texts files.old ≡ Some start.texts → StandsAt start left
+        (record { faults = K.faults keeper.old; kept = K.kept keeper.old; coming = coming; written = W.written output.old })
+        → EndsAudit (command_view command.now) result start (Rose (F.faults files.old) (F.faults files.new)) left
+        (record { faults = K.faults keeper.new; kept = K.kept keeper.new; coming = coming; written = W.written output.new }) }
+    ensures reason { HasReason ⊤ (Rose (F.faults files.old) (F.faults files.new))
+        (Rose (W.faults output.old) (W.faults output.new))
+        (Rose (K.faults keeper.old) (K.faults keeper.new)) result }
+    ensures same { K.kept keeper.new ≡ K.kept keeper.old }
+    ensures texts { F.texts files.new ≡ F.texts files.old }
+    ensures output_count { W.faults output.old ≤ W.faults output.new }
+{
+    match loaded(alloc, files, command) {
+        Ok(schema) => audited(alloc, keeper, output, &schema),
+        Err(ending) => ending,
+    }
 }
 
 /// Loads the modules, opens the store and serves the lines of the input.
@@ -133,7 +189,7 @@ fn call<F: Files, K: Keeper, S: Source, W: Sink, C: Clock>(
         → EndsCall (command_view command.now) result start (Rose (F.faults files.old) (F.faults files.new)) (Rose (S.faults input.old) (S.faults input.new)) (S.left input.new)
         (record { faults = K.faults keeper.new; kept = K.kept keeper.new; coming = C.coming clock.new; written = W.written output.new }) }
     ensures others { IfSome (F.texts files.old) (λ texts. KeepsOthers (command_view command.now) texts (K.kept keeper.old) (K.kept keeper.new)) }
-    ensures reason { HasReason (Rose (F.faults files.old) (F.faults files.new) ⊎ Rose (S.faults input.old) (S.faults input.new))
+    ensures reason { HasReason ⊥ (Rose (F.faults files.old) (F.faults files.new) ⊎ Rose (S.faults input.old) (S.faults input.new))
         (Rose (W.faults output.old) (W.faults output.new))
         (Rose (K.faults keeper.old) (K.faults keeper.new)) result }
     ensures texts { F.texts files.new ≡ F.texts files.old }
@@ -187,7 +243,7 @@ fn opened<K: Keeper, S: Source, W: Sink, C: Clock>(
         (record { faults = K.faults keeper.new; kept = K.kept keeper.new; coming = C.coming clock.new; written = W.written output.new }))
         ⊎ ((first : Tables) × StandsFor schema.now first start.store × Session schema.now first result start (S.left input.new)
         (record { faults = K.faults keeper.new; kept = K.kept keeper.new; coming = C.coming clock.new; written = W.written output.new })) }
-    ensures reason { HasReason (Rose (S.faults input.old) (S.faults input.new))
+    ensures reason { HasReason ⊥ (Rose (S.faults input.old) (S.faults input.new))
         (Rose (W.faults output.old) (W.faults output.new))
         (Rose (K.faults keeper.old) (K.faults keeper.new)) result }
     ensures output_count { W.faults output.old ≤ W.faults output.new }

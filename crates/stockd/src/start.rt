@@ -1,7 +1,7 @@
-//! The start of the program: the words of the command line, and a run over the host's
-//! files, input, output and clock, with rows kept in memory. `main` hands its runtime to `started`
-//! and ends with the status that it answers. Which objects a run is handed may be changed
-//! here; what it does with them is settled in `run`.
+//! The start of the program: the words of the command line, and a run over the host's files,
+//! input, output and clock, with rows kept where the words say. `main` hands its runtime to
+//! `started` and ends with the status that it answers. Which objects a run is handed may be
+//! changed here; what it does with them is settled in `run`.
 
 ghost use Rattle.std.specs.Prelude.{◌≡◌, [], drop, IfOk, IsErr, IsOkAnd, MatchResult};
 ghost use Rattle.std.specs.IoError.{error_kind};
@@ -12,23 +12,26 @@ ghost use Rattle.stockd.specs.Words.{IsUsage};
 
 use crate::ending::Ending;
 use crate::run::run;
+use crate::words::{Store, Usage, store_of};
 use ob_base::NoMemory;
-use ob_io::{DiskFiles, HostClock, StdSink, StdSource, SureDoor, SureKeeper};
+use ob_io::{DiskFiles, HostClock, Keeper, StdSink, StdSource, SureDoor, SureKeeper};
+use ob_sqlite::keeper_at;
 use std::alloc::Global;
 use std::io::{ErrorKind, Input};
 use std::rt::{Clock, Env, Files};
 use std::{env, io};
 
-/// Runs the program over this runtime and this disk, and answers the status that it ends with.
-/// Where memory is wanting before the run, its last line and status are those of a run for
-/// which it is wanting.
+/// Runs the program over this runtime and this disk, with the host for the file of a store, and
+/// answers the status that it ends with. Where memory is wanting before the run, its last line
+/// and status are those of a run for which it is wanting.
 pub(crate) fn started<R: AllocGlobal + Env + Input + Print + Clock, D: Files + Drop>(
     rt: &R,
     disk: D,
+    host: &HostRuntime,
 ) -> u8
     ensures { (why : Ending) × (result ≡ status_of why) }
 {
-    match run_given(rt, disk) {
+    match run_given(rt, disk, host) {
         Ok(status) => status,
         Err(NoMemory) => no_memory(rt),
     }
@@ -38,18 +41,48 @@ pub(crate) fn started<R: AllocGlobal + Env + Input + Print + Clock, D: Files + D
 fn run_given<R: AllocGlobal + Env + Input + Print + Clock, D: Files + Drop>(
     rt: &R,
     disk: D,
+    host: &HostRuntime,
 ) -> Result<u8, NoMemory>
     ensures { IfOk result (λ status. (why : Ending) × (status ≡ status_of why)) }
 {
     let words = words_after_name(rt.alloc(), env::args(rt))?;
-    run_words(rt, disk, &words)
+    run_words(rt, disk, host, &words)
 }
 
-/// Runs over these words, the host's things and an empty keeper in memory.
+/// Runs over these words, with rows kept where they say: in a file, or else in an empty keeper
+/// in memory, also where they ask for nothing that is served.
 fn run_words<R: AllocGlobal + Input + Print + Clock, D: Files + Drop>(
     rt: &R,
     disk: D,
+    host: &HostRuntime,
     words: &[String],
+) -> Result<u8, NoMemory>
+    ensures status { IfOk result (λ status. (why : Ending) × (status ≡ status_of why)) }
+    ensures other_words { IfOk result (λ status. IsUsage words.now → status ≡ 2) }
+    ensures call { IfOk result (λ status. status ≡ 2 → IsUsage words.now) }
+{
+    let alloc = rt.alloc();
+    match store_of(alloc, words) {
+        Ok(Store::File(path)) => {
+            let mut keeper = keeper_at(host, path.as_str());
+            let status = run_over(rt, disk, words, &mut keeper);
+            keeper.close();
+            status
+        }
+        Ok(Store::Memory) | Err(Usage::Words) => {
+            let mut keeper = SureKeeper::new(alloc, Vec::new(alloc), Vec::new(alloc))?;
+            run_over(rt, disk, words, &mut keeper)
+        }
+        Err(Usage::NoMemory) => Err(NoMemory),
+    }
+}
+
+/// Runs over these words, the host's things and this keeper.
+fn run_over<R: AllocGlobal + Input + Print + Clock, D: Files + Drop, K: Keeper>(
+    rt: &R,
+    disk: D,
+    words: &[String],
+    keeper: &mut K,
 ) -> Result<u8, NoMemory>
     ensures status { IfOk result (λ status. (why : Ending) × (status ≡ status_of why)) }
     // Status 2 is that of words that ask for nothing that is served.
@@ -58,7 +91,6 @@ fn run_words<R: AllocGlobal + Input + Print + Clock, D: Files + Drop>(
 {
     let alloc = rt.alloc();
     let mut files = DiskFiles::new(alloc, disk)?;
-    let mut keeper = SureKeeper::new(alloc, Vec::new(alloc), Vec::new(alloc))?;
     let mut input = StdSource::new(rt)?;
     let mut output = StdSink::new(rt)?;
     let mut door = SureDoor::new(alloc, Vec::new(alloc), 1, 0)?;
@@ -67,7 +99,7 @@ fn run_words<R: AllocGlobal + Input + Print + Clock, D: Files + Drop>(
         alloc,
         words,
         &mut files,
-        &mut keeper,
+        keeper,
         &mut input,
         &mut output,
         &mut door,

@@ -1,13 +1,16 @@
 //! Cases of `run` over objects in memory. The expected texts were worked out by hand from
 //! the rules of docs/CALL.md, and the bytes of rows from those of docs/VALUES.md. Here are
 //! the worked requests; `causes` has each status, refusal and failing call, `opened` stores
-//! with rows, `loaded` modules and words, `places` where a request is malformed, and
-//! `arguments` how optional arguments are given. `case` reads the pages, whose lines
+//! with rows, `audited` audits, `loaded` modules and words, `places` where a request is malformed,
+//! `writes` how rows are changed, `fields` what fields a model has, and `arguments` how optional
+//! arguments are given. `case` reads the pages, whose lines
 //! docs/CASES.md explains, with `modules` for their texts and `kept` for the store.
 
 mod arguments;
+mod audited;
 mod case;
 mod causes;
+mod fields;
 mod kept;
 mod loaded;
 mod modules;
@@ -15,6 +18,7 @@ mod opened;
 mod pieces;
 mod places;
 mod relations;
+mod writes;
 
 use case::play;
 use std::test::Fail;

@@ -2,9 +2,9 @@
 //! specs/Words; how they are read may be changed here.
 
 ghost use Rattle.std.specs.Prelude.{◌≡◌, IfOk, option_map};
-ghost use Rattle.stockd.specs.WordPieces.{HasNames, IsAsked, piece_view, setting_view};
+ghost use Rattle.stockd.specs.WordPieces.{HasNames, IsAsked, IsPlaceOf, action_view, parts_of, parts_with, piece_view, said_view, setting_view};
 ghost use Rattle.stockd.specs.Words as spec;
-ghost use Rattle.stockd.specs.Words.{begun, is_folder, option_piece, setting_of, valued};
+ghost use Rattle.stockd.specs.Words.{action_of, begun, is_path, option_piece, setting_of, valued};
 
 use ob_base::{NoMemory, Sequence, Word};
 use ob_definition::is_field_name;
@@ -13,6 +13,15 @@ use std::alloc::Global;
 /// Where module texts are read from, where no other folder is named.
 const FOLDER: &str = "modules";
 
+/// What a run does.
+#[derive(Clone, Copy, Debug, PartialEq, Eq)]
+pub(crate) enum Action {
+    /// It serves the lines of the input.
+    Call,
+    /// It audits the rows that are kept.
+    Audit,
+}
+
 /// An option, by its name.
 #[derive(Clone, Copy, Debug, PartialEq, Eq)]
 enum Setting {
@@ -20,26 +29,75 @@ enum Setting {
     Modules,
     /// A module to load.
     Load,
+    /// The file of the store.
+    Store,
 }
 
 /// What one word says.
 #[derive(Clone, Copy, Debug, PartialEq, Eq)]
 enum Piece<'a> {
-    /// The action.
-    Call,
+    Acts(Action),
     /// An option whose value is the next word.
     Awaiting(Setting),
     Folder(&'a str),
     Loads(&'a str),
+    Keeps(&'a str),
+}
+
+/// What words said that may be said once.
+#[derive(Clone, Copy, Debug, PartialEq, Eq)]
+struct Said<'a> {
+    action: Option<Action>,
+    folder: Option<&'a str>,
+    file: Option<&'a str>,
 }
 
 /// What a run is asked for.
 #[derive(Drop)]
 pub(crate) struct Command<'a> {
+    pub(crate) action: Action,
     /// The folder of module texts.
     pub(crate) folder: &'a str,
     /// The modules to load, in the order of the words.
     pub(crate) names: Sequence<Word>,
+    /// The file of the store, where it isn't in memory.
+    pub(crate) file: Option<&'a str>,
+}
+
+/// Where words have rows kept.
+#[derive(Debug, Drop)]
+pub enum Store {
+    /// For the length of the run.
+    Memory,
+    /// In the file of this path.
+    File(Word),
+}
+
+/// Why words don't say where rows are kept.
+#[derive(Clone, Copy, Debug, PartialEq, Eq)]
+pub enum Usage {
+    /// They ask for nothing that is served.
+    Words,
+    NoMemory,
+}
+
+/// Where the words have rows kept.
+pub fn store_of(alloc: Global, words: &[String]) -> Result<Store, Usage>
+    ensures { IsPlaceOf words.now result }
+{
+    let Some(said) = said_by(words) else {
+        return Err(Usage::Words);
+    };
+    if said.action.is_none() {
+        return Err(Usage::Words);
+    }
+    let Some(path) = said.file else {
+        return Ok(Store::Memory);
+    };
+    match Word::from_text(alloc, path) {
+        Ok(path) => Ok(Store::File(path)),
+        Err(NoMemory) => Err(Usage::NoMemory),
+    }
 }
 
 /// What the words ask for; None where it is nothing that is served. Memory is wanted only
@@ -50,35 +108,58 @@ pub(crate) fn command_of<'a>(
 ) -> Result<Option<Command<'a>>, NoMemory>
     ensures { IsAsked words.now result }
 {
-    let Some(folder) = folder_of(words) else {
+    let Some(said) = said_by(words) else {
+        return Ok(None);
+    };
+    let Some(action) = said.action else {
         return Ok(None);
     };
     let names = names_of(alloc, words)?;
-    Ok(Some(Command { folder, names }))
+    Ok(Some(Command {
+        action,
+        folder: said.folder.unwrap_or(FOLDER),
+        names,
+        file: said.file,
+    }))
 }
 
-/// The folder of the words, where they are a command.
-fn folder_of<'a>(words: &'a [String]) -> Option<&'a str>
-    ensures { option_map (λ folder. folder.now) result ≡ option_map (λ command. command.folder) (spec.command_of words.now) }
+/// What the words say that may be said once, where they say something and nothing of it twice.
+fn said_by<'a>(words: &'a [String]) -> Option<Said<'a>>
+    ensures { option_map said_view result ≡ parts_of words.now }
 {
+    let mut said = Said {
+        action: None,
+        folder: None,
+        file: None,
+    };
     let mut waits = None;
-    let mut has_action = false;
-    let mut folder = None;
     for word in words {
         let piece = piece_of(waits, word.as_str())?;
+        said = said_with(said, &piece)?;
         waits = waits_of(&piece);
-        match piece {
-            Piece::Call if has_action => return None,
-            Piece::Call => has_action = true,
-            Piece::Folder(_) if folder.is_some() => return None,
-            Piece::Folder(text) => folder = Some(text),
-            Piece::Awaiting(_) | Piece::Loads(_) => {}
-        }
     }
-    if has_action && waits.is_none() {
-        Some(folder.unwrap_or(FOLDER))
-    } else {
-        None
+    if waits.is_none() { Some(said) } else { None }
+}
+
+/// What was said and a piece together; none where the piece says again what may be said once.
+fn said_with<'a>(said: Said<'a>, piece: &Piece<'a>) -> Option<Said<'a>>
+    ensures { option_map said_view result ≡ parts_with (said_view said.entry) (piece_view piece.now) }
+{
+    match piece {
+        Piece::Acts(action) if said.action.is_none() => Some(Said {
+            action: Some(*action),
+            ..said
+        }),
+        Piece::Folder(text) if said.folder.is_none() => Some(Said {
+            folder: Some(*text),
+            ..said
+        }),
+        Piece::Keeps(text) if said.file.is_none() => Some(Said {
+            file: Some(*text),
+            ..said
+        }),
+        Piece::Acts(_) | Piece::Folder(_) | Piece::Keeps(_) => None,
+        Piece::Awaiting(_) | Piece::Loads(_) => Some(said),
     }
 }
 
@@ -114,10 +195,21 @@ fn piece_of<'a>(waits: Option<Setting>, word: &'a str) -> Option<Piece<'a>>
 fn begun<'a>(word: &'a str) -> Option<Piece<'a>>
     ensures { option_map piece_view result ≡ begun word.now }
 {
-    if word == "call" {
-        return Some(Piece::Call);
+    match action_of(word) {
+        Some(action) => Some(Piece::Acts(action)),
+        None => option_piece(word),
     }
-    option_piece(word)
+}
+
+/// The action of a name.
+fn action_of(name: &str) -> Option<Action>
+    ensures { option_map action_view result ≡ action_of name.now }
+{
+    match name {
+        "call" => Some(Action::Call),
+        "audit" => Some(Action::Audit),
+        _ => None,
+    }
 }
 
 /// An option with its value, or one whose value is the next word.
@@ -137,6 +229,7 @@ fn setting_of(name: &str) -> Option<Setting>
     match name {
         "--modules" => Some(Setting::Modules),
         "--load" => Some(Setting::Load),
+        "--store" => Some(Setting::Store),
         _ => None,
     }
 }
@@ -146,16 +239,17 @@ fn valued<'a>(setting: Setting, text: &'a str) -> Option<Piece<'a>>
     ensures { option_map piece_view result ≡ valued (setting_view setting) text.now }
 {
     match setting {
-        Setting::Modules if is_folder(text) => Some(Piece::Folder(text)),
+        Setting::Modules if is_path(text) => Some(Piece::Folder(text)),
         // A module is named as a field is.
         Setting::Load if is_field_name(text) => Some(Piece::Loads(text)),
-        Setting::Modules | Setting::Load => None,
+        Setting::Store if is_path(text) => Some(Piece::Keeps(text)),
+        Setting::Modules | Setting::Load | Setting::Store => None,
     }
 }
 
-/// Whether a text names a folder: it is of a byte at least, and doesn't begin with a hyphen.
-fn is_folder(text: &str) -> bool
-    ensures { result ≡ is_folder text.now }
+/// Whether a text may be a path: it is of a byte at least, and doesn't begin with a hyphen.
+fn is_path(text: &str) -> bool
+    ensures { result ≡ is_path text.now }
 {
     match text.as_bytes() {
         [] => false,
@@ -169,6 +263,6 @@ fn waits_of(piece: &Piece<'_>) -> Option<Setting>
 {
     match piece {
         Piece::Awaiting(setting) => Some(*setting),
-        Piece::Call | Piece::Folder(_) | Piece::Loads(_) => None,
+        Piece::Acts(_) | Piece::Folder(_) | Piece::Loads(_) | Piece::Keeps(_) => None,
     }
 }

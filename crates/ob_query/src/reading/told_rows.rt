@@ -8,7 +8,8 @@ ghost use Rattle.ob_cache.specs.declared.stages.Phase.TheVariants as phase;
 ghost use Rattle.ob_codec.specs.Held.{HasFieldType};
 ghost use Rattle.ob_codec.specs.JsonForm.{IsJsonOf};
 ghost use Rattle.ob_cache.specs.Calls.{HasTables, KeeperRose, Refuses, models_at, standpoint};
-ghost use Rattle.ob_query.specs.ReadParts.{IsToldOrMissing, LeavesAll, TellsCell, TellsOrMisses, columns_at};
+ghost use Rattle.ob_query.specs.ReadParts.{IsToldOrMissing, LeavesAll, TellsCell, TellsOrMisses};
+ghost use Rattle.ob_call.specs.Columns.{columns_at};
 ghost use Rattle.ob_schema.specs.Models.{HasField, HasModel, field_at, model_at};
 ghost use Rattle.ob_schema.specs.Tables.{Tables, row_at};
 

@@ -21,6 +21,8 @@ const REFUSED: &str =
 /// What the folder that the tests run in lacks.
 const ABSENT: &str = "module demo: Absent text\n";
 
+const SHUT: &str = "keeper fault\n";
+
 const USAGE: &str = "usage: stockd call|serve|audit|gen [options]\n";
 
 /// Gives these words, the program's name first, and this input. It takes no output where
@@ -122,7 +124,7 @@ fn status_and_output(
         is_shut,
         printed: RefCell::new(Vec::new(alloc)),
     };
-    let status = started(&given, rt);
+    let status = started(&given, rt, rt);
     let Given {
         alloc: _,
         words: _,
@@ -135,7 +137,7 @@ fn status_and_output(
 
 #[test]
 fn words_come_after_the_name(rt: HostRuntime) {
-    let rows: [(&'static [&'static [u8]], u8, &'static str); 7] = [
+    let rows: [(&'static [&'static [u8]], u8, &'static str); 10] = [
         (&[b"stockd", b"call"], 0, REFUSED),
         (&[b"stockd", b"call", b"--load", b"demo"], 3, ABSENT),
         // The program's name is no word.
@@ -145,6 +147,10 @@ fn words_come_after_the_name(rt: HostRuntime) {
         // One that isn't UTF-8.
         (&[b"stockd", b"call", b"\xff"], 2, USAGE),
         (&[], 2, USAGE),
+        (&[b"stockd", b"audit"], 0, "audit equal\n"),
+        // Stores whose files can't be opened.
+        (&[b"stockd", b"call", b"--store", b":memory:"], 6, SHUT),
+        (&[b"stockd", b"audit", b"--store=none/rows"], 6, SHUT),
     ];
     for (words, want, output) in rows {
         let (status, printed) = status_and_output(&rt, words, false);

@@ -22,6 +22,21 @@ words call --modules=other --load demo
 status 3
 words call --modules other=folder
 status 0
+words --store rows call --load demo
+2 demo.line read [[1],["qty"]]
+= [{"id":1,"qty":0}]
+status 0
+words audit --store=rows --load demo --modules modules
+< demo.line.subtotal 1 equal
+< demo.task.days 0 equal
+< audit equal
+status 0
+words call --store call
+status 0
+words call --store=a=b
+status 0
+words call --store :memory:
+status 0
 
 == words that are not
 words call --load
@@ -63,7 +78,40 @@ status 2
 words call -load demo
 < usage: stockd call|serve|audit|gen [options]
 status 2
-words audit
+words audit --load
+< usage: stockd call|serve|audit|gen [options]
+status 2
+words audit audit
+< usage: stockd call|serve|audit|gen [options]
+status 2
+words call --load demo audit
+< usage: stockd call|serve|audit|gen [options]
+status 2
+words audit call
+< usage: stockd call|serve|audit|gen [options]
+status 2
+words call --store a --store=b
+< usage: stockd call|serve|audit|gen [options]
+status 2
+words call --store
+< usage: stockd call|serve|audit|gen [options]
+status 2
+words call --store=
+< usage: stockd call|serve|audit|gen [options]
+status 2
+words call --store -x
+< usage: stockd call|serve|audit|gen [options]
+status 2
+words call --store=-x
+< usage: stockd call|serve|audit|gen [options]
+status 2
+words audit --store --load demo
+< usage: stockd call|serve|audit|gen [options]
+status 2
+words --store audit --load demo
+< usage: stockd call|serve|audit|gen [options]
+status 2
+words audits
 < usage: stockd call|serve|audit|gen [options]
 status 2
 words CALL

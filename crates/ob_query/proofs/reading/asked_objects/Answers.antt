@@ -10,14 +10,13 @@ use Rattle.ob_schema.specs.Models.{model_at}
 use Rattle.ob_call.specs.Called.{result_view}
 use Rattle.ob_query.specs.Read.{read_expects}
 use Rattle.ob_call.proofs.CallerLemmas.{at_info}
-use Rattle.ob_query.proofs.ReadAnswers.{asked_there, asks_in, denied_answer, denied_cause, three_given, told_answer, told_causes}
+use Rattle.ob_query.proofs.ReadAnswers.{asks_in, denied_answer, denied_cause, three_given, told_answer, told_causes}
 use Rattle.ob_query.proofs.reading.asked_objects.Goals as goal
 
 pub objects_of-requires-clause-fields : goal.objects_of-requires-clause-fields
 objects_of-requires-clause-fields g c =
-    let fields_made : c.asked_fields.result ≡ Ok c.in_ok-fields.fields = grind arith in
-    let numbers_are = rw (c.schema-schema.ensures, fields_made) at c.asked_fields.ensures in
-    rw c.as_slice-2.ensures.value (asked_there (model_at c.args.engine.now.held.models c.args.call.now.model) c.index-2.result.now c.in_ok-fields.fields.items c.requires.model numbers_are)
+    let fields_made : c.named_fields.result ≡ Ok c.in_ok-fields.fields = grind arith in
+    rw c.as_slice-2.ensures.value (rw (c.schema-schema.ensures, fields_made) at c.named_fields.ensures.there)
 
 pub returns-clause-answer : goal.returns-clause-answer
 returns-clause-answer g c =
@@ -27,10 +26,10 @@ returns-clause-answer g c =
     let fit = rw expects at c.in_ok-given.ensures.fit in
     let three = three_given (fields_at held.models call.model) c.in_ok-given.given.items fit in
     let are = at_info held.models call.model (λ fields. arguments_of (read_expects fields) (view call.args.now) (view call.kw.now) ≡ Ok (all_given_of c.in_ok-given.given.items)) told in
-    let ids_made : c.asked_ids.result ≡ Ok c.in_ok-ids.ids = grind arith in
-    let ids_are = rw ids_made at c.asked_ids.ensures in
-    let fields_made : c.asked_fields.result ≡ Ok c.in_ok-fields.fields = grind arith in
-    let numbers_are = rw (c.schema-schema.ensures, fields_made) at c.asked_fields.ensures in
+    let ids_made : c.named_ids.result ≡ Ok c.in_ok-ids.ids = grind arith in
+    let ids_are = rw ids_made at c.named_ids.ensures in
+    let fields_made : c.named_fields.result ≡ Ok c.in_ok-fields.fields = grind arith in
+    let numbers_are = rw (c.schema-schema.ensures, fields_made) at c.named_fields.ensures.fields in
     let asks = asks_in found call c.in_ok-given.given.items c.in-Some.ids c.index-2.result.now c.in_ok-ids.ids.items c.in_ok-fields.fields.items three are
     (rw c.in-Some.is at c.index.ensures) c.index-2.ensures ids_are numbers_are in
     let rows = rw (c.as_slice.ensures.value, c.as_slice-2.ensures.value) at c.objects_of.ensures.told in
@@ -44,10 +43,10 @@ returns-clause-causes g c =
     let fit = rw expects at c.in_ok-given.ensures.fit in
     let three = three_given (fields_at held.models call.model) c.in_ok-given.given.items fit in
     let are = at_info held.models call.model (λ fields. arguments_of (read_expects fields) (view call.args.now) (view call.kw.now) ≡ Ok (all_given_of c.in_ok-given.given.items)) told in
-    let ids_made : c.asked_ids.result ≡ Ok c.in_ok-ids.ids = grind arith in
-    let ids_are = rw ids_made at c.asked_ids.ensures in
-    let fields_made : c.asked_fields.result ≡ Ok c.in_ok-fields.fields = grind arith in
-    let numbers_are = rw (c.schema-schema.ensures, fields_made) at c.asked_fields.ensures in
+    let ids_made : c.named_ids.result ≡ Ok c.in_ok-ids.ids = grind arith in
+    let ids_are = rw ids_made at c.named_ids.ensures in
+    let fields_made : c.named_fields.result ≡ Ok c.in_ok-fields.fields = grind arith in
+    let numbers_are = rw (c.schema-schema.ensures, fields_made) at c.named_fields.ensures.fields in
     let asks = asks_in found call c.in_ok-given.given.items c.in-Some.ids c.index-2.result.now c.in_ok-ids.ids.items c.in_ok-fields.fields.items three are
     (rw c.in-Some.is at c.index.ensures) c.index-2.ensures ids_are numbers_are in
     let missing = rw c.as_slice.ensures.value at c.objects_of.ensures.missing in

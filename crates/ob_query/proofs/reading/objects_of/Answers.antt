@@ -3,7 +3,8 @@ use Rattle.std.proofs.lemmas.List.{take_more, take_all}
 use Rattle.ob_io.specs.Cause.{Rose}
 use Rattle.serde_json.proofs.Views.{view-Array}
 use Rattle.ob_cache.proofs.CallerLemmas.{stays-then}
-use Rattle.ob_query.proofs.ReadSteps.{IsFetching-row, IsFetching-gap, least_of, answers_rows}
+use Rattle.ob_call.proofs.CallerLemmas.{least_of}
+use Rattle.ob_query.proofs.ReadSteps.{IsFetching-row, IsFetching-gap, answers_rows}
 use Rattle.ob_query.proofs.reading.objects_of.Goals as goal
 use Rattle.ob_query.proofs.reading.objects_of.Goals.{in-Some+in_ok-map_err-in-Some, in-None}
 

@@ -4,4 +4,4 @@ use Rattle.stockd.proofs.run.call.Goals as goal
 
 pub returns-in-Ok-clause-outcome : goal.returns-in-Ok-clause-outcome
 returns-in-Ok-clause-outcome g c = λ start told at.
-    ends_opened _ _ start _ _ _ _ _ _ c.in-Ok.schema _ told c.in-Ok.ensures.ok (c.opened.ensures.outcome start at) c.opened.ensures.reason
+    ends_opened _ _ start _ _ _ _ _ _ _ c.in-Ok.schema _ told c.in-Ok.ensures.ok (c.opened.ensures.outcome start at) c.opened.ensures.reason

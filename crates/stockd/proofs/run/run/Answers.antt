@@ -1,21 +1,21 @@
--- The last line comes after what `call` did, and other words are told at once.
-use Rattle.std.proofs.Common.{◌≡◌, arith, inl, sym}
+-- The last line comes after what the command did, and other words are told at once.
+use Rattle.std.proofs.Common.{◌≡◌, arith, sym}
 use Rattle.stockd.specs.declared.ending.Ending.TheVariants as ending
 use Rattle.stockd.specs.WordPieces.{command_view}
-use Rattle.stockd.proofs.WholeCall.{no_command, no_room}
+use Rattle.stockd.proofs.WholeCall.{no_command, no_room, not_begun}
 use Rattle.stockd.proofs.run.run.Goals as goal
 
-pub returns-in-Ok-Some-clause-call : goal.returns-in-Ok-Some-clause-call
-returns-in-Ok-Some-clause-call g c = λ command is start texts at.
+pub returns-in-Ok-Some-clause-runs : goal.returns-in-Ok-Some-clause-runs
+returns-in-Ok-Some-clause-runs g c = λ command is start texts at.
     let told = rw c.in-Ok-Some.field-0-is at c.in-Ok-Some.ensures in
     let same : command ≡ command_view c.in-Ok-Some.command = cc in
     record {
-      why = c.call-ending.result;
+      why = c.carried_out-ending.result;
       status_is = c.finish.ensures.status;
       written = _;
       sink_faults = _;
-      call = rw same (c.call-ending.ensures.outcome start texts at);
-      since = c.call-ending.ensures.output_count;
+      done = rw same (c.carried_out-ending.ensures.outcome start texts at);
+      since = c.carried_out-ending.ensures.output_count;
       last = c.finish.ensures.line;
     }
 
@@ -24,13 +24,13 @@ returns-in-Ok-None-clause-causes g c =
     let told = rw c.in-Ok-None.field-0-is at c.in-Ok-None.ensures in
     no_command _ _ _ _ c.finish-in-Ok-None.ensures.status (sym told)
 
-pub returns-in-Err-clause-call : goal.returns-in-Err-clause-call
-returns-in-Err-clause-call g c = λ command is start texts at. record {
+pub returns-in-Err-clause-runs : goal.returns-in-Err-clause-runs
+returns-in-Err-clause-runs g c = λ command is start texts at. record {
   why = ending.NoMemory;
   status_is = c.finish-in-Err.ensures.status;
   written = _;
   sink_faults = _;
-  call = inl (record { stops = tt; same = at });
+  done = not_begun command.action command start _ _ _ _ at;
   since = omega arith;
   last = c.finish-in-Err.ensures.line;
 }

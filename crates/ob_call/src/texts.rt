@@ -1,0 +1,37 @@
+//! The form of a list of texts, whatever they say.
+
+ghost use Rattle.std.specs.Prelude.{◌≡◌, is_some, map, option_map};
+ghost use Rattle.serde_json.specs.Find.{as_str};
+ghost use Rattle.serde_json.specs.View.{view};
+ghost use Rattle.ob_call.specs.Forms.{first_item};
+ghost use Rattle.ob_call.specs.Places.{below_steps};
+
+use crate::call::Json;
+use crate::form::Form;
+use crate::places::Below;
+
+/// A list of texts.
+#[derive(Clone, Copy, Debug)]
+pub struct Texts;
+
+impl Form for Texts {
+    ghost use Rattle.ob_call.specs.Forms.{texts_fault};
+
+    ghost fault = { λ _ json. texts_fault json };
+
+    fn fault<'j>(&self, json: &'j Json) -> Option<Below<'j>> {
+        match json {
+            Json::Array(items) => first_no_text(items.as_slice()),
+            _ => Some(Below::Whole),
+        }
+    }
+}
+
+/// The first item that is no text.
+fn first_no_text(items: &[Json]) -> Option<Below<'_>>
+    ensures { option_map below_steps result
+        ≡ first_item (λ json. is_some (as_str json)) 0 (map view items.now) }
+{
+    let number = items.iter().position(|item| item.as_str().is_none())?;
+    Some(Below::Item(number))
+}

@@ -1,0 +1,162 @@
+-- What the JSON of one value gives a field of a row.
+use Rattle.std.proofs.Common.{true, true≢false, ◌||◌, not, ◌≡◌, ◌≢◌, ℕ, ℤ, ◌++◌, ◌∷◌, [], Bool, false, cond, List, Option, Some, None, Result, Ok, Err, option_map, sym, ap, subst, ◌∙◌, Bor, string_bytes}
+use Rattle.std.proofs.lemmas.Bool.{and_parts, not-true, or_parts}
+use Rattle.std.specs.Prelude.{IfSome}
+use Rattle.std.specs.BTreeMap.{is_at}
+use Rattle.std.specs.Cmp.Lexicographic.{slice_cmp}
+use Rattle.std.specs.Map.{lookup}
+use Rattle.std.specs.Ordering.{nat_cmp}
+use Rattle.serde_json.specs.Data.{Data, Members}
+use Rattle.serde_json.specs.Find.{get_member}
+use Rattle.serde_json.specs.View.{view, members_view}
+use Rattle.serde_json.specs.declared.value.Value.{Value as Json}
+use Rattle.serde_json.proofs.Views.{Entry, view_of_ref, view-lookup}
+use Rattle.ob_base.specs.Chain.{◌>>=◌}
+use Rattle.ob_base.specs.declared.place.PathStep.{PathStep}
+use Rattle.ob_base.specs.declared.place.PathStep.TheVariants.{Key}
+use Rattle.ob_base.specs.declared.refusal.Refusal.{Refusal}
+use Rattle.ob_base.specs.declared.refusal.Refusal.TheVariants as refusal
+use Rattle.ob_base.specs.declared.value.Value.{Value}
+use Rattle.ob_base.specs.declared.value.Value.TheVariants as value
+use Rattle.ob_codec.specs.JsonForm.{IsInput, IsInputFault, value_from}
+use Rattle.ob_codec.specs.declared.input.Command.{Command}
+use Rattle.ob_codec.specs.declared.input.Input.{Input}
+use Rattle.ob_codec.specs.declared.input.Input.TheVariants as input
+use Rattle.ob_codec.specs.declared.fault.CodecFault.{CodecFault}
+use Rattle.ob_codec.specs.declared.fault.CodecFault.TheVariants as codec
+use Rattle.ob_schema.specs.Fields.{Holds, is_plain_kept}
+use Rattle.ob_definition.specs.Types.{is_list}
+use Rattle.ob_schema.specs.declared.info.FieldInfo.{FieldInfo}
+use Rattle.ob_orm.specs.RowValues.{given_of, given_value, is_stamp, placed, row_value}
+use Rattle.ob_orm.specs.Values.{is_free}
+use Rattle.ob_orm.specs.CreateSteps.{IsFaultAt, IsMakeable}
+use Rattle.ob_call.specs.Places.{IsMalformedAt}
+use Rattle.ob_call.specs.Results.{IsResultOf}
+use Rattle.ob_orm.proofs.CreateFields.{told, tell}
+
+-- ---- a value, where the field is no list
+
+-- what JSON gives a field
+abbrev pub GivesInput : Option FieldInfo → Data → Input → Type 0
+GivesInput o d given = IfSome o (λ info. IsInput info.field_type info.selection d given)
+
+-- the fault for which it gives nothing
+abbrev pub GivesFault : Option FieldInfo → Data → CodecFault → Type 0
+GivesFault o d fault = IfSome o (λ info. IsInputFault info.field_type info.selection d fault)
+
+abbrev pub NoList : Option FieldInfo → Type 0
+NoList o = IfSome o (λ field. is_list field.field_type ≡ false)
+
+-- commands are given to lists alone
+pub no_commands : (o : Option FieldInfo) (f : FieldInfo) (d : Data) (commands : List Command) → o ≡ Some f → NoList o → GivesInput o d (input.Commands commands) → ⊥
+no_commands o f d commands is no_list given =
+    let flat : is_list f.field_type ≡ false = told o f (λ field. is_list field.field_type ≡ false) is no_list in
+    let own = told o f (λ info. IsInput info.field_type info.selection d (input.Commands commands)) is given in
+    true≢false (sym own.0 ∙ flat)
+
+-- a value as it was read
+pub value_read : (o : Option FieldInfo) (f : FieldInfo) (d : Data) (place : FieldInfo → List PathStep) (v : Value) → o ≡ Some f → GivesInput o d (input.Plain v)
+    → IfSome o (λ field. IsResultOf (λ w. w) (Ok v) (placed (place field) (value_from field.field_type field.selection d)))
+value_read o f d place v is given =
+    let own = told o f (λ info. IsInput info.field_type info.selection d (input.Plain v)) is given in
+    tell o f (λ field. placed (place field) (value_from field.field_type field.selection d) ≡ Ok v) is (ap (placed (place f)) own.1)
+
+-- what tells a place gives it
+pub IsResultOf-malformed : {A B : Type 0} (of : A → B) (place : List PathStep) (why : Refusal) (meant : Result B (List PathStep)) → IsMalformedAt place why → meant ≡ Err place → IsResultOf of (Err why) meant
+IsResultOf-malformed of place (refusal.Request told) meant at is = is ∙ ap Err (sym at)
+IsResultOf-malformed of place (refusal.Right m op) meant at is = absurd at
+IsResultOf-malformed of place (refusal.FieldRight m field) meant at is = absurd at
+IsResultOf-malformed of place (refusal.Missing m id) meant at is = absurd at
+IsResultOf-malformed of place (refusal.Rule m op id name) meant at is = absurd at
+IsResultOf-malformed of place (refusal.Constraint b) meant at is = absurd at
+IsResultOf-malformed of place refusal.Keeper meant at is = absurd at
+IsResultOf-malformed of place refusal.NoMemory meant at is = tt
+
+-- want of memory gives anything
+pub IsResultOf-no_memory : {A B : Type 0} (of : A → B) (why : Refusal) (meant : Result B (List PathStep)) → why ≡ refusal.NoMemory → IsResultOf of (Err why) meant
+IsResultOf-no_memory {A = A} of why meant is = subst (λ (w : Refusal). IsResultOf of (Err w) meant) (sym is) tt
+
+-- a fault of the value is one at its place
+fault_gives : (place : List PathStep) (fault : CodecFault) (why : Refusal) (r : Result Value CodecFault) → IsFaultAt place fault why → (fault ≢ codec.NoMemory → r ≡ Err fault) → IsResultOf (λ w. w) (Err why) (placed place r)
+fault_gives place (codec.Shape below) why r at is = IsResultOf-malformed (λ w. w) (place ++ below) why (placed place r) at (ap (placed place) (is (λ e. cc)))
+fault_gives place (codec.Range below) why r at is = IsResultOf-malformed (λ w. w) (place ++ below) why (placed place r) at (ap (placed place) (is (λ e. cc)))
+fault_gives place (codec.Unknown below) why r at is = IsResultOf-malformed (λ w. w) (place ++ below) why (placed place r) at (ap (placed place) (is (λ e. cc)))
+fault_gives place codec.NoMemory why r at is = IsResultOf-no_memory (λ w. w) why (placed place r) at
+
+-- a value that wasn't read
+pub value_refused : (o : Option FieldInfo) (f : FieldInfo) (d : Data) (place : FieldInfo → List PathStep) (fault : CodecFault) (why : Refusal) → o ≡ Some f → NoList o → (fault ≢ codec.NoMemory
+    → GivesFault o d fault) → IsFaultAt (place f) fault why
+    → IfSome o (λ field. IsResultOf (λ w. w) (Err why) (placed (place field) (value_from field.field_type field.selection d)))
+value_refused o f d place fault why is no_list given at =
+    let flat : is_list f.field_type ≡ false = told o f (λ field. is_list field.field_type ≡ false) is no_list in
+    tell o f (λ field. IsResultOf (λ w. w) (Err why) (placed (place field) (value_from field.field_type field.selection d))) is
+    (fault_gives (place f) fault why (value_from f.field_type f.selection d) at (λ apart.
+    let own = told o f (λ info. IsInputFault info.field_type info.selection d fault) is (given apart) in own.value flat))
+
+-- ---- the value of a field of a row
+
+-- what a look-up in the map answers, which is a member of the object
+abbrev pub FoundAt : List ℕ → List Entry → Option (Bor Json) → Type 0
+FoundAt name es r = option_map (λ x. x.now) r ≡ lookup (is_at (λ k. slice_cmp nat_cmp name (string_bytes k))) es
+
+-- as its data
+found : (name : List ℕ) (es : List Entry) (r : Option (Bor Json)) → FoundAt name es r → option_map (λ x. view x.now) r ≡ get_member name (members_view es)
+found name es r e = view_of_ref r ∙ ap (option_map view) e ∙ view-lookup name es
+
+-- what the members give a free field is what a look-up by its name found
+pub given_free : (f : FieldInfo) (name : List ℕ) (es : List Entry) (r : Option (Bor Json)) → name ≡ f.name → is_free f ≡ true → FoundAt name es r → option_map (λ x. view x.now) r ≡ given_of (members_view es) f
+given_free f name es r same free at =
+    found name es r at ∙ ap (λ (n : List ℕ). get_member n (members_view es)) same ∙ sym (ap (λ (b : Bool). cond b (get_member f.name (members_view es)) None) free)
+
+-- and another one nothing
+pub given_nothing : (f : FieldInfo) (es : List Entry) → is_free f ≡ false → None ≡ given_of (members_view es) f
+given_nothing f es free = sym (ap (λ (b : Bool). cond b (get_member f.name (members_view es)) None) free)
+
+-- a free field is no list, whatever it is given
+pub free_flat : (f : FieldInfo) (r : Option (Bor Json)) → is_free f ≡ true → IfSome r (λ _. is_list f.field_type ≡ false)
+free_flat f None free = tt
+free_flat f (Some x) free =
+    let (plain, rest) = and_parts (is_plain_kept f) (not (is_list f.field_type || f.managed)) free in
+    (or_parts (is_list f.field_type) f.managed (not-true (is_list f.field_type || f.managed) rest)).0
+
+-- the value of a field that is no stamp
+no_stamp : (made : Bool) (now : ℤ) (place : List PathStep) (ms : Members) (f : FieldInfo) → is_stamp made f.name ≡ false → row_value made now place ms f ≡ given_value made (place ++ Key f.name ∷ []) f (given_of ms f)
+no_stamp made now place ms f is = ap (λ (b : Bool). cond b (Ok (Some (value.Moment now))) (given_value made (place ++ Key f.name ∷ []) f (given_of ms f))) is
+
+-- a value that was read is what the field gets
+abbrev pub some_of : Result Value Refusal → Result (Option Value) Refusal
+some_of (Ok v) = Ok (Some v)
+some_of (Err why) = Err why
+
+IsResultOf-some : (r : Result Value Refusal) (meant : Result Value (List PathStep)) → IsResultOf (λ w. w) r meant → IsResultOf (λ w. w) (some_of r) (meant >>= λ v. Ok (Some v))
+IsResultOf-some (Ok v) meant is = ap (λ (m : Result Value (List PathStep)). m >>= λ w. Ok (Some w)) is
+IsResultOf-some (Err (refusal.Request place)) meant is = ap (λ (m : Result Value (List PathStep)). m >>= λ w. Ok (Some w)) is
+IsResultOf-some (Err refusal.NoMemory) meant is = tt
+IsResultOf-some (Err _) meant is = absurd is
+
+-- as what the object gives it is read
+pub new_given : (o : Option FieldInfo) (f : FieldInfo) (made : Bool) (now : ℤ) (place : List PathStep) (ms : Members) (name : List ℕ) (x : Bor Json) (r : Result Value Refusal) → o ≡ Some f → name ≡ f.name
+    → is_stamp made name ≡ false → Some (view x.now) ≡ given_of ms f
+    → IfSome o (λ field. IsResultOf (λ w. w) r (placed (place ++ Key field.name ∷ []) (value_from field.field_type field.selection (view x.now))))
+    → IfSome o (λ field. IsResultOf (λ w. w) (some_of r) (row_value made now place ms field))
+new_given o f made now place ms name x r is same stamp at given =
+    let read = placed (place ++ Key f.name ∷ []) (value_from f.field_type f.selection (view x.now)) in
+    let own : IsResultOf (λ w. w) r read = told o f (λ field. IsResultOf (λ w. w) r (placed (place ++ Key field.name ∷ []) (value_from field.field_type field.selection (view x.now)))) is given in
+    let meant : row_value made now place ms f ≡ (read >>= λ v. Ok (Some v)) =
+    no_stamp made now place ms f (ap (is_stamp made) (sym same) ∙ stamp) ∙ ap (given_value made (place ++ Key f.name ∷ []) f) (sym at) in
+    tell o f (λ field. IsResultOf (λ w. w) (some_of r) (row_value made now place ms field)) is
+    (subst (λ (m : Result (Option Value) (List PathStep)). IsResultOf (λ w. w) (some_of r) m) (sym meant) (IsResultOf-some r read own))
+
+-- its default where the object gives it nothing
+pub new_default : (o : Option FieldInfo) (f : FieldInfo) (made : Bool) (now : ℤ) (place : List PathStep) (ms : Members) (name : List ℕ) (own : Option Value) → o ≡ Some f → name ≡ f.name → is_stamp made name ≡ false
+    → None ≡ given_of ms f → own ≡ cond made f.default None → IfSome o (λ field. IsResultOf (λ w. w) (Ok own) (row_value made now place ms field))
+new_default o f made now place ms name own is same stamp at default =
+    tell o f (λ field. row_value made now place ms field ≡ Ok own) is
+    (no_stamp made now place ms f (ap (is_stamp made) (sym same) ∙ stamp) ∙ ap (given_value made (place ++ Key f.name ∷ []) f) (sym at) ∙ ap Ok (sym default))
+
+-- a field may hold its default
+pub default_holds : (o : Option FieldInfo) (f : FieldInfo) (made : Bool) (own : Option Value) → o ≡ Some f → IfSome o IsMakeable → own ≡ cond made f.default None → IfSome o (λ field. IfSome own (Holds field))
+default_holds o f true own is givable default =
+    let fits = told o f IsMakeable is givable in
+    tell o f (λ field. IfSome own (Holds field)) is (subst (λ (d : Option Value). IfSome d (Holds f)) (sym default) fits.default)
+default_holds o f false own is givable default = tell o f (λ field. IfSome own (Holds field)) is (subst (λ (d : Option Value). IfSome d (Holds f)) (sym default) tt)

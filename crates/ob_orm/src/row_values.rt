@@ -1,0 +1,219 @@
+//! The values that a call gives the plain fields of a row: what its object gives, the moment of
+//! the call in its stamps, and in a row that is made also defaults, each with the number of its
+//! field. A field that gets none of these isn't named: a row that is made has there what the
+//! tables know, and another one keeps what it has.
+
+ghost use Rattle.std.specs.Prelude.{◌≡◌, ◌∷◌, ◌++◌, [], IfOk, IfSome, None, OnOk, false, if◌then◌else◌, option_map};
+ghost use Rattle.serde_json.specs.View.{members_view, view};
+ghost use Rattle.ob_base.specs.Times.{IsMoment};
+ghost use Rattle.ob_base.specs.declared.place.PathStep.TheVariants.{Key};
+ghost use Rattle.ob_codec.specs.JsonForm.{value_from};
+ghost use Rattle.ob_schema.specs.Fields.{Holds, plain_columns};
+ghost use Rattle.ob_schema.specs.Models.{HasField, HasModel, field_at, model_at};
+ghost use Rattle.ob_definition.specs.Types.{is_list};
+ghost use Rattle.ob_orm.specs.RowValues as spec;
+ghost use Rattle.ob_orm.specs.RowValues.{is_stamp, placed, row_value, row_values, vals_expected, valued, values_from};
+ghost use Rattle.ob_orm.specs.CreateSteps.{IsFaultAt, IsMakeable};
+ghost use Rattle.ob_call.specs.Arguments.{IsFit};
+ghost use Rattle.ob_call.specs.ArgumentsSteps.{given_of};
+ghost use Rattle.ob_call.specs.Forms.{fields_at};
+ghost use Rattle.ob_call.specs.Places.{spot_place};
+ghost use Rattle.ob_call.specs.Results.{IsResultOf};
+ghost use Rattle.ob_tables.specs.Fitting.{AreFitIn};
+
+use crate::values::is_free;
+use ob_base::{FieldNo, ModelNo, NoMemory, Refusal, Sequence, Value};
+use ob_call::{Below, Given, Json, Spot, malformed_below};
+use ob_codec::{CodecFault, Input, from_json};
+use ob_schema::{FieldInfo, Schema};
+use serde_json::Map;
+use std::alloc::Global;
+
+/// What a call gives a row, made or changed: its moment, and values by name.
+#[derive(Drop)]
+struct RowValues<'a> {
+    made: bool,
+    now: i64,
+    spot: Spot<'a>,
+    members: &'a Map<String, Json>,
+}
+
+/// The values that an argument gives the plain fields of a row, made or changed at a moment.
+pub(crate) fn given_values(
+    alloc: Global,
+    schema: &Schema,
+    model: ModelNo,
+    made: bool,
+    now: i64,
+    given: &Option<Given<'_>>,
+) -> Result<Sequence<(FieldNo, Value)>, Refusal>
+    requires model { HasModel schema.now model }
+    requires moment { IsMoment now }
+    requires given { IsFit (vals_expected (fields_at schema.now model)) (option_map given_of given.now) }
+    ensures value { IfSome (model_at schema.now model)
+        (λ info. IsResultOf (λ values. values) result (values_from made info now (option_map given_of given.now))) }
+    ensures fit { IfOk result (AreFitIn schema.now model) }
+{
+    let Some(values) = given else {
+        unreachable!();
+    };
+    let Some(members) = values.json.as_object() else {
+        unreachable!();
+    };
+    let row = RowValues {
+        made,
+        now,
+        spot: values.spot,
+        members,
+    };
+    all_values(alloc, schema, model, &row)
+}
+
+/// The values of the plain fields that get one, by number.
+fn all_values(
+    alloc: Global,
+    schema: &Schema,
+    model: ModelNo,
+    row: &RowValues<'_>,
+) -> Result<Sequence<(FieldNo, Value)>, Refusal>
+    requires model { HasModel schema.now model }
+    requires moment { IsMoment row.now.now }
+    ensures value { IfSome (model_at schema.now model)
+        (λ info. IsResultOf (λ values. values) result
+        (row_values row.entry.now.made row.entry.now.now (spot_place row.entry.now.spot)
+        (members_view row.entry.now.members.now.entries) (plain_columns info))) }
+    ensures fit { IfOk result (AreFitIn schema.now model) }
+{
+    let mut values = Sequence::new(alloc);
+    let count = schema.model_info(model).fields.len();
+    for index in 0..count {
+        let number = FieldNo(index as u16 + 1);
+        if schema.info(model, number).is_plain_kept() {
+            let value = row_value(alloc, schema, model, number, row)?;
+            let Ok(()) = push_valued(&mut values, number, value) else {
+                return Err(Refusal::NoMemory);
+            };
+        }
+    }
+    Ok(values)
+}
+
+/// Puts a field's value behind others, where it gets one.
+fn push_valued(
+    values: &mut Sequence<(FieldNo, Value)>,
+    number: FieldNo,
+    value: Option<Value>,
+) -> Result<(), NoMemory>
+    ensures { OnOk result (values.new ≡ values.old ++ valued number value) }
+{
+    match value {
+        Some(value) => values.push((number, value)),
+        None => Ok(()),
+    }
+}
+
+/// The value that a plain field gets, if any.
+fn row_value(
+    alloc: Global,
+    schema: &Schema,
+    model: ModelNo,
+    number: FieldNo,
+    row: &RowValues<'_>,
+) -> Result<Option<Value>, Refusal>
+    requires field { HasField schema.now model number }
+    requires givable { IfSome (field_at schema.now model number) IsMakeable }
+    requires moment { IsMoment row.now.now }
+    ensures value { IfSome (field_at schema.now model number)
+        (λ field. IsResultOf (λ value. value) result (row_value row.entry.now.made row.entry.now.now (spot_place row.entry.now.spot)
+        (members_view row.entry.now.members.now.entries) field)) }
+    ensures holds { IfOk result (λ value. IfSome (field_at schema.now model number)
+        (λ field. IfSome value (Holds field))) }
+{
+    let field = schema.info(model, number);
+    let name = field.name.as_str();
+    if is_stamp(row.made, name) {
+        return Ok(Some(Value::Moment(row.now)));
+    }
+    match given_of(field, row.members) {
+        Some(json) => {
+            let value = given_value(alloc, schema, model, number, row.spot, json)?;
+            Ok(Some(value))
+        }
+        None => match default_value(alloc, row.made, field) {
+            Ok(value) => Ok(value),
+            Err(NoMemory) => Err(Refusal::NoMemory),
+        },
+    }
+}
+
+/// What the members of an object give a field, where calls give values to it.
+fn given_of<'j>(field: &FieldInfo, members: &'j Map<String, Json>) -> Option<&'j Json>
+    ensures given { option_map (λ json. view json.now) result ≡ spec.given_of (members_view members.now.entries) field.now }
+    ensures flat { IfSome result (λ _. is_list field.now.field_type ≡ false) }
+{
+    if is_free(field) {
+        members.get(field.name.as_str())
+    } else {
+        None
+    }
+}
+
+/// Whether a call stamps a field: the moment of the last change, and of a row that is made that of
+/// its making too.
+fn is_stamp(made: bool, name: &str) -> bool
+    ensures { result ≡ is_stamp made name.now }
+{
+    (made && name == "create_date") || name == "write_date"
+}
+
+/// The value that JSON gives a field.
+fn given_value(
+    alloc: Global,
+    schema: &Schema,
+    model: ModelNo,
+    number: FieldNo,
+    spot: Spot<'_>,
+    json: &Json,
+) -> Result<Value, Refusal>
+    requires field { HasField schema.now model number }
+    requires no_list { IfSome (field_at schema.now model number)
+        (λ field. is_list field.field_type ≡ false) }
+    ensures value { IfSome (field_at schema.now model number)
+        (λ field. IsResultOf (λ value. value) result
+        (placed (spot_place spot.entry ++ Key field.name ∷ [])
+        (value_from field.field_type field.selection (view json.now)))) }
+    ensures holds { IfOk result (λ value. IfSome (field_at schema.now model number)
+        (λ field. Holds field value)) }
+{
+    let name = schema.info(model, number).name.as_str();
+    match from_json(alloc, schema, model, number, json) {
+        Ok(Input::Plain(value)) => Ok(value),
+        Ok(Input::Commands(_)) => unreachable!(),
+        Err(fault) => Err(fault_refusal(alloc, spot, name, &fault)),
+    }
+}
+
+/// The refusal of a value that isn't read, at the place of the fault.
+fn fault_refusal(alloc: Global, spot: Spot<'_>, name: &str, fault: &CodecFault) -> Refusal
+    ensures { IsFaultAt (spot_place spot.entry ++ Key name.now ∷ []) fault.now result }
+{
+    match fault {
+        CodecFault::Shape(place) | CodecFault::Range(place) | CodecFault::Unknown(place) => {
+            malformed_below(alloc, spot, Below::Key(name), place)
+        }
+        CodecFault::NoMemory => Refusal::NoMemory,
+    }
+}
+
+/// The value of a field that isn't given: in a row that is made its default, where it has one.
+fn default_value(alloc: Global, made: bool, field: &FieldInfo) -> Result<Option<Value>, NoMemory>
+    ensures { IfOk result (λ value. value ≡ (if made then field.now.default else None)) }
+{
+    if !made {
+        return Ok(None);
+    }
+    match &field.default {
+        Some(value) => Ok(Some(value.try_clone(alloc)?)),
+        None => Ok(None),
+    }
+}

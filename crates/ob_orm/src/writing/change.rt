@@ -1,0 +1,93 @@
+//! What a write asks for: which rows, and the values that each of them gets.
+
+ghost use Rattle.std.specs.Prelude.{◌≡◌, ◌≤◌, ◌∷◌, codes, map, true, All, IfOk, IfSome};
+ghost use Rattle.ob_base.specs.Limits.{max_id};
+ghost use Rattle.ob_base.specs.Times.{IsMoment};
+ghost use Rattle.ob_call.specs.Arguments.{are_apart};
+ghost use Rattle.ob_call.specs.ArgumentsSteps.{expected_of, names_of};
+ghost use Rattle.ob_call.specs.Called.{called_by};
+ghost use Rattle.ob_call.specs.Forms.{fields_at};
+ghost use Rattle.ob_call.specs.Results.{IsResultOf};
+ghost use Rattle.ob_orm.specs.Write.{change_of, write_expects};
+ghost use Rattle.ob_orm.specs.WriteSteps.{asked_change, write_fault};
+ghost use Rattle.ob_schema.specs.Models.{HasModel, model_at};
+ghost use Rattle.ob_tables.specs.Fitting.{AreFitIn};
+
+use crate::row_values::given_values;
+use crate::values::Values;
+use ob_base::{FieldNo, ModelNo, Refusal, Sequence, Value};
+use ob_call::{Below, Call, Form, Ids, Json, Parameter, arguments_of, named_ids};
+use ob_schema::Schema;
+use std::alloc::Global;
+
+/// Rows, each once, and the values that each of them gets, by the numbers of their fields.
+#[derive(Drop)]
+pub(crate) struct Change {
+    pub(crate) ids: Vec<u64>,
+    pub(crate) values: Sequence<(FieldNo, Value)>,
+}
+
+/// The form of an argument of a write.
+#[derive(Clone, Copy)]
+pub(crate) enum WriteForm<'s> {
+    Ids,
+    Values(Values<'s>),
+}
+
+impl Form for WriteForm<'_> {
+    ghost use Rattle.ob_orm.specs.WriteSteps.{write_fault};
+
+    ghost fault = { λ form json. write_fault form json };
+
+    fn fault<'j>(&self, json: &'j Json) -> Option<Below<'j>> {
+        match self {
+            WriteForm::Ids => Ids.fault(json),
+            WriteForm::Values(values) => values.fault(json),
+        }
+    }
+}
+
+/// What a write of a call asks for, or the first place that is wrong.
+pub(crate) fn asked_change(
+    alloc: Global,
+    schema: &Schema,
+    call: &Call<'_>,
+) -> Result<Change, Refusal>
+    requires model { HasModel schema.now call.now.model }
+    requires moment { IsMoment call.now.now }
+    ensures value { IfSome (model_at schema.now call.entry.now.model)
+        (λ info. IsResultOf asked_change result (change_of (called_by call.entry.now info))) }
+    ensures fit { IfOk result (λ change. AreFitIn schema.now call.entry.now.model change.values) }
+    ensures low { IfOk result (λ change. All (λ id. id ≤ max_id) change.ids.items) }
+{
+    let expected = write_parameters(schema, call.model);
+    let given = arguments_of(alloc, &expected, call.args, call.kw)?;
+    let Some(ids) = &given[0] else {
+        unreachable!();
+    };
+    let values = given_values(alloc, schema, call.model, false, call.now, &given[1])?;
+    let Ok(ids) = named_ids(alloc, ids.json) else {
+        return Err(Refusal::NoMemory);
+    };
+    Ok(Change { ids, values })
+}
+
+/// What a write is called with: ids, and an object of values.
+fn write_parameters(schema: &Schema, model: ModelNo) -> [Parameter<WriteForm<'_>>; 2]
+    requires { HasModel schema.now model }
+    ensures expects { map (expected_of write_fault) result ≡ write_expects (fields_at schema.now model) }
+    ensures apart { are_apart (codes "context" ∷ names_of result) ≡ true }
+{
+    [
+        Parameter {
+            name: "ids",
+            required: true,
+            form: WriteForm::Ids,
+        },
+        Parameter {
+            name: "vals",
+            required: true,
+            form: WriteForm::Values(Values { schema, model }),
+        },
+    ]
+}

@@ -1,8 +1,0 @@
-use Rattle.ob_schema.specs.Models.{model_at}
-use Rattle.ob_query.proofs.ReadAsked.{asked_in}
-use Rattle.ob_query.proofs.reading.asked.asked_fields.Goals as goal
-
-pub returns-in-Array : goal.returns-in-Array
-returns-in-Array c =
-    let named = rw c.as_slice.ensures.value at c.fields_named.ensures in
-    asked_in (model_at c.args.schema.now c.args.model) c.args.fields.now c.in-Some.given c.in-Array.items c.fields_named.result c.in-Some.is c.in-Array.is named
