@@ -3,8 +3,8 @@
 #
 #   tools/compare.sh requests [SEEDS [COUNT]]   random streams of requests to stockd, so many in
 #       each (by default 1-8 and 60), on the models of a module demo: the machine's own, without
-#       relations, and modules/demo.toml (tools/compare_requests.py says which are taken). Prints
-#       how many streams differ, for each kind of stream.
+#       relations (`mixed`, `hostile`), and modules/demo.toml (`orm`); tools/compare_requests.py
+#       says which requests are taken. Prints how many streams differ, for each kind of stream.
 #   tools/compare.sh modules [SEEDS]            random module texts to stockd (by default 1-200),
 #       most with something wrong in them. Prints each text that differs, how often each fault
 #       came, and how many texts differ. Two differences are known: a model without `name` and
@@ -42,7 +42,7 @@ requests)
     seeds=${1:-1-8} count=${2:-60}
     program=$(tools/build.sh proved stockd) || exit 1
     status=0
-    for profile in mixed hostile; do
+    for profile in mixed hostile orm; do
         echo "$profile: seeds $seeds, $count requests each"
         python3 tools/compare_requests.py "$oracle" "$program" "$seeds" "$count" "$profile" || status=1
     done

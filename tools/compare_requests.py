@@ -2,13 +2,14 @@
 
     compare_requests.py ORACLE PROGRAM SEEDS COUNT PROFILE
 
-SEEDS is A-B or one number. Each seed gives two streams. One is of the machine's state that knows
-the one caller and serves the models without relations and conditions alone, so requests on other
-models are left out; its rows are kept in a file, of which rows, links and next ids are compared
-too. The other is of the next state, which serves all models, and much that the program doesn't
-yet: of it are taken `read` and `fields_get` of named fields, `create` of one object of plain
-values and `write` of such values, as calls of the one caller, on models without parents. Prints
-what differs and how many streams do; the status is 1 where one does.
+SEEDS is A-B or one number, and each seed gives a stream. PROFILE says of which state of the
+machine it is. `mixed` and `hostile` are of the one that knows the one caller and serves the models
+without relations and conditions alone, so requests on other models are left out; its rows are kept
+in a file, of which rows, links and next ids are compared too. `orm` is of the next state, which
+serves all models, and much that the program doesn't yet: of it are taken `read` and `fields_get` of
+named fields, `create` of one object of plain values and `write` of such values, as calls of the one
+caller, on models without parents. Prints what differs and how many streams do; the status is 1
+where one does.
 """
 import json
 import os
@@ -98,13 +99,14 @@ def differs(oracle, program, seed, stage, words, take, more):
 def main():
     oracle, program, seeds, count, profile = sys.argv[1:]
     first, _, last = seeds.partition("-")
-    words, modules = ["--count", count, "--profile", profile], os.path.join(os.getcwd(), "modules")
-    # Of four requests about one is taken.
-    related = ["--count", str(4 * int(count)), "--profile", "orm"]
-    results = []
-    for seed in range(int(first), int(last or first) + 1):
-        results.append(differs(oracle, program, seed, "3", words, unrelated, ["--store"]))
-        results.append(differs(oracle, program, seed, "4", related, of_one_caller, ["--dir", modules, "--load", "demo"]))
+    if profile == "orm":
+        # Of four requests about one is taken.
+        stage, count, take = "4", str(4 * int(count)), of_one_caller
+        more = ["--dir", os.path.join(os.getcwd(), "modules"), "--load", "demo"]
+    else:
+        stage, take, more = "3", unrelated, ["--store"]
+    words = ["--count", count, "--profile", profile]
+    results = [differs(oracle, program, seed, stage, words, take, more) for seed in range(int(first), int(last or first) + 1)]
     wrong = sum(it for it, _ in results)
     print(f"{wrong} of {len(results)} streams differ, of {sum(it for _, it in results)} requests")
     sys.exit(1 if wrong else 0)
