@@ -7,8 +7,8 @@ machine it is. `mixed` and `hostile` are of the one that knows the one caller an
 without relations and conditions alone, so requests on other models are left out; its rows are kept
 in a file, of which rows, links and next ids are compared too. `orm` is of the next state, which
 serves all models, and much that the program doesn't yet: of it are taken `read` and `fields_get` of
-named fields, `create` of one object of plain values and `write` of such values, as calls of the one
-caller, on models without parents. Prints what differs and how many streams do; the status is 1
+named fields, `create` of one object of plain values, `write` of such values and `unlink`, as calls
+of the one caller, on models without parents. Prints what differs and how many streams do; the status is 1
 where one does.
 """
 import json
@@ -38,7 +38,7 @@ def parts(line):
 def unrelated(line):
     """The request, where it isn't of a model with relations, nor a call that that state doesn't serve."""
     found = parts(line)
-    unserved = found and ("write" in found[2] or "fields_get" in found[2])
+    unserved = found and any(method in found[2] for method in ("write", "unlink", "fields_get"))
     return None if unserved or found and isinstance(found[3], str) and found[3] in RELATED else line
 
 
@@ -55,6 +55,8 @@ def is_served(model, elements):
     method, text = elements[4], json.dumps(elements[5:])
     if model in BEYOND or any(name in text for name in USERS):
         return False
+    if method == "unlink":
+        return True
     if method == "fields_get":
         return argument(elements, 0, "allfields") not in (None, False, [])
     if "_ids" in text:

@@ -125,6 +125,7 @@ prefix_of_front p xs ys less = grind (arith, prefix_len-append, nat_tests)
 -- the first lines are a head's, and have it alone
 record HeadAlone (lines : List (List ℕ)) (head : Head) : Type 0 where
   count : ℕ
+  some : 0 < count
   within : count ≤ length lines
   alone : head_in (take count lines) ≡ Some head
   size : head.size ≡ size_with_feeds (take count lines)
@@ -147,13 +148,20 @@ head_alone lines head is =
     let again : Some (head_at front blank texts) ≡ Some head = sym (head_stays front later blank texts (head_at front blank texts) b t found) ∙ ap head_in split ∙ is in
     let same : head_at front blank texts ≡ head = cc in record {
       count = k;
+      some = omega arith;
       within = omega arith;
       alone = found ∙ again;
       size = sym (ap (λ (h : Head). h.size) same) ∙ ap size_with_feeds (take_all k front (omega (arith, count)));
     }
 
--- a head ends within its bytes, and the bytes up to there have it alone
+-- a line and its line feed take a byte at least
+some_bytes : (lines : List (List ℕ)) → 0 < length lines → 0 < size_with_feeds lines
+some_bytes [] some = absurd (omega arith)
+some_bytes (line ∷ lines) some = omega (arith, length-lines_with_feeds (line ∷ lines), length-append line (10 ∷ lines_with_feeds lines))
+
+-- a head has a byte and ends within its bytes, and the bytes up to there have it alone
 pub record EndsWithin (bytes : List ℕ) (head : Head) : Type 0 where
+  pub some : 0 < head.size
   pub within : head.size ≤ length bytes
   pub alone : head_of (take head.size bytes) ≡ Some head
 
@@ -172,6 +180,7 @@ ends_within bytes head is =
     let part : take head.size bytes ≡ first = ap (take head.size) whole ∙ take_at first last head.size size in
     let lines : ended_lines (take head.size bytes) ≡ front =
     ap ended_lines (part ∙ sym (append-nil first)) ∙ ended_whole front [] (All-take IsOpen h.count cut.lines cut.lines_open) (All-nil (λ b. ends_line b ≡ false)) in record {
+      some = omega (arith, h.some, h.size, some_bytes front (omega (arith, h.some, length-take-le h.count cut.lines h.within)));
       within = omega (arith, ap length whole, length-append first last, size);
       alone = ap head_in lines ∙ h.alone;
     }

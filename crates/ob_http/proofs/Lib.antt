@@ -19,3 +19,4 @@ pub mod Cuts
 pub mod Messages
 pub mod Asked
 pub mod OneItem
+pub mod CallerLemmas

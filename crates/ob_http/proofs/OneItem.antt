@@ -1,5 +1,5 @@
 -- The item of a connection's bytes is the only one, and what of it longer bytes keep.
-use Rattle.std.proofs.Common.{◌≡◌, ℕ, ◌+◌, ◌-◌, ◌≤◌, Bool, true, false, cond, List, [], ◌++◌, length, take, drop, refl, sym, ap, ◌∙◌, subst, arith, inl, inr, length-append, length-take, length-drop, Option, Some, None, Result, Ok, Err}
+use Rattle.std.proofs.Common.{◌≡◌, ℕ, ◌+◌, ◌-◌, ◌<◌, ◌≤◌, Bool, true, false, cond, List, [], ◌++◌, length, take, drop, refl, sym, ap, ◌∙◌, subst, arith, inl, inr, append_assoc, length-append, length-take, length-drop, Option, Some, None, Result, Ok, Err}
 use Rattle.std.specs.Prelude.{nat_le, nat_lt}
 use Rattle.std.specs.Bool.{MatchBool}
 use Rattle.std.proofs.lemmas.Bool.{leb-true}
@@ -190,3 +190,29 @@ interim_line_stays_due bytes more item rest due is = by_head (head_of (take max_
     by_head : (o : Option Head) → head_of (take max_head_bytes bytes) ≡ o → BeginsWith o bytes item rest → AsksInterim (bytes ++ more)
     by_head None e x = no_due item (headless_item bytes) x.0 due (headless_not_due bytes)
     by_head (Some head) e x = by_answer head x.0 (has_head bytes head e) x.1 x.2
+
+-- the bytes that a message takes
+
+-- behind its head and its body stands the rest, and the bytes before it are the first of them
+front_taken : (bytes rest : List ℕ) (n size : ℕ) → 0 < n → n ≤ length bytes → size ≤ length (drop n bytes) → rest ≡ drop size (drop n bytes) → (front : List ℕ) × (0 < length front) × (bytes ≡ front ++ rest)
+front_taken bytes rest n size some within enough is =
+    let head = take n bytes in
+    let body = take size (drop n bytes) in
+    let behind : drop n bytes ≡ body ++ rest = sym (take-append-drop size (drop n bytes)) ∙ ap (λ bs. body ++ bs) (sym is) in (
+      head ++ body,
+      omega (arith, length-append head body, length-take n bytes),
+      sym (take-append-drop n bytes) ∙ ap (λ bs. head ++ bs) behind ∙ sym (append_assoc head body rest),
+    )
+
+pub message_takes_bytes : (bytes rest : List ℕ) (item : Item) → goes_on item ≡ true → IsItem bytes item rest → (front : List ℕ) × (0 < length front) × (bytes ≡ front ++ rest)
+message_takes_bytes bytes rest item goes is = by_head (head_of (take max_head_bytes bytes)) refl is
+  where
+    by_answer : (head : Head) (found : Result Message ℕ) → 0 < head.size → HasHead bytes head → FollowsHead found (drop head.size bytes) item rest → (front : List ℕ) × (0 < length front) × (bytes ≡ front ++ rest)
+    by_answer head (Err status) some has follows = no_clash item (fault status) follows.0 goes refl
+    by_answer head (Ok message) some has follows =
+        let whole = whole_body message (drop head.size bytes) item rest goes follows in
+        front_taken bytes rest head.size message.length some has.within whole.enough whole.rest_is
+
+    by_head : (o : Option Head) → head_of (take max_head_bytes bytes) ≡ o → BeginsWith o bytes item rest → (front : List ℕ) × (0 < length front) × (bytes ≡ front ++ rest)
+    by_head None e x = no_clash item (headless_item bytes) x.0 goes (headless_ends bytes)
+    by_head (Some head) e x = by_answer head x.0 (ends_within (take max_head_bytes bytes) head e).some (has_head bytes head e) x.2

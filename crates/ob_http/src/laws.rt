@@ -1,6 +1,6 @@
 //! Laws of the items of a connection, as clauses of functions that do nothing.
 
-ghost use Rattle.std.specs.Prelude.{◌≡◌, ◌++◌, ℕ, List, true};
+ghost use Rattle.std.specs.Prelude.{◌≡◌, ◌<◌, ◌++◌, ℕ, List, length, true};
 ghost use Rattle.ob_http.specs.Connection.{AsksInterim};
 ghost use Rattle.ob_http.specs.Item.{Item, IsItem, goes_on, is_interim_due};
 
@@ -25,4 +25,11 @@ pub fn interim_line_stays_due()
     ensures each { (bytes more : List ℕ) (item later : Item) (rest left : List ℕ)
         → is_interim_due item ≡ true → IsItem bytes item rest → IsItem (bytes ++ more) later left
         → is_interim_due later ≡ true }
+{}
+
+/// A message after which the connection is kept takes some of the bytes, at least one, from their
+/// front, and what stands behind it is the rest.
+pub fn message_takes_bytes()
+    ensures { (bytes rest : List ℕ) (item : Item) → goes_on item ≡ true → IsItem bytes item rest
+        → (front : List ℕ) × (0 < length front) × (bytes ≡ front ++ rest) }
 {}

@@ -22,6 +22,6 @@ mod text;
 
 pub use held::Held;
 pub use inlet::{HttpFault, Inlet};
-pub use laws::{interim_line_stays_due, item_of_its_bytes, one_item};
+pub use laws::{interim_line_stays_due, item_of_its_bytes, message_takes_bytes, one_item};
 pub use reply::write_reply;
 pub use request::next_request;

@@ -3,9 +3,14 @@ pub mod Values
 pub mod RowValues
 pub mod Create
 pub mod Write
+pub mod Locks
+pub mod Deletion
+pub mod Unlink
 pub mod FieldsGet
 pub mod RefusalText
 pub mod Faults
 pub mod CreateSteps
 pub mod WriteSteps
+pub mod LockSteps
+pub mod DeletionSteps
 pub mod FieldsGetSteps

@@ -21,12 +21,13 @@ ghost use Rattle.ob_tables.specs.Fitting.{IsFitEdit};
 ghost use Rattle.ob_tables.specs.declared.edit.Edit.TheVariants as edit;
 
 use crate::fault::keeper_refusal;
+use crate::ids::id_cell;
 use crate::row_values::given_values;
 use crate::settling::settle_edits;
 use crate::values::Values;
 use ob_base::limits::MAX_ID;
 use ob_base::{
-    Broken, BrokenKind, Cell, FieldNo, Ledger, ModelNo, RecId, Refusal, Sequence, Steps, Value,
+    Broken, BrokenKind, FieldNo, Ledger, ModelNo, RecId, Refusal, Sequence, Steps, Value,
 };
 use ob_cache::Engine;
 use ob_call::{Call, Json, Parameter, arguments_of};
@@ -145,18 +146,8 @@ fn past_limit(schema: &Schema, model: ModelNo, id: u64) -> Refusal
     ensures { (field : FieldNo) × IsSomeAnd (field_at schema.now model field) (λ info. is_id_from info.origin ≡ true)
         × (result ≡ Refusal.Constraint (record { kind = BrokenKind.Limit; cell = record { model = model; id = record { 0 = id }; field = field } })) }
 {
-    // Each model has a field of this name, which is the id.
-    schema.parts_fit_together();
-    let Some(field) = schema.field(model, "id") else {
-        unreachable!();
-    };
-    let cell = Cell {
-        model,
-        id: RecId(id),
-        field,
-    };
     Refusal::Constraint(Broken {
         kind: BrokenKind::Limit,
-        cell,
+        cell: id_cell(schema, model, RecId(id)),
     })
 }

@@ -1,21 +1,28 @@
-//! The calls that change rows, over an engine of kept rows. So far `create` and `write`, and beside
-//! them `fields_get`, which tells what fields a model has. Each is the machine's: its answer is the
-//! one that the tables of plain values define.
+//! The calls that change rows, over an engine of kept rows. So far `create`, `write` and `unlink`,
+//! and beside them `fields_get`, which tells what fields a model has. Each is the machine's: its
+//! answer is the one that the tables of plain values define.
 //!
-//! Rooms: `creating` and `writing`, with `values` (the form of an object of values), `row_values`
-//! (the values that it gives a row) and `settling` (how their edits are settled);
-//! `fields` (what fields a model has); `refusal_texts` (how refusals and cells are told), `creatable` (of which models a create makes
-//! rows and a write changes them), and `fault` (faults of the engine as refusals). How arguments are read stands in the
-//! crate `ob_call`, and what only reads in `ob_query`. The definitions stand in specs/.
+//! Rooms: `creating`, `writing` and `unlinking`, with `values` (the form of an object of values),
+//! `row_values` (the values that it gives a row), `there` (which rows are there), `settled` (values
+//! as they were settled last), `locking` (which rows are locked), `ids` (the cell `id` of a row) and
+//! `settling` (how edits are settled); `fields` (what fields a model has); `refusal_texts` (how
+//! refusals and cells are told), `creatable` (of which models a create makes rows and a write
+//! changes them), and `fault` (faults of the engine as refusals). How arguments are read stands in
+//! the crate `ob_call`, and what only reads in `ob_query`. The definitions stand in specs/.
 #![tactic(auto)]
 
 mod creatable;
 mod creating;
 mod fault;
 mod fields;
+mod ids;
+mod locking;
 mod refusal_texts;
 mod row_values;
+mod settled;
 mod settling;
+mod there;
+mod unlinking;
 mod values;
 mod writing;
 
@@ -23,4 +30,5 @@ pub use creatable::{is_creatable, is_writable};
 pub use creating::create;
 pub use fields::fields_get;
 pub use refusal_texts::{cell_text, refusal_text};
+pub use unlinking::unlink;
 pub use writing::write;

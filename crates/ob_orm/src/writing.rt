@@ -1,10 +1,10 @@
 //! `write`: values of the named rows.
 //!
 //! Rooms: `change` (what a write asks for). What it means is `Writes`, and why it may be refused
-//! over any keeper `WriteCause`: a change begins with these. How edits are settled stands in
-//! `settling`, how the values of a row are read in `row_values`.
+//! over any keeper `WriteCause`: a change begins with these. Which rows are there stands in `there`,
+//! how edits are settled in `settling`, how the values of a row are read in `row_values`.
 
-ghost use Rattle.std.specs.Prelude.{◌≡◌, ◌≤◌, ◌++◌, ℕ, false, All, Contains, IfErr, IfOk, IfSome, OnOk, is_some};
+ghost use Rattle.std.specs.Prelude.{◌≡◌, ◌≤◌, ◌++◌, ℕ, false, All, IfErr, IfOk, IfSome, OnOk};
 ghost use Rattle.std.specs.List.{flat_map};
 ghost use Rattle.serde_json.specs.View.{view};
 ghost use Rattle.serde_json.specs.Written.{has_float};
@@ -13,24 +13,23 @@ ghost use Rattle.ob_base.specs.Tally.{ticked_times};
 ghost use Rattle.ob_base.specs.Times.{IsMoment};
 ghost use Rattle.ob_cache.specs.Calls.{AnswersBy, HasTables, IsCalled, IsResting, Refuses, models_at, standpoint};
 ghost use Rattle.ob_cache.specs.Stages.{resting, settled_of, with_edits};
-ghost use Rattle.ob_cache.specs.Standing.{IsAtRest, RestsAt, Stands, Stays};
-ghost use Rattle.ob_cache.specs.declared.stages.Phase.TheVariants as phase;
+ghost use Rattle.ob_cache.specs.Standing.{IsAtRest, RestsAt, Stands};
 ghost use Rattle.ob_call.specs.Called.{called_by, result_view};
 ghost use Rattle.ob_io.specs.Cause.{Rose};
 ghost use Rattle.ob_orm.specs.Write.{AreThere, WriteCause, Writes, edits_of, row_edits};
-ghost use Rattle.ob_orm.specs.WriteSteps.{MayStopChange, MissesOnly, StopsChange, asked_change};
+ghost use Rattle.ob_orm.specs.WriteSteps.{MayStopChange, StopsChange, asked_change};
 ghost use Rattle.ob_schema.specs.Models.{HasModel, model_at};
-ghost use Rattle.ob_schema.specs.Tables.{Tables, row_at};
+ghost use Rattle.ob_schema.specs.Tables.{Tables};
 ghost use Rattle.ob_tables.specs.Fitting.{AreFitIn};
 
 mod change;
 
-use crate::fault::keeper_refusal;
 use crate::settling::settle_edits;
+use crate::there::missing_id;
 use crate::writing::change::{Change, asked_change};
 use ob_base::{Cell, FieldNo, Ledger, ModelNo, NoMemory, RecId, Refusal, Steps, Value};
 use ob_cache::Engine;
-use ob_call::{Call, Json, least};
+use ob_call::{Call, Json};
 use ob_io::Keeper;
 use ob_tables::Edit;
 use std::alloc::Global;
@@ -124,52 +123,6 @@ fn carry_out<K: Keeper, L: Ledger>(
         return Err(Refusal::NoMemory);
     };
     settle_edits(engine, edits.as_slice(), steps)
-}
-
-/// The least of the ids that no row has.
-fn missing_id<K: Keeper>(
-    engine: &mut Engine<'_, K>,
-    model: ModelNo,
-    ids: &[u64],
-) -> Result<Option<u64>, Refusal>
-    requires model { HasModel engine.old.held.models model }
-    requires rest { engine.old.held.phase ≡ phase.Settled }
-    ensures told { IfOk result (λ missing. (tables : Tables) → RestsAt (K.kept engine.old.keeper.now) engine.old.held tables → MissesOnly model tables ids.now missing) }
-    ensures asked { IfOk result (λ missing. IfSome missing (Contains ids.now)) }
-    ensures causes { IfErr result (Refuses (Rose (K.faults engine.old.keeper.now) (K.faults engine.new.keeper.now)) (λ _. ⊥)) }
-    ensures same { Stays (K.kept engine.old.keeper.now) engine.old.held (K.kept engine.new.keeper.now) engine.new.held }
-    ensures count { K.faults engine.old.keeper.now ≤ K.faults engine.new.keeper.now }
-    ensures lender { engine.new.keeper.ghost_name ≡ engine.old.keeper.ghost_name }
-{
-    let mut missing = None;
-    for id in ids {
-        let there = is_there(engine, model, RecId(*id))?;
-        if !there {
-            missing = least(missing, *id);
-        }
-    }
-    Ok(missing)
-}
-
-/// Whether a row is there.
-fn is_there<K: Keeper>(
-    engine: &mut Engine<'_, K>,
-    model: ModelNo,
-    id: RecId,
-) -> Result<bool, Refusal>
-    requires model { HasModel engine.old.held.models model }
-    requires rest { engine.old.held.phase ≡ phase.Settled }
-    ensures told { IfOk result (λ there. (tables : Tables) → RestsAt (K.kept engine.old.keeper.now) engine.old.held tables
-        → there ≡ is_some (row_at tables model id)) }
-    ensures causes { IfErr result (Refuses (Rose (K.faults engine.old.keeper.now) (K.faults engine.new.keeper.now)) (λ _. ⊥)) }
-    ensures same { Stays (K.kept engine.old.keeper.now) engine.old.held (K.kept engine.new.keeper.now) engine.new.held }
-    ensures count { K.faults engine.old.keeper.now ≤ K.faults engine.new.keeper.now }
-    ensures lender { engine.new.keeper.ghost_name ≡ engine.old.keeper.ghost_name }
-{
-    match engine.has_row(model, id) {
-        Ok(there) => Ok(there),
-        Err(fault) => Err(keeper_refusal(fault)),
-    }
 }
 
 /// The edits of a change, row by row.

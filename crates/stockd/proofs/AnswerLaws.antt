@@ -1,6 +1,6 @@
 -- From what each step of serving a request does to a step of the machine.
-use Rattle.std.proofs.Common.{◌≡◌, inl, inr, ℕ, ℤ, List, Option, Some, None, option_map, Result, Ok, Err, refl, ap, ◌∙◌, subst, sym, Bor, BTreeMap, Global, String}
-use Rattle.std.specs.Prelude.{IfSome, IsSome, IsSomeAnd, unwrap_or, ⊤}
+use Rattle.std.proofs.Common.{◌≡◌, inl, inr, ℕ, ℤ, pos, List, Option, Some, None, option_map, Result, Ok, Err, refl, ap, ◌∙◌, subst, sym, Bor, BTreeMap, Global, String}
+use Rattle.std.specs.Prelude.{IfErr, IfSome, IsSome, IsSomeAnd, unwrap_or, ⊤}
 use Rattle.std.specs.BTreeMap.{IsEmpty}
 use Rattle.serde_json.specs.Data.{Data, object, no_members}
 use Rattle.serde_json.specs.View.{members_view, view}
@@ -15,6 +15,7 @@ use Rattle.ob_cache.specs.Stages.{resting}
 use Rattle.ob_cache.specs.Standing.{Holding, OfStages, RestsAt, Stands}
 use Rattle.ob_call.specs.Called.{Called, called_by}
 use Rattle.ob_call.specs.declared.call.Call.{Call as Handed}
+use Rattle.ob_io.specs.Moments.{later}
 use Rattle.ob_io.specs.Store.{Store}
 use Rattle.ob_rpc.specs.Envelope.{Envelope, Fault, element_place, envelope_of}
 use Rattle.ob_rpc.specs.declared.methods.Served.TheVariants.{ExecuteKw}
@@ -28,10 +29,10 @@ use Rattle.stockd.specs.declared.request.MethodCall.{MethodCall}
 use Rattle.stockd.specs.declared.request.ReadMethod.{ReadMethod}
 use Rattle.stockd.specs.declared.request.WriteMethod.{WriteMethod}
 use Rattle.stockd.specs.Request.{Call, Request, call_of, called, request_by, request_of}
-use Rattle.stockd.specs.Texts.{malformed_text, no_memory_text, outcome_text, told}
-use Rattle.stockd.specs.Body.{Serves, ServesOver}
+use Rattle.stockd.specs.Texts.{malformed_text, no_memory_text, outcome_text, told, told_refusal}
+use Rattle.stockd.specs.Body.{MayBeGiven, Serves, ServesOver, TakesMoment}
 use Rattle.stockd.specs.Machine.{Calls, Makes, MayAnswer, Means, Tells}
-use Rattle.stockd.specs.Reply.{Keeps, MayTell}
+use Rattle.stockd.specs.Reply.{Keeps, MayTell, TellsSome}
 
 -- what holds of some model holds of the model of the number
 at_model : (P : ModelInfo → Type 0) (found : Option ModelInfo) (info : ModelInfo) → found ≡ Some info → P info → IsSomeAnd found P
@@ -164,10 +165,51 @@ pub fault_serves : (models : List ModelInfo) (old : Tables) (now : ℤ) (rose : 
 fault_serves models old now rose body reply fault kept held is rests (inl tells) = rw is (serves_unchanged models old now rose (request_of models (Err fault)) reply kept held rests (inl (tells, refl)))
 fault_serves models old now rose body reply fault kept held is rests (inr unmade) = rw is (serves_unchanged models old now rose (request_of models (Err fault)) reply kept held rests (inr (refl, inl unmade)))
 
--- the reply for want of memory serves any request
-pub no_memory_serves : (models : List ModelInfo) (old : Tables) (now : ℤ) (rose : Type 0) (request : Request) (kept : Option Store) (held : Holding)
-    → RestsAt kept held old → Serves models old now rose request no_memory_text kept held
-no_memory_serves models old now rose request kept held rests = serves_unchanged models old now rose request no_memory_text kept held rests (inr (refl, inl refl))
+-- a reply that may tell of an outcome tells of some
+pub tells_some : (models : List ModelInfo) (rose : Type 0) (id : Data) (outcome : Result Data Refusal) (reply : List ℕ) → IfErr outcome (Refuses rose (λ _. ⊤))
+    → MayTell reply (outcome_text models id outcome) → TellsSome models rose reply
+tells_some _ _ id outcome _ cause (inl tells) = record { id = id; outcome = outcome; cause = cause; told = tells }
+tells_some _ _ id _ _ _ (inr unmade) = record { id = id; outcome = Err refusal.NoMemory; cause = tt; told = unmade }
+
+-- and one for want of memory does
+pub tells_no_memory : (models : List ModelInfo) (rose : Type 0) (id : Data) → TellsSome models rose no_memory_text
+tells_no_memory _ _ id = record { id = id; outcome = Err refusal.NoMemory; cause = tt; told = refl }
+
+-- a refusal has its cause also where its place is told as one of the body
+pub told_cause : (rose : Type 0) (why : Refusal) → Refuses rose (λ _. ⊤) why → Refuses rose (λ _. ⊤) (told_refusal why)
+told_cause rose (refusal.Request place) cause = tt
+told_cause rose why cause = cause
+
+-- what some reply may tell, also where it is read so that the count rose in more
+pub tells_since : (models others : List ModelInfo) (rose rose' : Type 0) (reply : List ℕ) → others ≡ models → (rose → rose') → TellsSome others rose reply → TellsSome models rose' reply
+tells_since models others rose rose' reply same since some = record {
+  id = some.id;
+  outcome = some.outcome;
+  cause = by some.outcome some.cause;
+  told = rw (← same) some.told;
+}
+  where
+    by : (outcome : Result Data Refusal) → IfErr outcome (Refuses rose (λ _. ⊤)) → IfErr outcome (Refuses rose' (λ _. ⊤))
+    by (Ok json) cause = tt
+    by (Err why) cause = Refuses-weaker rose rose' (λ _. ⊤) (λ _. ⊤) why since (λ _ any. any) cause
+
+-- a moment that a clock may give
+pub given_moment : (coming : Option (ℕ → ℤ)) → (now : ℤ) × MayBeGiven coming now
+given_moment None = (pos 0, tt)
+given_moment (Some moments) = (moments 0, refl)
+
+-- and that moment under another name
+pub given_as : (coming : Option (ℕ → ℤ)) (now moment : ℤ) → moment ≡ now → MayBeGiven coming now → MayBeGiven coming moment
+given_as coming now moment is given = subst (MayBeGiven coming) (sym is) given
+
+-- a body with an envelope takes a moment
+pub one_taken : (before now : Option (ℕ → ℤ)) (body : List ℕ) (envelope : Envelope) → envelope_of ExecuteKw body ≡ Ok envelope → now ≡ option_map later before → TakesMoment before now body
+one_taken before now body envelope is rest = rw is rest
+
+-- one without takes none
+pub none_taken : (coming : Option (ℕ → ℤ)) (body : List ℕ) (fault : Fault) → envelope_of ExecuteKw body ≡ Err fault → TakesMoment coming coming body
+none_taken None body fault is = refl
+none_taken (Some moments) body fault is = rw is refl
 
 -- a moment and a request under other names
 pub serves_same : (before after : Standpoint) (now moment : ℤ) (request other : Request) (reply : List ℕ)

@@ -8,8 +8,14 @@ pub mod RunOn
 pub mod ServedOn
 pub mod SessionOn
 pub mod WordsRead
+pub mod WordNumbers
+pub mod ExchangeItems
+pub mod ExchangeOn
+pub mod BodyAnswered
+pub mod ReceptionOn
 pub mod ReportWritten
 pub mod WholeCall
+pub mod ReceptionOpened
 pub mod WrittenParts
 pub mod Others
 pub mod SixElements

@@ -1,5 +1,5 @@
 -- What of a report was written, line by line.
-use Rattle.std.proofs.Common.{◌≡◌, ℕ, ◌+◌, ◌<◌, List, [], ◌∷◌, ◌++◌, length, take, drop, get_or, Option, Some, option_map, IfSome, refl, sym, ap, ◌∙◌, subst, append-nil}
+use Rattle.std.proofs.Common.{◌≡◌, ℕ, ◌+◌, ◌<◌, List, [], ◌∷◌, ◌++◌, length, take, drop, get_or, Option, Some, option_map, IfSome, refl, sym, ap, ◌∙◌, subst}
 use Rattle.std.proofs.lemmas.Grind.{flat_map-append}
 use Rattle.std.proofs.lemmas.List.{at_drop_more, take-append-drop, take_more}
 use Rattle.std.proofs.lemmas.List.Concat.{flat_map-cons}
@@ -51,25 +51,18 @@ cut_in_line before mid now lines i line within item so_far part =
     (front_after before mid now (reply_lines (take i lines)) ((line ++ 10 ∷ []) ++ rest) so_far (front_of_more mid now (line ++ 10 ∷ []) rest part))
 
 -- of a report that was made this was written
-pub report_told : (models : List ModelInfo) (store : Store) (report : Report) (rose : Type 0) (why : Ending) (before : List ℕ) (old now : Option (List ℕ))
-    → IsReport models store report → old ≡ Some before → WritesReport report why old now → (written : List ℕ) × TellsReport models store rose why written × (now ≡ Some (before ++ written))
-report_told models store report rose ending.Done before old now is told (equal, written) =
-    (report_text report, (report, is, equal, refl), written ∙ ap (option_map (λ (w : List ℕ). w ++ report_text report)) told)
-report_told models store report rose ending.Differs before old now is told (equal, written) =
-    (report_text report, (report, is, equal, refl), written ∙ ap (option_map (λ (w : List ℕ). w ++ report_text report)) told)
-report_told models store report rose ending.WriteFault before old now is told (part, cut, written) =
-    (part, (report, is, cut), written ∙ ap (option_map (λ (w : List ℕ). w ++ part)) told)
-report_told models store report rose ending.Usage before old now is told writes = absurd writes
-report_told models store report rose (ending.Module text) before old now is told writes = absurd writes
-report_told models store report rose ending.ReadFault before old now is told writes = absurd writes
-report_told models store report rose ending.KeeperFault before old now is told writes = absurd writes
-report_told models store report rose ending.NoMemory before old now is told writes = absurd writes
-report_told models store report rose (ending.Store cell) before old now is told writes = absurd writes
-report_told models store report rose (ending.TooLong number) before old now is told writes = absurd writes
-
--- where there is no report nothing was written
-pub none_told : (before : List ℕ) (now : Option (List ℕ)) → now ≡ Some before → now ≡ Some (before ++ [])
-none_told before now told = told ∙ ap Some (sym (append-nil before))
+pub report_told : (models : List ModelInfo) (store : Store) (report : Report) (rose : Type 0) (why : Ending) (old now : Option (List ℕ))
+    → IsReport models store report → WritesReport report why old now → (written : List ℕ) × TellsReport models store rose why written × (now ≡ option_map (λ w. w ++ written) old)
+report_told models store report rose ending.Done old now is (equal, written) = (report_text report, (report, is, equal, refl), written)
+report_told models store report rose ending.Differs old now is (equal, written) = (report_text report, (report, is, equal, refl), written)
+report_told models store report rose ending.WriteFault old now is (part, cut, written) = (part, (report, is, cut), written)
+report_told models store report rose ending.Usage old now is writes = absurd writes
+report_told models store report rose (ending.Module text) old now is writes = absurd writes
+report_told models store report rose ending.ReadFault old now is writes = absurd writes
+report_told models store report rose ending.KeeperFault old now is writes = absurd writes
+report_told models store report rose ending.NoMemory old now is writes = absurd writes
+report_told models store report rose (ending.Store cell) old now is writes = absurd writes
+report_told models store report rose (ending.TooLong number) old now is writes = absurd writes
 
 -- an ending has its reason also where more may be one
 pub reason_weaker : (audits audits' input input' output output' keeper keeper' : Type 0) (why : Ending) → (audits → audits') → (input → input') → (output → output') → (keeper → keeper')

@@ -1,13 +1,12 @@
 -- A run of the machine goes on by one body.
-use Rattle.std.proofs.Common.{◌≡◌, ℕ, ℤ, List, [], ◌∷◌, ◌++◌, ◌⊎◌, refl, ap, ◌∙◌, arith, inl, inr, Option, Some, option_map, subst}
+use Rattle.std.proofs.Common.{◌≡◌, ℕ, zero, suc, ℤ, List, [], ◌∷◌, ◌++◌, ◌⊎◌, refl, ap, sym, ◌∙◌, arith, inl, inr, Result, Ok, Err, subst}
 use Rattle.ob_io.specs.Cause.{Rose}
 use Rattle.ob_schema.specs.Tables.{Tables}
-use Rattle.ob_rpc.specs.Envelope.{envelope_of}
+use Rattle.ob_rpc.specs.Envelope.{Envelope, Fault, envelope_of}
 use Rattle.ob_rpc.specs.declared.methods.Served.TheVariants.{ExecuteKw}
 use Rattle.ob_schema.specs.declared.info.ModelInfo.{ModelInfo}
-use Rattle.stockd.specs.Machine.{State, MayAnswer, Step, Rests, TakesMoment, Run, moments_after}
+use Rattle.stockd.specs.Machine.{State, MayAnswer, IsUnread, Step, Rests, Run, moments_after}
 use Rattle.stockd.specs.Request.{Request, request_of}
-use Rattle.stockd.specs.Texts.{no_memory_text}
 use Rattle.stockd.proofs.Counts.{Rose-earlier}
 
 -- what may be answered where the count rose from a later moment on may be where it rose from an earlier one on
@@ -17,6 +16,12 @@ answer_since models old now request reply new since (inl answers) = inl answers
 answer_since models old now request reply new since (inr (same, inl memory)) = inr (same, inl memory)
 answer_since models old now request reply new since (inr (same, inr fails)) = inr (same, inr (since fails.0, fails.1))
 
+-- the moment of a step from where the machine rested is that of a step from before it on
+moment_since : (old past new : State) (body reply : List ℕ) → Rests old past → (new.moments ≡ moments_after (envelope_of ExecuteKw body) past.moments) ⊎ IsUnread past reply new
+    → (new.moments ≡ moments_after (envelope_of ExecuteKw body) old.moments) ⊎ IsUnread old reply new
+moment_since old past new body reply rests (inl taken) = inl (taken ∙ ap (moments_after (envelope_of ExecuteKw body)) rests.moments)
+moment_since old past new body reply rests (inr unread) = inr (record { told = unread.told; tables = unread.tables ∙ rests.tables; moments = unread.moments ∙ rests.moments })
+
 -- a step from where the machine rested
 step_since : (models : List ModelInfo) (old past new : State) (body reply : List ℕ) → Rests old past → Step models past body reply new → Step models old body reply new
 step_since models old past new body reply rests step =
@@ -25,11 +30,11 @@ step_since models old past new body reply rests step =
     let now = subst (λ (m : ℕ → ℤ). MayAnswer models old.tables (m 0) (Rose past.faults new.faults) request reply new.tables) rests.moments tables_now in
     record {
       answer = answer_since models old.tables (old.moments 0) request reply new.tables (Rose-earlier old.faults past.faults new.faults rests.count) now;
-      moment = subst (λ (m : ℕ → ℤ). TakesMoment body reply m new.moments) rests.moments step.moment;
+      moment = moment_since old past new body reply rests step.moment;
       count = omega (arith, rests.count, step.count);
     }
 
-rests_here : (state : State) → Rests state state
+pub rests_here : (state : State) → Rests state state
 rests_here state = record { tables = refl; moments = refl; count = omega arith }
 
 -- the run goes on by one body and its reply
@@ -47,13 +52,46 @@ run_from models old from past [] (reply ∷ replies) rests run = run
 run_from models old from past (body ∷ bodies) [] rests run = run
 run_from models old from past (body ∷ bodies) (reply ∷ replies) rests run = (run.0, step_since models old from run.0 body reply rests run.1, run.2)
 
--- what a clock tells of its moments before a body and after it
-abbrev pub TellsMoments : (before now : Option (ℕ → ℤ)) (body reply : List ℕ) → Type 0
-TellsMoments before now body reply = (now ≡ option_map (moments_after (envelope_of ExecuteKw body)) before) ⊎ ((reply ≡ no_memory_text) × (now ≡ before))
+-- a moment, and then others
+abbrev pub moment_then : ℤ → (ℕ → ℤ) → ℕ → ℤ
+moment_then now rest zero = now
+moment_then now rest (suc n) = rest n
 
--- the moments that are still to come, where a clock tells them
-pub rest_of : (before now : Option (ℕ → ℤ)) (body reply : List ℕ) (past : ℕ → ℤ) → before ≡ Some past → TellsMoments before now body reply
-    → (rest : ℕ → ℤ) × TakesMoment body reply past rest × (now ≡ Some rest)
-rest_of before now body reply past is (inl after) =
-    (moments_after (envelope_of ExecuteKw body) past, inl refl, after ∙ ap (option_map (moments_after (envelope_of ExecuteKw body))) is)
-rest_of before now body reply past is (inr same) = (past, inr (same.0, refl), same.1 ∙ is)
+module _ (models : List ModelInfo) (old new : State) (body reply : List ℕ) (rest : ℕ → ℤ) where
+  -- a step before other moments, and behind which
+  abbrev IsStepBefore : Type 0
+  IsStepBefore = (moments : ℕ → ℤ) × Step models (record old { moments = moments }) body reply (record new { moments = rest })
+
+  -- a body that is read takes the same moment; one that is malformed is answered so at any
+  read_before : (read : Result Envelope Fault) → envelope_of ExecuteKw body ≡ read → Step models old body reply new → IsStepBefore
+  read_before (Ok envelope) is step =
+      (moment_then (old.moments 0) rest, record { answer = step.answer; moment = inl (rw is refl); count = step.count })
+  read_before (Err fault) is step =
+      let answers : (Result Envelope Fault) → ℤ → Type 0 = λ read now. MayAnswer models old.tables now (Rose old.faults new.faults) (request_of models read) reply new.tables in
+      let malformed : answers (Err fault) (rest 0) = subst (λ read. answers read (old.moments 0)) is step.answer in
+      (rest, record { answer = subst (λ read. answers read (rest 0)) (sym is) malformed; moment = inl (rw is refl); count = step.count })
+
+  -- so may any body be, whatever moments are to come behind it
+  step_before : Step models old body reply new → IsStepBefore
+  step_before step = by step.moment where
+    by : (new.moments ≡ moments_after (envelope_of ExecuteKw body) old.moments) ⊎ IsUnread old reply new → IsStepBefore
+    by (inl taken) = read_before (envelope_of ExecuteKw body) refl step
+    by (inr unread) = (
+      rest,
+      record {
+        answer = inr (unread.tables, inl unread.told);
+        moment = inr (record { told = unread.told; tables = unread.tables; moments = refl });
+        count = step.count;
+      },
+    )
+
+-- a run may be one whatever moments are to come behind it
+pub run_before : (models : List ModelInfo) (old new : State) (bodies replies : List (List ℕ)) (rest : ℕ → ℤ) → Run models old bodies replies new
+    → (moments : ℕ → ℤ) × Run models (record old { moments = moments }) bodies replies (record new { moments = rest })
+run_before models old new [] [] rest run = (rest, record { tables = run.tables; moments = refl; count = run.count })
+run_before models old new [] (reply ∷ replies) rest run = absurd run
+run_before models old new (body ∷ bodies) [] rest run = absurd run
+run_before models old new (body ∷ bodies) (reply ∷ replies) rest run =
+    let behind = run_before models run.0 new bodies replies rest run.2 in
+    let step = step_before models old run.0 body reply behind.0 run.1 in
+    (step.0, (record (run.0) { moments = behind.0 }, step.1, behind.1))

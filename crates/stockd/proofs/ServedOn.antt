@@ -1,105 +1,168 @@
 -- What was served goes on by one body.
-use Rattle.std.proofs.Common.{◌≡◌, ℕ, ℤ, ◌≤◌, List, [], ◌∷◌, ◌++◌, refl, ap, sym, ◌∙◌, arith, Option, Some, Result, Ok, Err, append_assoc, subst}
+use Rattle.std.proofs.Common.{◌≡◌, ℕ, ℤ, pos, ◌≤◌, ◌⊎◌, List, [], ◌∷◌, ◌++◌, refl, ap, sym, ◌∙◌, arith, inl, inr, Option, Some, None, Result, Ok, Err, subst}
 use Rattle.std.specs.Prelude.{option_map, OnOk, OnErr}
 use Rattle.std.proofs.lemmas.List.{append-nil}
 use Rattle.std.proofs.lemmas.List.Concat.{flat_map-append}
+use Rattle.std.proofs.lemmas.Option.{IfSome_then}
+use Rattle.ob_cache.specs.Calls.{Standpoint}
 use Rattle.ob_cache.specs.Kept.{OthersStay}
-use Rattle.ob_cache.specs.Standing.{RestsAt}
+use Rattle.ob_cache.specs.Standing.{Holding, RestsAt}
 use Rattle.ob_io.specs.Cause.{Rose}
 use Rattle.ob_rpc.specs.Envelope.{envelope_of}
 use Rattle.ob_rpc.specs.declared.methods.Served.TheVariants.{ExecuteKw}
 use Rattle.ob_schema.specs.Tables.{Tables}
 use Rattle.ob_schema.specs.declared.info.ModelInfo.{ModelInfo}
-use Rattle.stockd.specs.Body.{Serves}
+use Rattle.stockd.specs.Body.{AnswersOver, LeavesUnread, MayBeGiven, ServesBody, TakesMoment}
 use Rattle.stockd.specs.Ending.{WritesPart}
-use Rattle.stockd.specs.Machine.{State, Run}
+use Rattle.stockd.specs.Machine.{MayAnswer, State, Run, moments_after}
+use Rattle.stockd.specs.Outside.{Engaged, Surroundings}
 use Rattle.stockd.specs.Request.{request_of}
-use Rattle.stockd.specs.Session.{reply_lines, Start, StandsAt, first_state}
-use Rattle.stockd.specs.SessionSteps.{Engaged, HasServed, ServesMore, StopsAt}
+use Rattle.stockd.specs.Session.{GivesMoments, reply_lines, state_at}
+use Rattle.stockd.specs.SessionSteps.{HasServed, ServesMore, StopsAt}
 use Rattle.stockd.proofs.Others.{others_same, others_on}
-use Rattle.stockd.proofs.RunOn.{run_on, TellsMoments, rest_of}
+use Rattle.stockd.proofs.RunOn.{moment_then, run_before, run_on}
+use Rattle.stockd.proofs.WrittenParts.{nothing_written, whole_after}
+
+-- moments that a clock may tell
+told_moments : (coming : Option (ℕ → ℤ)) → (moments : ℕ → ℤ) × GivesMoments coming coming moments moments
+told_moments None = (λ n. pos 0, tt)
+told_moments (Some told) = (told, (refl, refl))
 
 -- nothing is served yet
-pub served_none : (start : Start) (first : Tables) (left : Option (List ℕ)) (at : Engaged) → StandsAt start left at.now → RestsAt at.now.kept at.held first → HasServed start first [] at
-served_none start first left at stands rests = record {
-  replies = [];
-  rest = start.moments;
-  tables = first;
-  run = record { tables = refl; moments = refl; count = omega (arith, stands.faults_are) };
-  rests = rests;
-  others = others_same at.held.models (Some start.store) at.now.kept stands.kept_is;
-  coming_is = stands.coming_is;
-  written_is = stands.written_is ∙ ap Some (sym (append-nil start.written));
-}
+pub served_none : (before : Surroundings) (first : Tables) (held : Holding) → RestsAt before.kept held first → HasServed before first [] (record { now = before; held = held })
+served_none before first held rests =
+    let moments = told_moments before.coming in record {
+      replies = [];
+      tables = first;
+      moments = moments.0;
+      rest = moments.0;
+      run = record { tables = refl; moments = refl; count = omega arith };
+      gives = moments.1;
+      rests = rests;
+      others = others_same held.models before.kept before.kept refl;
+      written_is = nothing_written before.written;
+    }
 
 pub reply_lines-append : (replies : List (List ℕ)) (reply : List ℕ) → reply_lines (replies ++ reply ∷ []) ≡ reply_lines replies ++ (reply ++ 10 ∷ [])
 reply_lines-append replies reply =
     flat_map-append (λ (r : List ℕ). r ++ 10 ∷ []) replies (reply ∷ []) ∙ ap (λ x. reply_lines replies ++ x) (append-nil (reply ++ 10 ∷ []))
 
+-- where the engine stands
+abbrev standpoint_of : Engaged → Standpoint
+standpoint_of at = record { kept = at.now.kept; faults = at.now.faults; held = at.held }
+
 -- the answer to a body, at whatever tables the engine rests
 pub record IsAnswered (old new : Engaged) (body reply : List ℕ) : Type 0 where
-  pub served : (tables : Tables) (moments : ℕ → ℤ) → RestsAt old.now.kept old.held tables → old.now.coming ≡ Some moments
-      → Serves old.held.models tables (moments 0) (Rose old.now.faults new.now.faults) (request_of old.held.models (envelope_of ExecuteKw body)) reply new.now.kept new.held
+  pub served : AnswersOver (standpoint_of old) (standpoint_of new) old.now.coming new.now.coming body reply
   pub models_are : new.held.models ≡ old.held.models
   pub count : old.now.faults ≤ new.now.faults
-  pub moments : TellsMoments old.now.coming new.now.coming body reply
   pub others : OthersStay old.held.models old.now.kept new.now.kept
 
 -- where the machine stands after a body more, and where the engine rests then
-record IsStepped (models : List ModelInfo) (start : Start) (first : Tables) (bodies replies : List (List ℕ)) (at : Engaged) : Type 0 where
-  rest : ℕ → ℤ
+record IsStepped (models : List ModelInfo) (before : Surroundings) (first : Tables) (bodies replies : List (List ℕ)) (at : Engaged) : Type 0 where
   tables : Tables
-  run : Run models (first_state start first) bodies replies (record { tables = tables; moments = rest; faults = at.now.faults })
+  moments : ℕ → ℤ
+  rest : ℕ → ℤ
+  run : Run models (state_at before first moments) bodies replies (state_at at.now tables rest)
+  gives : GivesMoments before.coming at.now.coming moments rest
   rests : RestsAt at.now.kept at.held tables
-  others : OthersStay models (Some start.store) at.now.kept
-  coming_is : at.now.coming ≡ Some rest
+  others : OthersStay models before.kept at.now.kept
 
-stepped : (old new : Engaged) (body reply : List ℕ) → IsAnswered old new body reply → (start : Start) (first : Tables) (bodies : List (List ℕ)) (h : HasServed start first bodies old)
-    → IsStepped new.held.models start first (bodies ++ body ∷ []) (h.replies ++ reply ∷ []) new
-stepped old new body reply answered start first bodies h =
-    let serves = answered.served h.tables h.rest h.rests h.coming_is in
-    let after = rest_of old.now.coming new.now.coming body reply h.rest h.coming_is answered.moments in
-    let past : State = record { tables = h.tables; moments = h.rest; faults = old.now.faults } in
-    let state : State = record { tables = serves.tables; moments = after.0; faults = new.now.faults } in
-    let said : IsStepped old.held.models start first (bodies ++ body ∷ []) (h.replies ++ reply ∷ []) new = record {
-      rest = after.0;
-      tables = serves.tables;
-      run = run_on old.held.models (first_state start first) past state bodies h.replies body reply h.run (record { answer = serves.answer; moment = after.1; count = answered.count });
-      rests = serves.rests;
-      others = others_on old.held.models (Some start.store) old.now.kept new.now.kept h.others answered.others;
-      coming_is = after.2;
-    } in
-    subst (λ models. IsStepped models start first (bodies ++ body ∷ []) (h.replies ++ reply ∷ []) new) (sym answered.models_are) said
+-- A run so far, before the moment that the clock gave next: where it told no moments they may be any.
+record IsBeforeMoment (models : List ModelInfo) (first past : State) (bodies replies : List (List ℕ)) (coming now_coming : Option (ℕ → ℤ)) (now : ℤ) (body : List ℕ) : Type 0 where
+  moments : ℕ → ℤ
+  rest : ℕ → ℤ
+  run : Run models (record first { moments = moments }) bodies replies (record past { moments = rest })
+  next : now ≡ rest 0
+  gives : GivesMoments coming now_coming moments (moments_after (envelope_of ExecuteKw body) rest)
+
+before_moment : (models : List ModelInfo) (first past : State) (bodies replies : List (List ℕ)) (coming old new : Option (ℕ → ℤ)) (now : ℤ) (body : List ℕ) → Run models first bodies replies past
+    → GivesMoments coming old first.moments past.moments → MayBeGiven old now → TakesMoment old new body → IsBeforeMoment models first past bodies replies coming new now body
+before_moment models first past bodies replies None old new now body run gives given taken =
+    let anew = run_before models first past bodies replies (moment_then now past.moments) run in
+    record { moments = anew.0; rest = moment_then now past.moments; run = anew.1; next = refl; gives = tt }
+before_moment models first past bodies replies (Some told) old new now body run gives given taken = record {
+  moments = first.moments;
+  rest = past.moments;
+  run = run;
+  next = subst (λ (o : Option (ℕ → ℤ)). MayBeGiven o now) gives.1 given;
+  gives = (gives.0, taken ∙ ap (option_map (moments_after (envelope_of ExecuteKw body))) gives.1);
+}
+
+module _ (old new : Engaged) (body reply : List ℕ) (answered : IsAnswered old new body reply) (before : Surroundings) (first : Tables) (bodies : List (List ℕ)) (h : HasServed before first bodies old) where
+  -- where its request was served
+  served_stepped : ServesBody h.tables (standpoint_of old) (standpoint_of new) old.now.coming new.now.coming body reply
+      → IsStepped old.held.models before first (bodies ++ body ∷ []) (h.replies ++ reply ∷ []) new
+  served_stepped serves =
+      let models = old.held.models in
+      let from = before_moment models (state_at before first h.moments) (state_at old.now h.tables h.rest) bodies h.replies before.coming old.now.coming new.now.coming serves.now body h.run h.gives serves.given serves.taken in
+      let request = request_of models (envelope_of ExecuteKw body) in record {
+        tables = serves.serves.tables;
+        moments = from.moments;
+        rest = moments_after (envelope_of ExecuteKw body) from.rest;
+        run = run_on models (state_at before first from.moments) (state_at old.now h.tables from.rest) (state_at new.now serves.serves.tables (moments_after (envelope_of ExecuteKw body) from.rest)) bodies h.replies body reply from.run
+            (record {
+              answer = subst (λ (now : ℤ). MayAnswer models h.tables now (Rose old.now.faults new.now.faults) request reply serves.serves.tables) from.next serves.serves.answer;
+              moment = inl refl;
+              count = answered.count;
+            });
+        gives = from.gives;
+        rests = serves.serves.rests;
+        others = others_on models before.kept old.now.kept new.now.kept h.others answered.others;
+      }
+
+  -- where it wasn't read
+  unread_stepped : LeavesUnread h.tables (standpoint_of new) old.now.coming new.now.coming reply
+      → IsStepped old.held.models before first (bodies ++ body ∷ []) (h.replies ++ reply ∷ []) new
+  unread_stepped unread = record {
+    tables = h.tables;
+    moments = h.moments;
+    rest = h.rest;
+    run = run_on old.held.models (state_at before first h.moments) (state_at old.now h.tables h.rest) (state_at new.now h.tables h.rest) bodies h.replies body reply h.run
+        (record { answer = inr (refl, inl unread.told); moment = inr (record { told = unread.told; tables = refl; moments = refl }); count = answered.count });
+    gives = IfSome_then before.coming h.gives (λ told is. (is.0, unread.coming ∙ is.1));
+    rests = unread.rests;
+    others = others_on old.held.models before.kept old.now.kept new.now.kept h.others answered.others;
+  }
+
+  stepped : IsStepped new.held.models before first (bodies ++ body ∷ []) (h.replies ++ reply ∷ []) new
+  stepped = subst (λ models. IsStepped models before first (bodies ++ body ∷ []) (h.replies ++ reply ∷ []) new) (sym answered.models_are) (by (answered.served h.tables h.rests)) where
+    by : ServesBody h.tables (standpoint_of old) (standpoint_of new) old.now.coming new.now.coming body reply ⊎ LeavesUnread h.tables (standpoint_of new) old.now.coming new.now.coming reply
+        → IsStepped old.held.models before first (bodies ++ body ∷ []) (h.replies ++ reply ∷ []) new
+    by (inl serves) = served_stepped serves
+    by (inr unread) = unread_stepped unread
 
 -- The reply's line was written.
 pub serves_more : (old new : Engaged) (body reply : List ℕ) → IsAnswered old new body reply → new.now.written ≡ option_map (λ w. w ++ (reply ++ 10 ∷ [])) old.now.written
     → ServesMore (body ∷ []) old new
-serves_more old new body reply answered written start first bodies h =
-    let now = stepped old new body reply answered start first bodies h in record {
+serves_more old new body reply answered written before first bodies h =
+    let now = stepped old new body reply answered before first bodies h in record {
       replies = h.replies ++ reply ∷ [];
-      rest = now.rest;
       tables = now.tables;
+      moments = now.moments;
+      rest = now.rest;
       run = now.run;
+      gives = now.gives;
       rests = now.rests;
       others = now.others;
-      coming_is = now.coming_is;
-      written_is = written ∙ ap (option_map (λ w. w ++ (reply ++ 10 ∷ []))) h.written_is ∙ ap Some (append_assoc start.written (reply_lines h.replies) (reply ++ 10 ∷ []) ∙ ap (λ w. start.written ++ w)
-          (sym (reply_lines-append h.replies reply)));
+      written_is = whole_after before.written old.now.written new.now.written (reply_lines h.replies) (reply ++ 10 ∷ []) h.written_is written
+          ∙ ap (λ (text : List ℕ). option_map (λ w. w ++ text) before.written) (sym (reply_lines-append h.replies reply));
     }
 
 -- The sink failed within the reply's line.
 pub stops_at : (old new : Engaged) (body reply : List ℕ) → IsAnswered old new body reply → WritesPart old.now.written new.now.written (reply ++ 10 ∷ []) → StopsAt body old new
-stops_at old new body reply answered part start first bodies h =
-    let now = stepped old new body reply answered start first bodies h in record {
+stops_at old new body reply answered part before first bodies h =
+    let now = stepped old new body reply answered before first bodies h in record {
       replies = h.replies ++ reply ∷ [];
-      rest = now.rest;
       tables = now.tables;
+      moments = now.moments;
+      rest = now.rest;
       written = reply_lines h.replies ++ part.0;
       run = now.run;
+      gives = now.gives;
       rests = now.rests;
       others = now.others;
-      coming_is = now.coming_is;
-      written_is = part.2 ∙ ap (option_map (λ w. w ++ part.0)) h.written_is ∙ ap Some (append_assoc start.written (reply_lines h.replies) part.0);
+      written_is = whole_after before.written old.now.written new.now.written (reply_lines h.replies) part.0 h.written_is part.2;
       writes = record { whole = h.replies; last = reply; part = part.0; replies_are = refl; part_of = part.1; written_is = refl };
     }
 

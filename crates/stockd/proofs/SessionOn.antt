@@ -1,9 +1,10 @@
 -- A session goes on by one line, or ends.
 use Rattle.std.proofs.Common.{◌≡◌, ℕ, Bool, true, false, List, [], ◌∷◌, ◌++◌, length, refl, ap, sym, ◌∙◌, arith, Option, Some, None, Result, Ok, Err, subst, length-append}
-use Rattle.std.specs.Prelude.{not, take, is_err, OnOk, OnErr}
+use Rattle.std.specs.Prelude.{not, take, is_err, IfSome, OnOk, OnErr}
 use Rattle.std.proofs.lemmas.Bool.{false≢true}
 use Rattle.std.proofs.lemmas.List.{append-nil, take_all}
 use Rattle.std.proofs.lemmas.List.Elements.{filter-append}
+use Rattle.std.proofs.lemmas.Option.{IfSome_then}
 use Rattle.ob_cache.specs.Kept.{OthersStay}
 use Rattle.ob_cache.specs.Standing.{Holding, IsAtRest, RestsAt}
 use Rattle.ob_io.specs.Store.{Store}
@@ -13,8 +14,9 @@ use Rattle.stockd.specs.declared.ending.Ending.{Ending}
 use Rattle.stockd.specs.declared.ending.Ending.TheVariants as ending
 use Rattle.stockd.specs.Ending.{IsSessionEnding}
 use Rattle.stockd.specs.Lines.{is_blank_line, bodies_of, Reading}
-use Rattle.stockd.specs.Session.{reply_lines, NoneTooLong, AreRead, TakesIn, WritesReplies, Start, Surroundings, StandsAt, StandsFor, Session}
-use Rattle.stockd.specs.SessionSteps.{HasRead, HasReadAll, HasReadTo, StopsReading, Engaged, HasServed, StopsWriting, GoesOn, ServesMore, StopsAt}
+use Rattle.stockd.specs.Outside.{Engaged, Surroundings}
+use Rattle.stockd.specs.Session.{reply_lines, NoneTooLong, AreRead, TakesFrom, TakesIn, WritesReplies, StandsFor, Session}
+use Rattle.stockd.specs.SessionSteps.{Beginning, Ends, HasRead, HasReadAll, HasReadTo, StopsReading, HasServed, StopsWriting, GoesOn, ServesMore, StopsAt}
 use Rattle.stockd.proofs.ReadOn.{lines_fit}
 use Rattle.stockd.proofs.ReadStops.{told_before, are_read}
 use Rattle.stockd.proofs.ServedOn.{served_none}
@@ -44,27 +46,26 @@ pub no_write_fault : (why : Ending) → CutsNone why → why ≡ ending.WriteFau
 no_write_fault why h is = cut_at_fault (subst CutsNone is h)
 
 -- the rows that are kept, and that they are those of the tables at which an engine rests
-told_rows : (kept : Option Store) (held : Holding) (tables : Tables) → RestsAt kept held tables → (store : Store) × (kept ≡ Some store) × StandsFor held.models tables store
+pub told_rows : (kept : Option Store) (held : Holding) (tables : Tables) → RestsAt kept held tables → (store : Store) × (kept ≡ Some store) × StandsFor held.models tables store
 told_rows None held tables rests = absurd rests.over
 told_rows (Some store) held tables rests = (store, refl, record { kept = rests.over.kept; sound = rests.over.sound })
 
 -- the session ends with all replies written
-ends_served : {start : Start} {first : Tables} {bodies : List (List ℕ)} {at : Engaged} (h : HasServed start first bodies at) (left : List ℕ) {left_now : Option (List ℕ)} (why : Ending)
-    → left_now ≡ Some left → TakesIn why start.stream left bodies → CutsNone why → Session at.held.models first why start left_now at.now
-ends_served {start} {bodies = bodies} {at = at} h left why left_is takes_in told =
+ends_served : {before : Surroundings} {first : Tables} {bodies : List (List ℕ)} {at : Engaged} (h : HasServed before first bodies at) (left left_now : Option (List ℕ)) (why : Ending)
+    → TakesFrom why left left_now bodies → CutsNone why → Session at.held.models first why left left_now before at.now
+ends_served {bodies = bodies} {at = at} h left left_now why takes_in told =
     let rows = told_rows at.now.kept at.held h.tables h.rests in record {
       bodies = bodies;
       replies = h.replies;
       tables = h.tables;
+      moments = h.moments;
       rest = h.rest;
       run = h.run;
-      coming_is = h.coming_is;
+      gives = h.gives;
       store = rows.0;
       kept_is = rows.1;
       stands = rows.2;
       others = h.others;
-      left = left;
-      left_is = left_is;
       takes_in = takes_in;
       written = reply_lines h.replies;
       written_is = h.written_is;
@@ -72,40 +73,42 @@ ends_served {start} {bodies = bodies} {at = at} h left why left_is takes_in told
     }
 
 -- the session ends where no further line is read
-pub ends_reading : {start : Start} {first : Tables} {reader : Reading} {left : Option (List ℕ)} {at : Engaged} (h : GoesOn start first reader left at) {left_now : Option (List ℕ)} (why : Ending)
-    → StopsReading why start.stream left_now h.lines → CutsNone why → Session at.held.models first why start left_now at.now
-ends_reading h why stops told = ends_served h.served stops.left why stops.left_is stops.takes_in told
+pub ends_reading : {from : Beginning} {reader : Reading} {left : Option (List ℕ)} {at : Engaged} (h : GoesOn from reader left at) {left_now : Option (List ℕ)} (why : Ending)
+    → ((stream : List ℕ) (lines : List (List ℕ)) → HasRead stream reader left lines → StopsReading why stream left_now lines) → CutsNone why → Ends at.held.models from why left_now at.now
+ends_reading {from} h {left_now} why stops told =
+    ends_served h.served from.left left_now why (IfSome_then from.left h.read (λ stream read. let stop = stops stream h.lines read in (stop.left, stop.left_is, stop.takes_in))) told
 
 -- a session begins
 
-read_none : (stream : List ℕ) (reader : Reading) (left : Option (List ℕ)) → reader ≡ record { held = []; line = []; lines = 0; consumed = 0 } → left ≡ Some stream → HasRead stream reader left []
-read_none stream reader left new told = record {
+read_none : (stream : List ℕ) (reader : Reading) → reader ≡ record { held = []; line = []; lines = 0; consumed = 0 } → HasRead stream reader (Some stream) []
+read_none stream reader new = record {
   rest = stream;
   stream_is = refl;
   no_feeds = λ k d below. absurd (omega arith);
-  coming = rw (new, told) refl;
+  coming = rw new refl;
   count = ap (λ (r : Reading). r.lines) new;
   consumed = ap (λ (r : Reading). r.consumed) new;
   none_too_long = λ k below. absurd (omega arith);
 }
 
-pub begins : (start : Start) (first : Tables) {reader : Reading} {left : Option (List ℕ)} (at : Engaged) → reader ≡ record { held = []; line = []; lines = 0; consumed = 0 }
-    → StandsAt start left at.now → RestsAt at.now.kept at.held first → GoesOn start first reader left at
-begins start first {reader} {left} at new stands rests = record {
-  lines = [];
-  read = read_none start.stream reader left new stands.left_is;
-  served = served_none start first left at stands rests;
-}
+none_read : (left : Option (List ℕ)) (reader : Reading) → reader ≡ record { held = []; line = []; lines = 0; consumed = 0 } → IfSome left (λ stream. HasRead stream reader left [])
+none_read None reader new = tt
+none_read (Some stream) reader new = read_none stream reader new
+
+pub begins : (from : Beginning) {reader : Reading} (held : Holding) → reader ≡ record { held = []; line = []; lines = 0; consumed = 0 }
+    → RestsAt from.now.kept held from.first → GoesOn from reader from.left (record { now = from.now; held = held })
+begins from {reader} held new rests = record { lines = []; read = none_read from.left reader new; served = served_none from.now from.first held rests }
 
 -- nothing was read
-none_taken : {stream : List ℕ} → (count : ℕ) × AreRead count stream stream []
-none_taken = (0, record { read = []; stream_is = refl; within = omega arith; among = record { bodies_are = refl; none_too_long = λ k below. absurd (omega arith) } })
+none_taken : (left : Option (List ℕ)) → TakesFrom ending.NoMemory left left []
+none_taken None = tt
+none_taken (Some stream) =
+    (stream, refl, (0, record { read = []; stream_is = refl; within = omega arith; among = record { bodies_are = refl; none_too_long = λ k below. absurd (omega arith) } }))
 
 -- there was no memory for a reader
-pub ends_at_once : (start : Start) (first : Tables) {left : Option (List ℕ)} (at : Engaged) → StandsAt start left at.now → RestsAt at.now.kept at.held first
-    → Session at.held.models first ending.NoMemory start left at.now
-ends_at_once start first {left} at stands rests =
-    ends_served (served_none start first left at stands rests) start.stream ending.NoMemory stands.left_is none_taken (λ replies. refl)
+pub ends_at_once : (from : Beginning) (held : Holding) → RestsAt from.now.kept held from.first → Ends held.models from ending.NoMemory from.left from.now
+ends_at_once from held rests =
+    ends_served (served_none from.now from.first held rests) from.left from.left ending.NoMemory (none_taken from.left) (λ replies. refl)
 
 -- over the models that the engine had before: that it rests, what rows stay, and the session
 
@@ -115,9 +118,9 @@ rest_on first then = record { models_are = then.models_are ∙ first.models_are;
 pub others_over : {models now_models : List ModelInfo} {before now : Option Store} → now_models ≡ models → OthersStay now_models before now → OthersStay models before now
 others_over {before = before} {now = now} same others = subst (λ (models : List ModelInfo). OthersStay models before now) same others
 
-pub over_same : {models now_models : List ModelInfo} {first : Tables} {why : Ending} {start : Start} {left : Option (List ℕ)} {now : Surroundings} → now_models ≡ models
-    → Session now_models first why start left now → Session models first why start left now
-over_same {first = first} {why = why} {start = start} {left = left} {now = now} same session = subst (λ (models : List ModelInfo). Session models first why start left now) same session
+pub over_same : {models now_models : List ModelInfo} {from : Beginning} {why : Ending} {left : Option (List ℕ)} {now : Surroundings} → now_models ≡ models
+    → Ends now_models from why left now → Ends models from why left now
+over_same {from = from} {why = why} {left = left} {now = now} same ends = subst (λ (models : List ModelInfo). Ends models from why left now) same ends
 
 -- a line more
 
@@ -125,26 +128,35 @@ bodies_of-append : (lines more : List (List ℕ)) → bodies_of (lines ++ more) 
 bodies_of-append lines more =
     filter-append (λ (line : List ℕ). not (is_blank_line line)) lines more
 
-served_more : {start : Start} {first : Tables} {reader : Reading} {left : Option (List ℕ)} {old : Engaged} (h : GoesOn start first reader left old) (line : List ℕ) (new : Engaged)
-    → ServesMore (bodies_of (line ∷ [])) old new → HasServed start first (bodies_of (h.lines ++ line ∷ [])) new
-served_more {start} {first} h line new serves =
-    subst (λ bodies. HasServed start first bodies new) (sym (bodies_of-append h.lines (line ∷ []))) (serves start first (bodies_of h.lines) h.served)
+served_more : {from : Beginning} {reader : Reading} {left : Option (List ℕ)} {old : Engaged} (h : GoesOn from reader left old) (line : List ℕ) (new : Engaged)
+    → ServesMore (bodies_of (line ∷ [])) old new → HasServed from.now from.first (bodies_of (h.lines ++ line ∷ [])) new
+served_more {from} h line new serves =
+    subst (λ bodies. HasServed from.now from.first bodies new) (sym (bodies_of-append h.lines (line ∷ []))) (serves from.now from.first (bodies_of h.lines) h.served)
 
-pub goes_on : {start : Start} {first : Tables} {reader next : Reading} {left left_now : Option (List ℕ)} {old : Engaged} (h : GoesOn start first reader left old) (line : List ℕ) (new : Engaged)
-    → HasRead start.stream next left_now (h.lines ++ line ∷ []) → ServesMore (bodies_of (line ∷ [])) old new → GoesOn start first next left_now new
-goes_on h line new read serves =
-    record { lines = h.lines ++ line ∷ []; read = read; served = served_more h line new serves }
+pub goes_on : {from : Beginning} {reader next : Reading} {left left_now : Option (List ℕ)} {old : Engaged} (h : GoesOn from reader left old) (line : List ℕ) (new : Engaged)
+    → ((stream : List ℕ) (lines : List (List ℕ)) → HasRead stream reader left lines → HasRead stream next left_now (lines ++ line ∷ []))
+    → ServesMore (bodies_of (line ∷ [])) old new → GoesOn from next left_now new
+goes_on {from} h line new reads serves =
+    record { lines = h.lines ++ line ∷ []; read = IfSome_then from.left h.read (λ stream read. reads stream h.lines read); served = served_more h line new serves }
 
 -- the last line had no line feed
-pub ends_at_end : {start : Start} {first : Tables} {reader : Reading} {left left_now : Option (List ℕ)} {old : Engaged} (h : GoesOn start first reader left old) (line : List ℕ) (new : Engaged)
-    → HasReadAll start.stream left_now (h.lines ++ line ∷ []) → ServesMore (bodies_of (line ∷ [])) old new → Session new.held.models first ending.Done start left_now new.now
-ends_at_end {start} h line new read serves =
-    ends_served (served_more h line new serves) [] ending.Done read.none_left (
-      sym (ap bodies_of read.lines_are),
-      refl,
-      subst (λ (ls : List (List ℕ)). NoneTooLong (length ls) start.stream)
-          (sym read.lines_are) read.none_too_long,
-    ) (λ replies. refl)
+pub ends_at_end : {from : Beginning} {reader : Reading} {left left_now : Option (List ℕ)} {old : Engaged} (h : GoesOn from reader left old) (line : List ℕ) (new : Engaged)
+    → ((stream : List ℕ) (lines : List (List ℕ)) → HasRead stream reader left lines → HasReadAll stream left_now (lines ++ line ∷ []))
+    → ServesMore (bodies_of (line ∷ [])) old new → Ends new.held.models from ending.Done left_now new.now
+ends_at_end {from} {left_now = left_now} h line new reads serves =
+    ends_served (served_more h line new serves) from.left left_now ending.Done (IfSome_then from.left h.read (λ stream read. taken stream (reads stream h.lines read))) (λ replies. refl)
+  where
+    taken : (stream : List ℕ) → HasReadAll stream left_now (h.lines ++ line ∷ []) → (left : List ℕ) × (left_now ≡ Some left) × TakesIn ending.Done stream left (bodies_of (h.lines ++ line ∷ []))
+    taken stream read = (
+      [],
+      read.none_left,
+      (
+        sym (ap bodies_of read.lines_are),
+        refl,
+        subst (λ (ls : List (List ℕ)). NoneTooLong (length ls) stream)
+            (sym read.lines_are) read.none_too_long,
+      ),
+    )
 
 -- a stream that was read to its end
 all_read : (stream : List ℕ) (left : Option (List ℕ)) (lines : List (List ℕ)) → HasReadAll stream left lines → AreRead (length lines) stream [] (bodies_of lines)
@@ -172,36 +184,39 @@ bodies_of-body lines line body =
     bodies_of-append lines (line ∷ []) ∙ ap (λ more. bodies_of lines ++ more) last
 
 -- the sink failed within the reply's line
-stopped : {start : Start} {first : Tables} {bodies : List (List ℕ)} {at : Engaged} (h : StopsWriting start first bodies at) (left : List ℕ) {left_now : Option (List ℕ)} (count : ℕ)
-    → left_now ≡ Some left → AreRead count start.stream left bodies → Session at.held.models first ending.WriteFault start left_now at.now
-stopped {bodies = bodies} {at = at} h left count left_is read =
+stopped : {before : Surroundings} {first : Tables} {bodies : List (List ℕ)} {at : Engaged} (h : StopsWriting before first bodies at) (left left_now : Option (List ℕ))
+    → TakesFrom ending.WriteFault left left_now bodies → Session at.held.models first ending.WriteFault left left_now before at.now
+stopped {bodies = bodies} {at = at} h left left_now takes_in =
     let rows = told_rows at.now.kept at.held h.tables h.rests in record {
       bodies = bodies;
       replies = h.replies;
       tables = h.tables;
+      moments = h.moments;
       rest = h.rest;
       run = h.run;
-      coming_is = h.coming_is;
+      gives = h.gives;
       store = rows.0;
       kept_is = rows.1;
       stands = rows.2;
       others = h.others;
-      left = left;
-      left_is = left_is;
-      takes_in = (count, read);
+      takes_in = takes_in;
       written = h.written;
       written_is = h.written_is;
       writes = h.writes;
     }
 
-pub ends_writing : {start : Start} {first : Tables} {reader : Reading} {left left_now : Option (List ℕ)} {old : Engaged} (h : GoesOn start first reader left old)
+pub ends_writing : {from : Beginning} {reader : Reading} {left left_now : Option (List ℕ)} {old : Engaged} (h : GoesOn from reader left old)
     (whole : Bool) (next : Reading) (line : List ℕ) (new : Engaged)
-    → HasReadTo whole start.stream next left_now (h.lines ++ line ∷ []) → is_blank_line line ≡ false → StopsAt line old new → Session new.held.models first ending.WriteFault start left_now new.now
-ends_writing {start} {first} {left_now = left_now} h whole next line new read body stops =
-    let lines = h.lines ++ line ∷ [] in
-    let stop = stops start first (bodies_of h.lines) h.served in
-    let left = read_left whole start.stream next left_now lines read in
-    stopped stop left.0 (length lines) left.1 (subst (λ (bodies : List (List ℕ)). AreRead (length lines) start.stream left.0 bodies) (bodies_of-body h.lines line body) left.2)
+    → ((stream : List ℕ) (lines : List (List ℕ)) → HasRead stream reader left lines → HasReadTo whole stream next left_now (lines ++ line ∷ []))
+    → is_blank_line line ≡ false → StopsAt line old new → Ends new.held.models from ending.WriteFault left_now new.now
+ends_writing {from} {left_now = left_now} h whole next line new reads body stops =
+    stopped (stops from.now from.first (bodies_of h.lines) h.served) from.left left_now (IfSome_then from.left h.read (λ stream read. taken stream (reads stream h.lines read)))
+  where
+    taken : (stream : List ℕ) → HasReadTo whole stream next left_now (h.lines ++ line ∷ []) → (left : List ℕ) × (left_now ≡ Some left) × TakesIn ending.WriteFault stream left (bodies_of h.lines ++ line ∷ [])
+    taken stream read =
+        let lines = h.lines ++ line ∷ [] in
+        let left = read_left whole stream next left_now lines read in
+        (left.0, left.1, (length lines, subst (λ (bodies : List (List ℕ)). AreRead (length lines) stream left.0 bodies) (bodies_of-body h.lines line body) left.2))
 
 -- what holds of an answer by whether it is an error
 

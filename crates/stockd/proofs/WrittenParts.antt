@@ -1,6 +1,6 @@
 -- What stands written after one part and then another, or a front of it.
 use Rattle.std.proofs.Common.{◌≡◌, ◌≢◌, ℕ, ◌+◌, ◌-◌, ◌<◌, List, [], ◌∷◌, length, Result, Ok, Err, OnErr, ◌++◌, take, drop, Option, Some, None, option_map, refl, sym, ap, ◌∙◌, append_assoc, arith, length-drop}
-use Rattle.std.proofs.lemmas.List.{take-append-drop, take_rest}
+use Rattle.std.proofs.lemmas.List.{append-nil, take-append-drop, take_rest}
 use Rattle.std.proofs.Math.Seq.{take-add}
 use Rattle.stockd.specs.Ending.{WritesPart}
 
@@ -8,6 +8,11 @@ use Rattle.stockd.specs.Ending.{WritesPart}
 pub parts_joined : (before : Option (List ℕ)) (a b : List ℕ) → option_map (λ w. w ++ b) (option_map (λ w. w ++ a) before) ≡ option_map (λ w. w ++ (a ++ b)) before
 parts_joined None a b = refl
 parts_joined (Some w) a b = ap Some (append_assoc w a b)
+
+-- nothing more was written
+pub nothing_written : (written : Option (List ℕ)) → written ≡ option_map (λ w. w ++ []) written
+nothing_written None = refl
+nothing_written (Some w) = ap Some (sym (append-nil w))
 
 -- a part and then another were written
 pub whole_after : (before mid now : Option (List ℕ)) (a b : List ℕ) → mid ≡ option_map (λ w. w ++ a) before → now ≡ option_map (λ w. w ++ b) mid → now ≡ option_map (λ w. w ++ (a ++ b)) before

@@ -1,12 +1,15 @@
 -- What is done for one body, by an engine that rests at the machine's tables.
-use Rattle.std.specs.Prelude.{ℕ, ℤ, List, Option}
+use Rattle.std.specs.Prelude.{◌≡◌, ◌⊎◌, ℕ, ℤ, List, Option, IfSome, option_map}
 use Rattle.ob_cache.specs.Calls.{HasTables, KeeperRose, Standpoint, models_at}
 use Rattle.ob_cache.specs.Standing.{Holding, RestsAt}
 use Rattle.ob_io.specs.Store.{Store}
+use Rattle.ob_rpc.specs.Envelope.{envelope_of}
+use Rattle.ob_rpc.specs.declared.methods.Served.TheVariants.{ExecuteKw}
 use Rattle.ob_schema.specs.Tables.{Tables}
 use Rattle.ob_schema.specs.declared.info.ModelInfo.{ModelInfo}
-use Rattle.stockd.specs.Request.{Request}
-use Rattle.stockd.specs.Machine.{MayAnswer}
+use Rattle.stockd.specs.Request.{Request, request_of}
+use Rattle.stockd.specs.Machine.{MayAnswer, moments_after}
+use Rattle.stockd.specs.Texts.{no_memory_text}
 
 -- The machine may give this reply, and go on from old to tables at which the engine then rests.
 pub record Serves (models : List ModelInfo) (old : Tables) (now : ℤ) (rose : Type 0) (request : Request) (reply : List ℕ) (kept_now : Option Store) (held_now : Holding) : Type 0 where
@@ -17,3 +20,29 @@ pub record Serves (models : List ModelInfo) (old : Tables) (now : ℤ) (rose : T
 -- at whatever tables the engine rests before it, the request is served
 abbrev pub ServesOver : (before after : Standpoint) → ℤ → Request → List ℕ → Type 0
 ServesOver before after now request reply = (tables : Tables) → HasTables before tables → Serves (models_at before) tables now (KeeperRose before after) request reply after.kept after.held
+
+-- a moment that a clock may give: the first of those that it tells, where it tells them
+abbrev pub MayBeGiven : Option (ℕ → ℤ) → ℤ → Type 0
+MayBeGiven coming now = IfSome coming (λ moments. now ≡ moments 0)
+
+-- what a clock told before a body it still tells, but for the moment that the body took
+abbrev pub TakesMoment : (before now : Option (ℕ → ℤ)) → (body : List ℕ) → Type 0
+TakesMoment before now body = now ≡ option_map (moments_after (envelope_of ExecuteKw body)) before
+
+-- the request of a body was served, at a moment that the clock gave
+pub record ServesBody (old : Tables) (before after : Standpoint) (coming_before coming_now : Option (ℕ → ℤ)) (body reply : List ℕ) : Type 0 where
+  pub now : ℤ
+  pub given : MayBeGiven coming_before now
+  pub serves : Serves (models_at before) old now (KeeperRose before after) (request_of (models_at before) (envelope_of ExecuteKw body)) reply after.kept after.held
+  pub taken : TakesMoment coming_before coming_now body
+
+-- memory was wanting before the body was read: that is told, and nothing else happened
+pub record LeavesUnread (old : Tables) (after : Standpoint) (coming_before coming_now : Option (ℕ → ℤ)) (reply : List ℕ) : Type 0 where
+  pub told : reply ≡ no_memory_text
+  pub rests : HasTables after old
+  pub coming : coming_now ≡ coming_before
+
+-- at whatever tables the engine rests before it, the body is answered
+abbrev pub AnswersOver : (before after : Standpoint) → (coming_before coming_now : Option (ℕ → ℤ)) → (body reply : List ℕ) → Type 0
+AnswersOver before after coming_before coming_now body reply =
+    (tables : Tables) → HasTables before tables → ServesBody tables before after coming_before coming_now body reply ⊎ LeavesUnread tables after coming_before coming_now reply

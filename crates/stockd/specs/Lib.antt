@@ -9,8 +9,13 @@ pub mod WordPieces
 pub mod Ending
 pub mod Store
 pub mod Audit
+pub mod Outside
 pub mod Session
 pub mod SessionSteps
 pub mod Reply
 pub mod Body
+pub mod Exchange
+pub mod ExchangeSteps
+pub mod Reception
+pub mod ReceptionSteps
 pub mod Program

@@ -7,6 +7,7 @@ use Rattle.ob_io.specs.Cause.{Rose}
 use Rattle.ob_io.specs.Moments.{later}
 use Rattle.ob_orm.specs.Create.{Creates}
 use Rattle.ob_orm.specs.FieldsGet.{GetsFields}
+use Rattle.ob_orm.specs.Unlink.{Unlinks}
 use Rattle.ob_orm.specs.Write.{Writes}
 use Rattle.ob_query.specs.Read.{Reads}
 use Rattle.ob_rpc.specs.Envelope.{Envelope, Fault, envelope_of}
@@ -36,6 +37,7 @@ Tells reading.FieldsGet = GetsFields
 abbrev pub Makes : WriteMethod → List ModelInfo → Called → Tables → Result Data Refusal → Tables → Type 0
 Makes writing.Create = Creates
 Makes writing.Write = Writes
+Makes writing.Unlink = Unlinks
 
 -- the outcome of a method, and the tables after it: one that reads leaves them
 abbrev pub Means : Method → List ModelInfo → Called → Tables → Result Data Refusal → Tables → Type 0
@@ -66,21 +68,22 @@ abbrev pub moments_after : Result Envelope Fault → (ℕ → ℤ) → ℕ → �
 moments_after (Ok envelope) moments = later moments
 moments_after (Err fault) moments = moments
 
--- the moments that are still to come once a body was answered so: none is taken where
--- memory was wanting before the request was read
-abbrev pub TakesMoment : (body reply : List ℕ) → (moments rest : ℕ → ℤ) → Type 0
-TakesMoment body reply moments rest = (rest ≡ moments_after (envelope_of ExecuteKw body) moments) ⊎ ((reply ≡ no_memory_text) × (rest ≡ moments))
-
 -- where the machine stands: its tables, the moments that are still to come, and how often the keeper has failed
 pub record State : Type 0 where
   pub tables : Tables
   pub moments : ℕ → ℤ
   pub faults : ℕ
 
--- the machine may give this reply to the body, and go on so
+-- memory was wanting before the body was read: that is told, and nothing else happened
+pub record IsUnread (old : State) (reply : List ℕ) (new : State) : Type 0 where
+  pub told : reply ≡ no_memory_text
+  pub tables : new.tables ≡ old.tables
+  pub moments : new.moments ≡ old.moments
+
+-- the machine may give this reply to the body, and go on so: a body that is read takes its moment
 pub record Step (models : List ModelInfo) (old : State) (body reply : List ℕ) (new : State) : Type 0 where
   pub answer : MayAnswer models old.tables (old.moments 0) (Rose old.faults new.faults) (request_of models (envelope_of ExecuteKw body)) reply new.tables
-  pub moment : TakesMoment body reply old.moments new.moments
+  pub moment : (new.moments ≡ moments_after (envelope_of ExecuteKw body) old.moments) ⊎ IsUnread old reply new
   pub count : old.faults ≤ new.faults
 
 -- nothing happened, but that the keeper's count may have risen

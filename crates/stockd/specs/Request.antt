@@ -38,13 +38,14 @@ is_integer n d = option_map_or (λ m. m == n) (option_and_then as_u64 (as_number
 abbrev pub is_caller : (user key : Data) → Bool
 is_caller user key = is_integer 2 user && is_text (codes "admin") key
 
--- the method of a name that a model has: each can be read and has its fields told, rows are made of those of which a create makes any, and changed of those of which a write changes any
+-- the method of a name that a model has: each can be read, has its fields told, and has rows deleted; rows are made of those of which a create makes any, and changed of those of which a write changes any
 abbrev pub method_named : ModelInfo → Data → Option Method
 method_named info d =
     if is_text (codes "read") d then Some (method.Reads reading.Read)
     else if is_text (codes "fields_get") d then Some (method.Reads reading.FieldsGet)
     else if is_text (codes "create") d && is_creatable info then Some (method.Writes writing.Create)
     else if is_text (codes "write") d && is_writable info then Some (method.Writes writing.Write)
+    else if is_text (codes "unlink") d then Some (method.Writes writing.Unlink)
     else None
 
 -- of the model of a number

@@ -1,5 +1,5 @@
 -- What a session takes in, answers and writes, by how it ends.
-use Rattle.std.specs.Prelude.{◌≡◌, ℕ, zero, suc, ◌+◌, ◌≤◌, ◌<◌, ℤ, List, [], ◌∷◌, ◌++◌, length, take, if◌then◌else◌, Option, Some}
+use Rattle.std.specs.Prelude.{◌≡◌, ℕ, zero, suc, ◌+◌, ◌≤◌, ◌<◌, ℤ, List, [], ◌∷◌, ◌++◌, length, take, if◌then◌else◌, IfSome, Option, Some, option_map}
 use Rattle.std.specs.List.{flat_map, list_any}
 use Rattle.ob_io.specs.Store.{Store}
 use Rattle.ob_cache.specs.Kept.{Kept, OthersStay}
@@ -11,6 +11,7 @@ use Rattle.stockd.specs.declared.ending.Ending.TheVariants as ending
 use Rattle.stockd.specs.Ending.{IsCutShort}
 use Rattle.stockd.specs.Lines.{is_line_feed, lines_of, bodies_of, line_back, line_size, IsTooLong}
 use Rattle.stockd.specs.Machine.{State, Run}
+use Rattle.stockd.specs.Outside.{Surroundings}
 
 -- the replies, each with its line feed
 abbrev pub reply_lines : List (List ℕ) → List ℕ
@@ -76,56 +77,39 @@ WritesReplies ending.NoMemory replies written = written ≡ reply_lines replies
 WritesReplies (ending.TooLong number) replies written = written ≡ reply_lines replies
 WritesReplies _ replies written = ⊥
 
--- What `call` starts from: what files hold, what the source has left, what is kept, the moments
--- that are to come, what was written, and how often the keeper failed.
-pub record Start : Type 0 where
-  pub texts : List ℕ → Option (List ℕ)
-  pub stream : List ℕ
-  pub store : Store
-  pub moments : ℕ → ℤ
-  pub written : List ℕ
-  pub faults : ℕ
-
--- what the keeper, the clock and the sink tell of themselves, each where it does, and how often the keeper failed
-pub record Surroundings : Type 0 where
-  pub faults : ℕ
-  pub kept : Option Store
-  pub coming : Option (ℕ → ℤ)
-  pub written : Option (List ℕ)
-
--- that is what the source and the others tell
-pub record StandsAt (start : Start) (left : Option (List ℕ)) (now : Surroundings) : Type 0 where
-  pub left_is : left ≡ Some start.stream
-  pub kept_is : now.kept ≡ Some start.store
-  pub coming_is : now.coming ≡ Some start.moments
-  pub written_is : now.written ≡ Some start.written
-  pub faults_are : now.faults ≡ start.faults
-
 -- the rows that are kept are those of sound tables
 pub record StandsFor (models : List ModelInfo) (tables : Tables) (store : Store) : Type 0 where
   pub kept : Kept models tables store
   pub sound : AreSound models tables
 
--- the machine at these tables, as a session starts
-abbrev pub first_state : Start → Tables → State
-first_state start tables = record { tables = tables; moments = start.moments; faults = start.faults }
+-- the bodies were taken in from what the source had left, where it tells that
+abbrev pub TakesFrom : Ending → (before now : Option (List ℕ)) → List (List ℕ) → Type 0
+TakesFrom why before now bodies = IfSome before (λ stream. (left : List ℕ) × (now ≡ Some left) × TakesIn why stream left bodies)
 
--- A session over a store of these tables: the machine's replies to the bodies that were taken in,
--- and its tables, for which the kept rows stand; rows of other models stay.
-pub record Session (models : List ModelInfo) (first : Tables) (why : Ending) (start : Start) (left_now : Option (List ℕ)) (now : Surroundings) : Type 0 where
+-- these are the moments that a clock told, where it tells them, and it tells the rest
+abbrev pub GivesMoments : (before now : Option (ℕ → ℤ)) → (moments rest : ℕ → ℤ) → Type 0
+GivesMoments before now moments rest = IfSome before (λ told. (told ≡ moments) × (now ≡ Some rest))
+
+-- the machine at these tables, before these moments, with the keeper as it is
+abbrev pub state_at : Surroundings → Tables → (ℕ → ℤ) → State
+state_at at tables moments = record { tables = tables; moments = moments; faults = at.faults }
+
+-- A session over a keeper that tells its rows, from these tables on: the machine's replies to the bodies
+-- that were taken in, and its tables, for which the kept rows stand; rows of other models stay. What the
+-- source, the clock and the sink tell is of these bodies, of the machine's moments and of its replies.
+pub record Session (models : List ModelInfo) (first : Tables) (why : Ending) (left_before left_now : Option (List ℕ)) (before now : Surroundings) : Type 0 where
   pub bodies : List (List ℕ)
   pub replies : List (List ℕ)
   pub tables : Tables
+  pub moments : ℕ → ℤ
   pub rest : ℕ → ℤ
-  pub run : Run models (first_state start first) bodies replies (record { tables = tables; moments = rest; faults = now.faults })
-  pub coming_is : now.coming ≡ Some rest
+  pub run : Run models (state_at before first moments) bodies replies (state_at now tables rest)
+  pub gives : GivesMoments before.coming now.coming moments rest
   pub store : Store
   pub kept_is : now.kept ≡ Some store
   pub stands : StandsFor models tables store
-  pub others : OthersStay models (Some start.store) now.kept
-  pub left : List ℕ
-  pub left_is : left_now ≡ Some left
-  pub takes_in : TakesIn why start.stream left bodies
+  pub others : OthersStay models before.kept now.kept
+  pub takes_in : TakesFrom why left_before left_now bodies
   pub written : List ℕ
-  pub written_is : now.written ≡ Some (start.written ++ written)
+  pub written_is : now.written ≡ option_map (λ w. w ++ written) before.written
   pub writes : WritesReplies why replies written

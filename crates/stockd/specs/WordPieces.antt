@@ -17,11 +17,12 @@ use Rattle.stockd.specs.declared.words.Store.TheVariants as store
 use Rattle.stockd.specs.declared.words.Usage.{Usage}
 use Rattle.stockd.specs.declared.words.Usage.TheVariants as usage
 use Rattle.stockd.specs.Words as spec
-use Rattle.stockd.specs.Words.{action_in, at_most_one, command_of, file_in, folder_in, module_in, pieces_from}
+use Rattle.stockd.specs.Words.{action_in, at_most_one, command_of, file_in, folder_in, limit_in, module_in, pieces_from, port_in}
 
 -- an action, as the specs hold it
 abbrev pub action_view : Action → spec.Action
 action_view action.Call = spec.call
+action_view action.Serve = spec.serve
 action_view action.Audit = spec.audit
 
 -- an option, as the specs hold it
@@ -29,6 +30,8 @@ abbrev pub setting_view : Setting → spec.Setting
 setting_view setting.Modules = spec.modules
 setting_view setting.Load = spec.load
 setting_view setting.Store = spec.store
+setting_view setting.Listen = spec.listen
+setting_view setting.Connections = spec.connections
 
 -- what a word says, as the specs hold it
 abbrev pub piece_view : Piece → spec.Piece
@@ -37,6 +40,8 @@ piece_view (piece.Awaiting setting) = spec.awaiting (setting_view setting)
 piece_view (piece.Folder text) = spec.folder text.now
 piece_view (piece.Loads name) = spec.loads name.now
 piece_view (piece.Keeps text) = spec.keeps text.now
+piece_view (piece.Listens port) = spec.listens port
+piece_view (piece.Limits most) = spec.limits most
 
 -- a command, as the specs hold it
 abbrev pub command_view : Command → spec.Command
@@ -45,12 +50,14 @@ command_view command = record {
   folder = command.folder.now;
   names = command.names;
   file = option_map (λ text. text.now) command.file;
+  port = command.port;
+  limit = command.limit;
 }
 
 -- what the words ask for is read; or it is a command, and memory is wanting
-abbrev pub IsAsked : List (String Global) → Result (Option Command) NoMemory → Type 0
-IsAsked words (Ok command) = option_map command_view command ≡ command_of words
-IsAsked words (Err _) = command_of words ≢ None
+abbrev pub IsCommandOf : List (String Global) → Result (Option Command) NoMemory → Type 0
+IsCommandOf words (Ok command) = option_map command_view command ≡ command_of words
+IsCommandOf words (Err _) = command_of words ≢ None
 
 -- these are the modules that the words name, where they say something
 abbrev pub HasNames : List (String Global) → List (List ℕ) → Type 0
@@ -67,13 +74,21 @@ IsPlaceOf words (Ok store) = IsSomeAnd (command_of words) (λ command. command.f
 IsPlaceOf words (Err usage.Words) = command_of words ≡ None
 IsPlaceOf words (Err usage.NoMemory) = ⊤
 
+-- the port of the words' address is told; or they are no command
+abbrev pub IsAddressOf : List (String Global) → Result ℕ Usage → Type 0
+IsAddressOf words (Ok port) = IsSomeAnd (command_of words) (λ command. command.port ≡ port)
+IsAddressOf words (Err usage.Words) = command_of words ≡ None
+IsAddressOf words (Err usage.NoMemory) = ⊥
+
 -- ---- what may be said once
 
--- an action, a folder and a file, each where it was said
+-- an action, a folder, a file, a port and a number of connections, each where it was said
 pub record Parts : Type 0 where
   pub action : Option spec.Action
   pub folder : Option (List ℕ)
   pub file : Option (List ℕ)
+  pub port : Option ℕ
+  pub limit : Option ℕ
 
 -- the same, as the code holds it
 abbrev pub said_view : Said → Parts
@@ -81,6 +96,8 @@ said_view said = record {
   action = option_map action_view said.action;
   folder = option_map (λ text. text.now) said.folder;
   file = option_map (λ text. text.now) said.file;
+  port = said.port;
+  limit = said.limit;
 }
 
 -- what is said for the first time
@@ -93,14 +110,17 @@ abbrev pub parts_with : Parts → spec.Piece → Option Parts
 parts_with parts (spec.acts action) = option_map (λ now. record parts { action = now }) (once parts.action action)
 parts_with parts (spec.folder text) = option_map (λ now. record parts { folder = now }) (once parts.folder text)
 parts_with parts (spec.keeps text) = option_map (λ now. record parts { file = now }) (once parts.file text)
+parts_with parts (spec.listens port) = option_map (λ now. record parts { port = now }) (once parts.port port)
+parts_with parts (spec.limits most) = option_map (λ now. record parts { limit = now }) (once parts.limit most)
 parts_with parts _ = Some parts
 
 -- what pieces say, where they say nothing of it twice
 abbrev pub parts_from : List spec.Piece → Option Parts
 parts_from pieces =
-    option_and_then (λ action. option_and_then (λ folder. option_map (λ file.
-    record { action = action; folder = folder; file = file })
-    (at_most_one (filter_map file_in pieces))) (at_most_one (filter_map folder_in pieces))) (at_most_one (filter_map action_in pieces))
+    option_and_then (λ action. option_and_then (λ folder. option_and_then (λ file. option_and_then (λ port. option_map (λ limit.
+    record { action = action; folder = folder; file = file; port = port; limit = limit })
+    (at_most_one (filter_map limit_in pieces))) (at_most_one (filter_map port_in pieces))) (at_most_one (filter_map file_in pieces)))
+    (at_most_one (filter_map folder_in pieces))) (at_most_one (filter_map action_in pieces))
 
 -- the same of words
 abbrev pub parts_of : List (String Global) → Option Parts

@@ -5,7 +5,7 @@ ghost use Rattle.std.specs.Prelude.{◌≡◌, ◌≤◌, ◌⊎◌, ℕ, ℤ, I
 ghost use Rattle.serde_json.specs.View.{view, items_view};
 ghost use Rattle.serde_json.specs.Written.{has_float};
 ghost use Rattle.ob_base.specs.Times.{IsMoment};
-ghost use Rattle.ob_cache.specs.Calls.{IsAsked, IsCalled, IsResting, models_at, settled_over, standpoint};
+ghost use Rattle.ob_cache.specs.Calls.{IsAsked, IsCalled, IsResting, KeeperRose, models_at, settled_over, standpoint};
 ghost use Rattle.ob_cache.specs.Kept.{OthersStay};
 ghost use Rattle.ob_cache.specs.Standing.{IsAtRest, NextIdsUpTo, RestsAt, Stands, Stays, max_next_id};
 ghost use Rattle.ob_cache.specs.declared.stages.Phase.TheVariants as phase;
@@ -17,10 +17,10 @@ ghost use Rattle.ob_rpc.specs.declared.methods.Served.TheVariants.{ExecuteKw};
 ghost use Rattle.ob_rpc.specs.Reply.{error, reply_form, reply_of, OutcomeHasNoFloat};
 ghost use Rattle.ob_schema.specs.Models.{HasModel, model_at};
 ghost use Rattle.ob_schema.specs.Tables.{Tables};
-ghost use Rattle.stockd.specs.Body.{Serves, ServesOver};
+ghost use Rattle.stockd.specs.Body.{AnswersOver, ServesOver};
 ghost use Rattle.stockd.specs.Machine.{Makes, Tells, moments_after};
 ghost use Rattle.stockd.specs.MethodCall.{call_view, handed_view};
-ghost use Rattle.stockd.specs.Reply.{Keeps, MayTell, text_of};
+ghost use Rattle.stockd.specs.Reply.{Keeps, MayTell, TellsSome, text_of};
 ghost use Rattle.stockd.specs.Request.{call_of, called, request_by, request_of};
 ghost use Rattle.stockd.specs.Texts.{malformed_text, no_memory_text, outcome_text, told};
 
@@ -30,7 +30,7 @@ use ob_base::{Ledger, NoMemory, Refusal, Steps, Word};
 use ob_cache::Engine;
 use ob_call::Call;
 use ob_io::{Clock, KeepFault, Keeper};
-use ob_orm::{create, fields_get, refusal_text, write};
+use ob_orm::{create, fields_get, refusal_text, unlink, write};
 use ob_query::read;
 use ob_rpc::{EnvFault, Envelope, Json, Outcome, Served, envelope, no_memory_reply, reply_text};
 use ob_schema::Schema;
@@ -39,14 +39,14 @@ use std::alloc::Global;
 
 /// The text of a reply, or that there was no memory for it.
 #[derive(Drop)]
-pub(crate) enum Reply {
+pub enum Reply {
     Text(Word),
     NoMemory,
 }
 
 impl Reply {
     /// The text; the one for want of memory takes none.
-    pub(crate) fn as_str(&self) -> &str
+    pub fn as_str(&self) -> &str
         ensures { result.now ≡ text_of self.now }
     {
         match self {
@@ -57,7 +57,7 @@ impl Reply {
 }
 
 /// Answers one body, and carries out what it asks for.
-pub(crate) fn answer<K: Keeper, C: Clock, L: Ledger>(
+pub fn answer<K: Keeper, C: Clock, L: Ledger>(
     alloc: Global,
     engine: &mut Engine<'_, K>,
     clock: &mut C,
@@ -66,14 +66,13 @@ pub(crate) fn answer<K: Keeper, C: Clock, L: Ledger>(
 ) -> Reply
     requires rest { IsAtRest engine.old.held.models engine.old.held }
 
-    // Over a keeper that tells its rows, and a clock that tells its moments, it is a step of
-    // the machine.
-    ensures served { (tables : Tables) (moments : ℕ → ℤ) → RestsAt (K.kept engine.old.keeper.now) engine.old.held tables → C.coming clock.old ≡ Some moments
-        → Serves engine.old.held.models tables (moments 0) (Rose (K.faults engine.old.keeper.now) (K.faults engine.new.keeper.now))
-        (request_of engine.old.held.models (envelope_of ExecuteKw body.now)) (text_of result) (K.kept engine.new.keeper.now) engine.new.held }
+    // Over a keeper that tells its rows it is a step of the machine, at the moment that the clock gave.
+    ensures served { AnswersOver (standpoint K.Keeper engine.old) (standpoint K.Keeper engine.new) (C.coming clock.old) (C.coming clock.new) body.now (text_of result) }
     // A request takes one moment. Where memory is wanting to read the body, none is taken.
     ensures moments { (C.coming clock.new ≡ option_map (moments_after (envelope_of ExecuteKw body.now)) (C.coming clock.old))
         ⊎ ((text_of result ≡ no_memory_text) × (C.coming clock.new ≡ C.coming clock.old)) }
+    // Whatever the keeper tells, a fault of the keeper is told only where its count rose.
+    ensures causes { TellsSome (models_at (standpoint K.Keeper engine.old)) (KeeperRose (standpoint K.Keeper engine.old) (standpoint K.Keeper engine.new)) (text_of result) }
     // Rows of other models stay.
     ensures others { OthersStay engine.old.held.models (K.kept engine.old.keeper.now) (K.kept engine.new.keeper.now) }
     ensures rests { IsAtRest engine.old.held.models engine.new.held }
@@ -108,6 +107,7 @@ fn serve<K: Keeper, L: Ledger>(
     requires id { has_float (view envelope.now.id) ≡ false }
     ensures served { ServesOver (standpoint K.Keeper engine.old) (standpoint K.Keeper engine.new) now
         (request_by (view envelope.now.id) (call_of (models_at (standpoint K.Keeper engine.old)) (items_view envelope.now.args))) (text_of result) }
+    ensures causes { TellsSome (models_at (standpoint K.Keeper engine.old)) (KeeperRose (standpoint K.Keeper engine.old) (standpoint K.Keeper engine.new)) (text_of result) }
     ensures others { OthersStay engine.old.held.models (K.kept engine.old.keeper.now) (K.kept engine.new.keeper.now) }
     ensures rests { IsAtRest engine.old.held.models engine.new.held }
     ensures lender { engine.new.keeper.ghost_name ≡ engine.old.keeper.ghost_name }
@@ -133,6 +133,7 @@ fn serve_call<K: Keeper, L: Ledger>(
     requires model { HasModel (models_at (standpoint K.Keeper engine.old)) call.now.model }
     requires id { has_float (view id.now) ≡ false }
     ensures served { ServesOver (standpoint K.Keeper engine.old) (standpoint K.Keeper engine.new) now (called (view id.now) (call_view call.now)) (text_of result) }
+    ensures causes { TellsSome (models_at (standpoint K.Keeper engine.old)) (KeeperRose (standpoint K.Keeper engine.old) (standpoint K.Keeper engine.new)) (text_of result) }
     ensures others { OthersStay engine.old.held.models (K.kept engine.old.keeper.now) (K.kept engine.new.keeper.now) }
     ensures rests { IsAtRest engine.old.held.models engine.new.held }
     ensures lender { engine.new.keeper.ghost_name ≡ engine.old.keeper.ghost_name }
@@ -167,6 +168,7 @@ fn serve_reading<K: Keeper, L: Ledger>(
     requires id { has_float (view id.now) ≡ false }
     ensures served { ServesOver (standpoint K.Keeper engine.old) (standpoint K.Keeper engine.new) call.entry.now.now
         (called (view id.now) (handed_view (Method.Reads method) call.entry.now)) (text_of result) }
+    ensures causes { TellsSome (models_at (standpoint K.Keeper engine.old)) (KeeperRose (standpoint K.Keeper engine.old) (standpoint K.Keeper engine.new)) (text_of result) }
     ensures others { OthersStay engine.old.held.models (K.kept engine.old.keeper.now) (K.kept engine.new.keeper.now) }
     ensures rests { IsAtRest engine.old.held.models engine.new.held }
     ensures lender { engine.new.keeper.ghost_name ≡ engine.old.keeper.ghost_name }
@@ -193,6 +195,7 @@ fn serve_writing<K: Keeper, L: Ledger>(
     requires id { has_float (view id.now) ≡ false }
     ensures served { ServesOver (standpoint K.Keeper engine.old) (standpoint K.Keeper engine.new) call.entry.now.now
         (called (view id.now) (handed_view (Method.Writes method) call.entry.now)) (text_of result) }
+    ensures causes { TellsSome (models_at (standpoint K.Keeper engine.old)) (KeeperRose (standpoint K.Keeper engine.old) (standpoint K.Keeper engine.new)) (text_of result) }
     ensures others { OthersStay engine.old.held.models (K.kept engine.old.keeper.now) (K.kept engine.new.keeper.now) }
     ensures rests { IsAtRest engine.old.held.models engine.new.held }
     ensures lender { engine.new.keeper.ghost_name ≡ engine.old.keeper.ghost_name }
@@ -251,6 +254,7 @@ fn make<K: Keeper, L: Ledger>(
     match method {
         WriteMethod::Create => create(alloc, engine, call, steps),
         WriteMethod::Write => write(alloc, engine, call, steps),
+        WriteMethod::Unlink => unlink(alloc, engine, call, steps),
     }
 }
 
@@ -265,6 +269,7 @@ fn keep<K: Keeper>(alloc: Global, engine: &mut Engine<'_, K>, id: &Json, json: J
     ensures rests { IsAtRest engine.old.held.models engine.new.held }
     ensures lender { engine.new.keeper.ghost_name ≡ engine.old.keeper.ghost_name }
     ensures count { K.faults engine.old.keeper.now ≤ K.faults engine.new.keeper.now }
+    ensures causes { TellsSome (models_at (standpoint K.Keeper engine.old)) (KeeperRose (standpoint K.Keeper engine.old) (standpoint K.Keeper engine.new)) (text_of result) }
     ensures others { OthersStay engine.old.held.models (K.kept engine.old.keeper.now) (K.kept engine.new.keeper.now) }
 {
     let Ok(text) = reply_text(alloc, id, &Outcome::Result(json)) else {

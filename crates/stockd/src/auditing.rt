@@ -24,9 +24,9 @@ pub(crate) fn audited<K: Keeper, W: Sink>(
     schema: &Schema,
 ) -> Ending
     // Of a report on the rows that the keeper tells this was written, or nothing.
-    ensures told { (store : Store) (before : List ℕ) → K.kept keeper.old ≡ Some store → W.written output.old ≡ Some before
+    ensures told { (store : Store) → K.kept keeper.old ≡ Some store
         → (written : List ℕ) × TellsReport schema.now store (Rose (K.faults keeper.old) (K.faults keeper.new)) result written
-        × (W.written output.new ≡ Some (before ++ written)) }
+        × (W.written output.new ≡ option_map (λ before. before ++ written) (W.written output.old)) }
     ensures reason { HasReason ⊤ ⊥ (Rose (W.faults output.old) (W.faults output.new))
         (Rose (K.faults keeper.old) (K.faults keeper.new)) result }
     ensures same { K.kept keeper.new ≡ K.kept keeper.old }

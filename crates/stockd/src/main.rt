@@ -5,30 +5,34 @@
 //! status has a cause.
 //!
 //! Rooms: `run` has a whole run, over any objects; `words` says what it is asked for;
-//! `session` serves the lines of the input, `lines` cuts them, `request` reads what one asks
-//! for, `answer` answers it, and `places` says where it is wrong; `auditing` writes a report;
-//! `output` writes, and `ending` says how a run ends; `start` has the words of the command line
-//! and the host's things.
+//! `session` serves the lines of the input, `lines` cuts them; `serving` serves connections,
+//! and `connection` one of them; `request` reads what a body asks for, `answer` answers it, and
+//! `places` says where it is wrong; `auditing` writes a report; `output` writes, and `ending` says
+//! how a run ends; `start` has the words of the command line and the host's things.
 //! Nothing but `main` stands here.
 #![tactic(auto)]
 
 mod answer;
 mod auditing;
+mod connection;
 mod ending;
 mod lines;
 mod output;
 mod places;
 mod request;
 mod run;
+mod serving;
 mod session;
 mod start;
 #[cfg(test)]
 mod tests;
 mod words;
 
+pub use answer::{Reply, answer};
+pub use connection::serve_connection;
 pub use run::run;
 use std::process::ExitCode;
-pub use words::{Store, Usage, store_of};
+pub use words::{Store, Usage, address_of, store_of};
 
 fn main(rt: HostRuntime) -> ExitCode {
     ExitCode::from(start::started(&rt, &rt, &rt))

@@ -29,6 +29,7 @@ pub(crate) enum ReadMethod {
 pub(crate) enum WriteMethod {
     Create,
     Write,
+    Unlink,
 }
 
 /// A method of a model.
@@ -106,6 +107,8 @@ fn method_named(schema: &Schema, model: ModelNo, method: &Json) -> Option<Method
         Some(Method::Writes(WriteMethod::Create))
     } else if is_text(method, "write") && is_writable(schema, model) {
         Some(Method::Writes(WriteMethod::Write))
+    } else if is_text(method, "unlink") {
+        Some(Method::Writes(WriteMethod::Unlink))
     } else {
         None
     }

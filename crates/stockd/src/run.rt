@@ -1,23 +1,26 @@
 //! A run of the program, from its words to its status. What is done in which order stands
-//! here; what a session does is settled in `session`, and what modules mean in `ob_load`.
+//! here; what a session does is settled in `session`, what connections get in `serving`, and what
+//! modules mean in `ob_load`.
 
 ghost use Rattle.std.specs.Prelude.{◌≡◌, ◌≤◌, ◌⊎◌, ℕ, ℤ, List, Option, Some, ⊤, IfErr, IfOk, IfSome, option_map};
 ghost use Rattle.ob_cache.specs.Kept.{OthersStay};
 ghost use Rattle.ob_cache.specs.Opening.{ShowsField};
 ghost use Rattle.ob_io.specs.Cause.{Rose};
-ghost use Rattle.ob_load.specs.FaultText.{fault_text};
-ghost use Rattle.ob_load.specs.Loading.{IsLoaded};
-ghost use Rattle.ob_load.specs.Texts.{text_in};
+ghost use Rattle.ob_io.specs.Store.{Store};
+ghost use Rattle.ob_load.specs.Texts.{AgreesWith, FileTexts, text_in};
 ghost use Rattle.ob_schema.specs.Tables.{Tables};
 ghost use Rattle.stockd.specs.Ending.{HasReason, WritesLast, last_line, status_of};
-ghost use Rattle.stockd.specs.Program.{EndsAction, EndsAudit, EndsCall, HasCauses, KeepsOthers, Runs};
-ghost use Rattle.stockd.specs.Session.{Session, StandsAt, StandsFor, Start};
+ghost use Rattle.stockd.specs.Outside.{Doorway, doorway, outside, surroundings};
+ghost use Rattle.stockd.specs.Program.{AreLoadedBy, EndsAction, EndsAudit, EndsCall, EndsServe, HasCauses, IsUntouched, KeepsOthers, Runs};
+ghost use Rattle.stockd.specs.Reception.{Reception};
+ghost use Rattle.stockd.specs.Session.{Session, StandsFor};
 ghost use Rattle.stockd.specs.Store.{IsOpeningEnding, MayEndLoading, MayEndOpening, EndsLoading, EndsOpening, TellsFault};
 ghost use Rattle.stockd.specs.WordPieces.{command_view};
-ghost use Rattle.stockd.specs.Words.{Command as Asked, IsUsage, audit, command_of};
+ghost use Rattle.stockd.specs.Words.{Command as Asked, IsUsage, audit, command_of, serve};
 
 use crate::auditing::audited;
 use crate::ending::Ending;
+use crate::serving::serve_connections;
 use crate::session::serve_lines;
 use crate::words::{Action, Command, command_of};
 use ob_base::{NoMemory, Word};
@@ -39,7 +42,7 @@ pub fn run<F: Files, K: Keeper, S: Source, W: Sink, D: Door, C: Clock>(
     keeper: &mut K,
     input: &mut S,
     output: &mut W,
-    _door: &mut D,
+    door: &mut D,
     clock: &mut C,
 ) -> u8
     // Words that ask for nothing that is served: the usage line, and nothing else is touched.
@@ -47,58 +50,31 @@ pub fn run<F: Files, K: Keeper, S: Source, W: Sink, D: Door, C: Clock>(
         × WritesLast (Rose (W.faults output.old) (W.faults output.new))
         (W.written output.old) (W.written output.new) (last_line Ending.Usage) }
     ensures untouched { IsUsage words.now →
-        (files.new ≡ files.old) × (keeper.new ≡ keeper.old) × (input.new ≡ input.old) × (clock.new ≡ clock.old) }
+        (files.new ≡ files.old) × (keeper.new ≡ keeper.old) × (input.new ≡ input.old) × (door.new ≡ door.old) × (clock.new ≡ clock.old) }
 
-    // A command. `call`: the machine's replies to the bodies of the input, and its tables as kept
-    // rows. This is where the headline stands. `audit`: the report on the rows that are kept.
+    // A command, over a keeper that tells its rows. `call`: the machine's replies to the bodies of the
+    // input, and its tables as kept rows. This is where the headline stands. `serve`: the same for the
+    // messages of each connection, where the door and the clock tell theirs. `audit`: the report on the
+    // rows that are kept. Of each other object that tells what it holds, that agrees.
     ensures runs { (command : Asked) → command_of words.now ≡ Some command → Runs command
-        (record {
-          texts = F.texts files.old;
-          left = S.left input.old;
-          file_faults = F.faults files.old;
-          source_faults = S.faults input.old;
-          sink_faults = W.faults output.old;
-          standing = record { faults = K.faults keeper.old; kept = K.kept keeper.old; coming = C.coming clock.old; written = W.written output.old };
-        })
-        (record {
-          texts = F.texts files.new;
-          left = S.left input.new;
-          file_faults = F.faults files.new;
-          source_faults = S.faults input.new;
-          sink_faults = W.faults output.new;
-          standing = record { faults = K.faults keeper.new; kept = K.kept keeper.new; coming = C.coming clock.new; written = W.written output.new };
-        }) result }
+        (outside K.Keeper W.Sink C.Clock F.Files S.Source files.old keeper.old input.old output.old clock.old (doorway D.Door door.old))
+        (outside K.Keeper W.Sink C.Clock F.Files S.Source files.new keeper.new input.new output.new clock.new (doorway D.Door door.new)) result }
 
-    // Rows under numbers that no model has stay, also where the input tells nothing of itself.
-    ensures others { (command : Asked) → command_of words.now ≡ Some command
-        → IfSome (F.texts files.old) (λ texts. KeepsOthers command texts (K.kept keeper.old) (K.kept keeper.new)) }
+    // Rows under numbers that no model has stay.
+    ensures others { (command : Asked) → command_of words.now ≡ Some command → KeepsOthers command (F.texts files.old) (K.kept keeper.old) (K.kept keeper.new) }
 
-    // What files hold stays, and no run so far uses the door.
+    // What files hold stays, and no run but one that serves connections uses the door.
     ensures texts { F.texts files.new ≡ F.texts files.old }
-    ensures unused { _door.new ≡ _door.old }
+    ensures unused { (command : Asked) → command_of words.now ≡ Some command → (command.action ≡ serve → ⊥) → door.new ≡ door.old }
 
     // Each status has its cause, whatever the objects tell.
     ensures causes { HasCauses (command_of words.now)
-        (record {
-          texts = F.texts files.old;
-          left = S.left input.old;
-          file_faults = F.faults files.old;
-          source_faults = S.faults input.old;
-          sink_faults = W.faults output.old;
-          standing = record { faults = K.faults keeper.old; kept = K.kept keeper.old; coming = C.coming clock.old; written = W.written output.old };
-        })
-        (record {
-          texts = F.texts files.new;
-          left = S.left input.new;
-          file_faults = F.faults files.new;
-          source_faults = S.faults input.new;
-          sink_faults = W.faults output.new;
-          standing = record { faults = K.faults keeper.new; kept = K.kept keeper.new; coming = C.coming clock.new; written = W.written output.new };
-        }) result }
+        (outside K.Keeper W.Sink C.Clock F.Files S.Source files.old keeper.old input.old output.old clock.old (doorway D.Door door.old))
+        (outside K.Keeper W.Sink C.Clock F.Files S.Source files.new keeper.new input.new output.new clock.new (doorway D.Door door.new)) result }
 {
     match command_of(alloc, words) {
         Ok(Some(command)) => {
-            let ending = carried_out(alloc, &command, files, keeper, input, output, clock);
+            let ending = carried_out(alloc, &command, files, keeper, input, output, door, clock);
             finish(&ending, output)
         }
         Ok(None) => finish(&Ending::Usage, output),
@@ -118,23 +94,23 @@ fn finish<W: Sink>(ending: &Ending, output: &mut W) -> u8
 }
 
 /// Does what is asked for.
-fn carried_out<F: Files, K: Keeper, S: Source, W: Sink, C: Clock>(
+fn carried_out<F: Files, K: Keeper, S: Source, W: Sink, D: Door, C: Clock>(
     alloc: Global,
     command: &Command<'_>,
     files: &mut F,
     keeper: &mut K,
     input: &mut S,
     output: &mut W,
+    door: &mut D,
     clock: &mut C,
 ) -> Ending
-    ensures outcome { (start : Start) → F.texts files.old ≡ Some start.texts → StandsAt start (S.left input.old)
-        (record { faults = K.faults keeper.old; kept = K.kept keeper.old; coming = C.coming clock.old; written = W.written output.old })
-        → EndsAction (command_view command.now).action (command_view command.now) result start
-        (Rose (F.faults files.old) (F.faults files.new)) (Rose (S.faults input.old) (S.faults input.new)) (S.left input.new)
-        (record { faults = K.faults keeper.new; kept = K.kept keeper.new; coming = C.coming clock.new; written = W.written output.new }) }
-    ensures others { IfSome (F.texts files.old) (λ texts. KeepsOthers (command_view command.now) texts (K.kept keeper.old) (K.kept keeper.new)) }
+    ensures outcome { (store : Store) → K.kept keeper.old ≡ Some store → EndsAction (command_view command.now).action (command_view command.now) result store
+        (outside K.Keeper W.Sink C.Clock F.Files S.Source files.old keeper.old input.old output.old clock.old (doorway D.Door door.old))
+        (outside K.Keeper W.Sink C.Clock F.Files S.Source files.new keeper.new input.new output.new clock.new (doorway D.Door door.new)) }
+    ensures unused { ((command_view command.now).action ≡ serve → ⊥) → door.new ≡ door.old }
+    ensures others { KeepsOthers (command_view command.now) (F.texts files.old) (K.kept keeper.old) (K.kept keeper.new) }
     ensures reason { HasReason ((command_view command.now).action ≡ audit)
-        (Rose (F.faults files.old) (F.faults files.new) ⊎ Rose (S.faults input.old) (S.faults input.new))
+        (Rose (F.faults files.old) (F.faults files.new) ⊎ (Rose (S.faults input.old) (S.faults input.new) ⊎ Rose (D.next_faults door.old) (D.next_faults door.new)))
         (Rose (W.faults output.old) (W.faults output.new))
         (Rose (K.faults keeper.old) (K.faults keeper.new)) result }
     ensures texts { F.texts files.new ≡ F.texts files.old }
@@ -142,7 +118,51 @@ fn carried_out<F: Files, K: Keeper, S: Source, W: Sink, C: Clock>(
 {
     match command.action {
         Action::Call => call(alloc, command, files, keeper, input, output, clock),
+        Action::Serve => serve(alloc, command, files, keeper, door, clock),
         Action::Audit => audit(alloc, command, files, keeper, output),
+    }
+}
+
+/// Loads the modules, opens the store and serves the connections of the door.
+fn serve<F: Files, K: Keeper, D: Door, C: Clock>(
+    alloc: Global,
+    command: &Command<'_>,
+    files: &mut F,
+    keeper: &mut K,
+    door: &mut D,
+    clock: &mut C,
+) -> Ending
+    // Over a keeper, a door and a clock that tell what they hold: the loading or the opening stopped, or
+    // connections were served.
+    ensures outcome { (store : Store) (streams : List (List ℕ)) (moments : ℕ → ℤ) (left written : Option (List ℕ)) (source_faults sink_faults : ℕ) → K.kept keeper.old ≡ Some store
+        → D.coming door.old ≡ Some streams → C.coming clock.old ≡ Some moments
+        → EndsServe (command_view command.now) result store moments
+        (record {
+          texts = F.texts files.old;
+          left = left;
+          door = doorway D.Door door.old;
+          file_faults = F.faults files.old;
+          source_faults = source_faults;
+          sink_faults = sink_faults;
+          standing = record { faults = K.faults keeper.old; kept = K.kept keeper.old; coming = C.coming clock.old; written = written };
+        })
+        (record {
+          texts = F.texts files.new;
+          left = left;
+          door = doorway D.Door door.new;
+          file_faults = F.faults files.new;
+          source_faults = source_faults;
+          sink_faults = sink_faults;
+          standing = record { faults = K.faults keeper.new; kept = K.kept keeper.new; coming = C.coming clock.new; written = written };
+        }) }
+    ensures others { KeepsOthers (command_view command.now) (F.texts files.old) (K.kept keeper.old) (K.kept keeper.new) }
+    ensures reason { HasReason ⊥ (Rose (F.faults files.old) (F.faults files.new) ⊎ Rose (D.next_faults door.old) (D.next_faults door.new)) ⊥
+        (Rose (K.faults keeper.old) (K.faults keeper.new)) result }
+    ensures texts { F.texts files.new ≡ F.texts files.old }
+{
+    match loaded(alloc, files, command) {
+        Ok(schema) => received(alloc, keeper, door, clock, &schema, command.limit),
+        Err(ending) => ending,
     }
 }
 
@@ -154,11 +174,27 @@ fn audit<F: Files, K: Keeper, W: Sink>(
     keeper: &mut K,
     output: &mut W,
 ) -> Ending
-    // Over objects that tell what they hold: the loading stopped, or the rows were audited.
-    ensures outcome { (start : Start) (left : Option (List ℕ)) (coming : Option (ℕ → ℤ)) → F.texts files.old ≡ Some start.texts → StandsAt start left
-        (record { faults = K.faults keeper.old; kept = K.kept keeper.old; coming = coming; written = W.written output.old })
-        → EndsAudit (command_view command.now) result start (Rose (F.faults files.old) (F.faults files.new)) left
-        (record { faults = K.faults keeper.new; kept = K.kept keeper.new; coming = coming; written = W.written output.new }) }
+    // Over a keeper that tells its rows: the loading stopped, or the rows were audited.
+    ensures outcome { (store : Store) (left : Option (List ℕ)) (door : Doorway) (coming : Option (ℕ → ℤ)) (source_faults : ℕ) → K.kept keeper.old ≡ Some store
+        → EndsAudit (command_view command.now) result store
+        (record {
+          texts = F.texts files.old;
+          left = left;
+          door = door;
+          file_faults = F.faults files.old;
+          source_faults = source_faults;
+          sink_faults = W.faults output.old;
+          standing = record { faults = K.faults keeper.old; kept = K.kept keeper.old; coming = coming; written = W.written output.old };
+        })
+        (record {
+          texts = F.texts files.new;
+          left = left;
+          door = door;
+          file_faults = F.faults files.new;
+          source_faults = source_faults;
+          sink_faults = W.faults output.new;
+          standing = record { faults = K.faults keeper.new; kept = K.kept keeper.new; coming = coming; written = W.written output.new };
+        }) }
     ensures reason { HasReason ⊤ (Rose (F.faults files.old) (F.faults files.new))
         (Rose (W.faults output.old) (W.faults output.new))
         (Rose (K.faults keeper.old) (K.faults keeper.new)) result }
@@ -182,13 +218,11 @@ fn call<F: Files, K: Keeper, S: Source, W: Sink, C: Clock>(
     output: &mut W,
     clock: &mut C,
 ) -> Ending
-    // Over objects that tell what they hold: the loading or the opening stopped, or a session
-    // was served.
-    ensures outcome { (start : Start) → F.texts files.old ≡ Some start.texts → StandsAt start (S.left input.old)
-        (record { faults = K.faults keeper.old; kept = K.kept keeper.old; coming = C.coming clock.old; written = W.written output.old })
-        → EndsCall (command_view command.now) result start (Rose (F.faults files.old) (F.faults files.new)) (Rose (S.faults input.old) (S.faults input.new)) (S.left input.new)
-        (record { faults = K.faults keeper.new; kept = K.kept keeper.new; coming = C.coming clock.new; written = W.written output.new }) }
-    ensures others { IfSome (F.texts files.old) (λ texts. KeepsOthers (command_view command.now) texts (K.kept keeper.old) (K.kept keeper.new)) }
+    // Over a keeper that tells its rows: the loading or the opening stopped, or a session was served.
+    ensures outcome { (store : Store) (door : Doorway) → K.kept keeper.old ≡ Some store → EndsCall (command_view command.now) result store
+        (outside K.Keeper W.Sink C.Clock F.Files S.Source files.old keeper.old input.old output.old clock.old door)
+        (outside K.Keeper W.Sink C.Clock F.Files S.Source files.new keeper.new input.new output.new clock.new door) }
+    ensures others { KeepsOthers (command_view command.now) (F.texts files.old) (K.kept keeper.old) (K.kept keeper.new) }
     ensures reason { HasReason ⊥ (Rose (F.faults files.old) (F.faults files.new) ⊎ Rose (S.faults input.old) (S.faults input.new))
         (Rose (W.faults output.old) (W.faults output.new))
         (Rose (K.faults keeper.old) (K.faults keeper.new)) result }
@@ -203,9 +237,9 @@ fn call<F: Files, K: Keeper, S: Source, W: Sink, C: Clock>(
 
 /// The registry of the modules.
 fn loaded<F: Files>(alloc: Global, files: &mut F, command: &Command<'_>) -> Result<Schema, Ending>
-    ensures ok { IfOk result (λ schema. IfSome (F.texts files.old) (λ texts. IsLoaded (text_in texts command.now.folder.now) command.now.names schema)) }
-    ensures told { IfErr result (λ why. IfSome (F.texts files.old) (λ texts.
-        EndsLoading (text_in texts command.now.folder.now) command.now.names (Rose (F.faults files.old) (F.faults files.new)) why)) }
+    ensures ok { IfOk result (AreLoadedBy (command_view command.now) (F.texts files.old)) }
+    ensures told { IfErr result (λ why. (texts : FileTexts) × AgreesWith (F.texts files.old) texts
+        × EndsLoading (text_in texts command.now.folder.now) command.now.names (Rose (F.faults files.old) (F.faults files.new)) why) }
     ensures err { IfErr result (MayEndLoading (Rose (F.faults files.old) (F.faults files.new))) }
     ensures texts { F.texts files.new ≡ F.texts files.old }
 {
@@ -237,12 +271,10 @@ fn opened<K: Keeper, S: Source, W: Sink, C: Clock>(
     schema: &Schema,
 ) -> Ending
     // A store that doesn't stand for tables stops it; else it is a session.
-    ensures outcome { (start : Start) → StandsAt start (S.left input.old)
-        (record { faults = K.faults keeper.old; kept = K.kept keeper.old; coming = C.coming clock.old; written = W.written output.old })
-        → (EndsOpening schema.now start.store (Rose start.faults (K.faults keeper.new)) result × StandsAt (record start { faults = K.faults keeper.new }) (S.left input.new)
-        (record { faults = K.faults keeper.new; kept = K.kept keeper.new; coming = C.coming clock.new; written = W.written output.new }))
-        ⊎ ((first : Tables) × StandsFor schema.now first start.store × Session schema.now first result start (S.left input.new)
-        (record { faults = K.faults keeper.new; kept = K.kept keeper.new; coming = C.coming clock.new; written = W.written output.new })) }
+    ensures outcome { let before = surroundings K.Keeper W.Sink C.Clock keeper.old output.old clock.old in let now = surroundings K.Keeper W.Sink C.Clock keeper.new output.new clock.new in
+        (store : Store) → K.kept keeper.old ≡ Some store
+        → (EndsOpening schema.now store (Rose (K.faults keeper.old) (K.faults keeper.new)) result × IsUntouched (S.left input.old) (S.left input.new) before now)
+        ⊎ ((first : Tables) × StandsFor schema.now first store × Session schema.now first result (S.left input.old) (S.left input.new) before now) }
     ensures reason { HasReason ⊥ (Rose (S.faults input.old) (S.faults input.new))
         (Rose (W.faults output.old) (W.faults output.new))
         (Rose (K.faults keeper.old) (K.faults keeper.new)) result }
@@ -252,6 +284,37 @@ fn opened<K: Keeper, S: Source, W: Sink, C: Clock>(
     match Engine::begin(alloc, &mut *keeper, schema, CAPACITY) {
         Ok(mut engine) => {
             let ending = serve_lines(alloc, &mut engine, input, output, clock);
+            // What the keeper tells is known where it is given back.
+            engine.close();
+            ending
+        }
+        Err(unopened) => opening_fault(alloc, schema, unopened.fault),
+    }
+}
+
+/// Opens the store and serves the connections of the door, at most so many of them.
+fn received<K: Keeper, D: Door, C: Clock>(
+    alloc: Global,
+    keeper: &mut K,
+    door: &mut D,
+    clock: &mut C,
+    schema: &Schema,
+    most: u32,
+) -> Ending
+    // A store that doesn't stand for tables stops it; else connections are served.
+    ensures outcome { (store : Store) (streams : List (List ℕ)) (moments : ℕ → ℤ) (written : Option (List ℕ)) → K.kept keeper.old ≡ Some store
+        → D.coming door.old ≡ Some streams → C.coming clock.old ≡ Some moments
+        → (EndsOpening schema.now store (Rose (K.faults keeper.old) (K.faults keeper.new)) result × (K.kept keeper.new ≡ K.kept keeper.old) × (C.coming clock.new ≡ C.coming clock.old)
+        × (doorway D.Door door.new ≡ doorway D.Door door.old))
+        ⊎ ((first : Tables) × StandsFor schema.now first store × Reception schema.now first result most moments (doorway D.Door door.old) (doorway D.Door door.new)
+        (record { faults = K.faults keeper.old; kept = K.kept keeper.old; coming = C.coming clock.old; written = written })
+        (record { faults = K.faults keeper.new; kept = K.kept keeper.new; coming = C.coming clock.new; written = written })) }
+    ensures reason { HasReason ⊥ (Rose (D.next_faults door.old) (D.next_faults door.new)) ⊥ (Rose (K.faults keeper.old) (K.faults keeper.new)) result }
+    ensures others { OthersStay schema.now (K.kept keeper.old) (K.kept keeper.new) }
+{
+    match Engine::begin(alloc, &mut *keeper, schema, CAPACITY) {
+        Ok(mut engine) => {
+            let ending = serve_connections(alloc, &mut engine, door, clock, most);
             // What the keeper tells is known where it is given back.
             engine.close();
             ending

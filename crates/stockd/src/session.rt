@@ -13,8 +13,9 @@ ghost use Rattle.ob_io.specs.Cause.{HasCause, Rose};
 ghost use Rattle.ob_schema.specs.Tables.{Tables};
 ghost use Rattle.stockd.specs.Ending.{IsSessionEnding};
 ghost use Rattle.stockd.specs.Lines.{is_blank_line, bodies_of};
-ghost use Rattle.stockd.specs.Session.{Start, StandsAt, Session, WritesReplies, reply_lines};
-ghost use Rattle.stockd.specs.SessionSteps.{HasRead, HasReadTo, StopsReading, GoesOn, ServesMore, StopsAt};
+ghost use Rattle.stockd.specs.Outside.{engaged, surroundings};
+ghost use Rattle.stockd.specs.Session.{Session, WritesReplies, reply_lines};
+ghost use Rattle.stockd.specs.SessionSteps.{Beginning, Ends, HasRead, HasReadTo, StopsReading, GoesOn, ServesMore, StopsAt};
 
 use crate::answer::answer;
 use crate::ending::Ending;
@@ -34,12 +35,10 @@ pub(crate) fn serve_lines<K: Keeper, S: Source, W: Sink, C: Clock>(
     clock: &mut C,
 ) -> Ending
     requires rest { IsAtRest engine.old.held.models engine.old.held }
-    // Over an engine that rests at tables, and objects that tell what they hold, it is a run
-    // of the machine.
-    ensures session { (start : Start) (first : Tables) → StandsAt start (S.left input.old)
-        (record { faults = K.faults engine.old.keeper.now; kept = K.kept engine.old.keeper.now; coming = C.coming clock.old; written = W.written output.old })
-        → RestsAt (K.kept engine.old.keeper.now) engine.old.held first → Session engine.old.held.models first result start (S.left input.new)
-        (record { faults = K.faults engine.new.keeper.now; kept = K.kept engine.new.keeper.now; coming = C.coming clock.new; written = W.written output.new }) }
+    // Over an engine that rests at tables, where its keeper tells its rows, it is a run of the machine.
+    ensures session { (first : Tables) → RestsAt (K.kept engine.old.keeper.now) engine.old.held first
+        → Session engine.old.held.models first result (S.left input.old) (S.left input.new)
+        (surroundings K.Keeper W.Sink C.Clock engine.old.keeper.now output.old clock.old) (surroundings K.Keeper W.Sink C.Clock engine.new.keeper.now output.new clock.new) }
     ensures kind { IsSessionEnding result }
     ensures read_fault { result ≡ Ending.ReadFault → Rose (S.faults input.old) (S.faults input.new) }
     ensures write_fault { result ≡ Ending.WriteFault → Rose (W.faults output.old) (W.faults output.new) }
@@ -70,12 +69,9 @@ fn serve_next<K: Keeper, S: Source, W: Sink, C: Clock>(
 ) -> Option<Ending>
     requires rest { IsAtRest engine.old.held.models engine.old.held }
     // A session goes on, or ends.
-    ensures session { (start : Start) (first : Tables) → GoesOn start first reader.old (S.left input.old)
-        (record { held = engine.old.held; now = record { faults = K.faults engine.old.keeper.now; kept = K.kept engine.old.keeper.now; coming = C.coming clock.old; written = W.written output.old } })
-        → MatchOption result (GoesOn start first reader.new (S.left input.new)
-        (record { held = engine.new.held; now = record { faults = K.faults engine.new.keeper.now; kept = K.kept engine.new.keeper.now; coming = C.coming clock.new; written = W.written output.new } }))
-        (λ why. Session engine.old.held.models first why start (S.left input.new)
-        (record { faults = K.faults engine.new.keeper.now; kept = K.kept engine.new.keeper.now; coming = C.coming clock.new; written = W.written output.new })) }
+    ensures session { (from : Beginning) → GoesOn from reader.old (S.left input.old) (engaged K.Keeper W.Sink C.Clock engine.old output.old clock.old)
+        → MatchOption result (GoesOn from reader.new (S.left input.new) (engaged K.Keeper W.Sink C.Clock engine.new output.new clock.new))
+        (λ why. Ends engine.old.held.models from why (S.left input.new) (surroundings K.Keeper W.Sink C.Clock engine.new.keeper.now output.new clock.new)) }
     ensures rests { IsAtRest engine.old.held.models engine.new.held }
     ensures kind { IfSome result IsSessionEnding }
     ensures moved { IfNone result (reader.old.consumed < reader.new.consumed) }
@@ -132,11 +128,11 @@ fn serve_line<K: Keeper, W: Sink, C: Clock>(
 ) -> Result<(), Failed>
     requires rest { IsAtRest engine.old.held.models engine.old.held }
     ensures ok { OnOk result (ServesMore (bodies_of (line.now ∷ []))
-        (record { held = engine.old.held; now = record { faults = K.faults engine.old.keeper.now; kept = K.kept engine.old.keeper.now; coming = C.coming clock.old; written = W.written output.old } })
-        (record { held = engine.new.held; now = record { faults = K.faults engine.new.keeper.now; kept = K.kept engine.new.keeper.now; coming = C.coming clock.new; written = W.written output.new } })) }
+        (engaged K.Keeper W.Sink C.Clock engine.old output.old clock.old)
+        (engaged K.Keeper W.Sink C.Clock engine.new output.new clock.new)) }
     ensures err { OnErr result (StopsAt line.now
-        (record { held = engine.old.held; now = record { faults = K.faults engine.old.keeper.now; kept = K.kept engine.old.keeper.now; coming = C.coming clock.old; written = W.written output.old } })
-        (record { held = engine.new.held; now = record { faults = K.faults engine.new.keeper.now; kept = K.kept engine.new.keeper.now; coming = C.coming clock.new; written = W.written output.new } })) }
+        (engaged K.Keeper W.Sink C.Clock engine.old output.old clock.old)
+        (engaged K.Keeper W.Sink C.Clock engine.new output.new clock.new)) }
     ensures body { OnErr result (is_blank_line line.now ≡ false) }
     ensures cause { HasCause (W.faults output.old) (W.faults output.new) (IsErr result) }
     ensures rests { IsAtRest engine.old.held.models engine.new.held }
@@ -160,11 +156,11 @@ fn serve_body<K: Keeper, W: Sink, C: Clock>(
 ) -> Result<(), Failed>
     requires rest { IsAtRest engine.old.held.models engine.old.held }
     ensures ok { OnOk result (ServesMore (body.now ∷ [])
-        (record { held = engine.old.held; now = record { faults = K.faults engine.old.keeper.now; kept = K.kept engine.old.keeper.now; coming = C.coming clock.old; written = W.written output.old } })
-        (record { held = engine.new.held; now = record { faults = K.faults engine.new.keeper.now; kept = K.kept engine.new.keeper.now; coming = C.coming clock.new; written = W.written output.new } })) }
+        (engaged K.Keeper W.Sink C.Clock engine.old output.old clock.old)
+        (engaged K.Keeper W.Sink C.Clock engine.new output.new clock.new)) }
     ensures err { OnErr result (StopsAt body.now
-        (record { held = engine.old.held; now = record { faults = K.faults engine.old.keeper.now; kept = K.kept engine.old.keeper.now; coming = C.coming clock.old; written = W.written output.old } })
-        (record { held = engine.new.held; now = record { faults = K.faults engine.new.keeper.now; kept = K.kept engine.new.keeper.now; coming = C.coming clock.new; written = W.written output.new } })) }
+        (engaged K.Keeper W.Sink C.Clock engine.old output.old clock.old)
+        (engaged K.Keeper W.Sink C.Clock engine.new output.new clock.new)) }
     ensures cause { HasCause (W.faults output.old) (W.faults output.new) (IsErr result) }
     ensures rests { IsAtRest engine.old.held.models engine.new.held }
     ensures count { K.faults engine.old.keeper.now ≤ K.faults engine.new.keeper.now }

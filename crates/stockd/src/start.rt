@@ -12,17 +12,17 @@ ghost use Rattle.stockd.specs.Words.{IsUsage};
 
 use crate::ending::Ending;
 use crate::run::run;
-use crate::words::{Store, Usage, store_of};
+use crate::words::{Store, Usage, address_of, store_of};
 use ob_base::NoMemory;
-use ob_io::{DiskFiles, HostClock, Keeper, StdSink, StdSource, SureDoor, SureKeeper};
+use ob_io::{DiskFiles, HostClock, Keeper, StdSink, StdSource, SureKeeper, TcpDoor};
 use ob_sqlite::keeper_at;
 use std::alloc::Global;
 use std::io::{ErrorKind, Input};
 use std::rt::{Clock, Env, Files};
 use std::{env, io};
 
-/// Runs the program over this runtime and this disk, with the host for the file of a store, and
-/// answers the status that it ends with. Where memory is wanting before the run, its last line
+/// Runs the program over this runtime and this disk, with the host for the file of a store and for
+/// connections, and answers the status that it ends with. Where memory is wanting before the run, its last line
 /// and status are those of a run for which it is wanting.
 pub(crate) fn started<R: AllocGlobal + Env + Input + Print + Clock, D: Files + Drop>(
     rt: &R,
@@ -59,41 +59,43 @@ fn run_words<R: AllocGlobal + Input + Print + Clock, D: Files + Drop>(
 ) -> Result<u8, NoMemory>
     ensures status { IfOk result (λ status. (why : Ending) × (status ≡ status_of why)) }
     ensures other_words { IfOk result (λ status. IsUsage words.now → status ≡ 2) }
-    ensures call { IfOk result (λ status. status ≡ 2 → IsUsage words.now) }
+    ensures usage { IfOk result (λ status. status ≡ 2 → IsUsage words.now) }
 {
     let alloc = rt.alloc();
     match store_of(alloc, words) {
         Ok(Store::File(path)) => {
             let mut keeper = keeper_at(host, path.as_str());
-            let status = run_over(rt, disk, words, &mut keeper);
+            let status = run_over(rt, disk, host, words, &mut keeper);
             keeper.close();
             status
         }
         Ok(Store::Memory) | Err(Usage::Words) => {
             let mut keeper = SureKeeper::new(alloc, Vec::new(alloc), Vec::new(alloc))?;
-            run_over(rt, disk, words, &mut keeper)
+            run_over(rt, disk, host, words, &mut keeper)
         }
         Err(Usage::NoMemory) => Err(NoMemory),
     }
 }
 
-/// Runs over these words, the host's things and this keeper.
+/// Runs over these words, the host's things and this keeper. The port is bound only where
+/// connections are served.
 fn run_over<R: AllocGlobal + Input + Print + Clock, D: Files + Drop, K: Keeper>(
     rt: &R,
     disk: D,
+    host: &HostRuntime,
     words: &[String],
     keeper: &mut K,
 ) -> Result<u8, NoMemory>
     ensures status { IfOk result (λ status. (why : Ending) × (status ≡ status_of why)) }
     // Status 2 is that of words that ask for nothing that is served.
     ensures other_words { IfOk result (λ status. IsUsage words.now → status ≡ 2) }
-    ensures call { IfOk result (λ status. status ≡ 2 → IsUsage words.now) }
+    ensures usage { IfOk result (λ status. status ≡ 2 → IsUsage words.now) }
 {
     let alloc = rt.alloc();
     let mut files = DiskFiles::new(alloc, disk)?;
     let mut input = StdSource::new(rt)?;
     let mut output = StdSink::new(rt)?;
-    let mut door = SureDoor::new(alloc, Vec::new(alloc), 1, 0)?;
+    let mut door = TcpDoor::new(host, address_of(words).unwrap_or(0));
     let mut clock = HostClock::new(rt)?;
     Ok(run(
         alloc,

@@ -2,7 +2,7 @@
 //! the rules of docs/CALL.md, and the bytes of rows from those of docs/VALUES.md. Here are
 //! the worked requests; `causes` has each status, refusal and failing call, `opened` stores
 //! with rows, `audited` audits, `loaded` modules and words, `places` where a request is malformed,
-//! `writes` how rows are changed, `fields` what fields a model has, and `arguments` how optional
+//! `relations` models with relations and conditions, `writes` how rows are changed, `fields` what fields a model has, and `arguments` how optional
 //! arguments are given. `case` reads the pages, whose lines
 //! docs/CASES.md explains, with `modules` for their texts and `kept` for the store.
 

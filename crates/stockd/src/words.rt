@@ -2,9 +2,11 @@
 //! specs/Words; how they are read may be changed here.
 
 ghost use Rattle.std.specs.Prelude.{◌≡◌, IfOk, option_map};
-ghost use Rattle.stockd.specs.WordPieces.{HasNames, IsAsked, IsPlaceOf, action_view, parts_of, parts_with, piece_view, said_view, setting_view};
+ghost use Rattle.std.specs.Char.{is_ascii_digit};
+ghost use Rattle.std.specs.List.{list_all};
+ghost use Rattle.stockd.specs.WordPieces.{HasNames, IsAddressOf, IsCommandOf, IsPlaceOf, action_view, parts_of, parts_with, piece_view, said_view, setting_view};
 ghost use Rattle.stockd.specs.Words as spec;
-ghost use Rattle.stockd.specs.Words.{action_of, begun, is_path, option_piece, setting_of, valued};
+ghost use Rattle.stockd.specs.Words.{action_of, begun, is_number, is_path, limit_of, number_below, option_piece, port_of, setting_of, valued};
 
 use ob_base::{NoMemory, Sequence, Word};
 use ob_definition::is_field_name;
@@ -13,11 +15,25 @@ use std::alloc::Global;
 /// Where module texts are read from, where no other folder is named.
 const FOLDER: &str = "modules";
 
+/// The port of loopback at which connections come, where no other is named.
+const PORT: u16 = 8_069;
+
+/// How many connections are served at most, where no other number is named.
+const CONNECTIONS: u32 = 1_000_000;
+
+/// How many digits a port may have.
+const PORT_DIGITS: usize = 5;
+
+/// How many digits a number may have.
+const NUMBER_DIGITS: usize = 10;
+
 /// What a run does.
 #[derive(Clone, Copy, Debug, PartialEq, Eq)]
 pub(crate) enum Action {
     /// It serves the lines of the input.
     Call,
+    /// It serves connections.
+    Serve,
     /// It audits the rows that are kept.
     Audit,
 }
@@ -31,6 +47,10 @@ enum Setting {
     Load,
     /// The file of the store.
     Store,
+    /// The address at which connections come.
+    Listen,
+    /// How many connections are served at most.
+    Connections,
 }
 
 /// What one word says.
@@ -42,6 +62,8 @@ enum Piece<'a> {
     Folder(&'a str),
     Loads(&'a str),
     Keeps(&'a str),
+    Listens(u16),
+    Limits(u32),
 }
 
 /// What words said that may be said once.
@@ -50,6 +72,8 @@ struct Said<'a> {
     action: Option<Action>,
     folder: Option<&'a str>,
     file: Option<&'a str>,
+    port: Option<u16>,
+    limit: Option<u32>,
 }
 
 /// What a run is asked for.
@@ -62,6 +86,10 @@ pub(crate) struct Command<'a> {
     pub(crate) names: Sequence<Word>,
     /// The file of the store, where it isn't in memory.
     pub(crate) file: Option<&'a str>,
+    /// The port of loopback at which connections come.
+    pub(crate) port: u16,
+    /// How many connections are served at most.
+    pub(crate) limit: u32,
 }
 
 /// Where words have rows kept.
@@ -100,13 +128,23 @@ pub fn store_of(alloc: Global, words: &[String]) -> Result<Store, Usage>
     }
 }
 
+/// The port of 127.0.0.1 at which the words have connections come. It takes no memory.
+pub fn address_of(words: &[String]) -> Result<u16, Usage>
+    ensures { IsAddressOf words.now result }
+{
+    match said_by(words) {
+        Some(said) if said.action.is_some() => Ok(said.port.unwrap_or(PORT)),
+        _ => Err(Usage::Words),
+    }
+}
+
 /// What the words ask for; None where it is nothing that is served. Memory is wanted only
 /// where it is.
 pub(crate) fn command_of<'a>(
     alloc: Global,
     words: &'a [String],
 ) -> Result<Option<Command<'a>>, NoMemory>
-    ensures { IsAsked words.now result }
+    ensures { IsCommandOf words.now result }
 {
     let Some(said) = said_by(words) else {
         return Ok(None);
@@ -120,6 +158,8 @@ pub(crate) fn command_of<'a>(
         folder: said.folder.unwrap_or(FOLDER),
         names,
         file: said.file,
+        port: said.port.unwrap_or(PORT),
+        limit: said.limit.unwrap_or(CONNECTIONS),
     }))
 }
 
@@ -131,6 +171,8 @@ fn said_by<'a>(words: &'a [String]) -> Option<Said<'a>>
         action: None,
         folder: None,
         file: None,
+        port: None,
+        limit: None,
     };
     let mut waits = None;
     for word in words {
@@ -158,8 +200,16 @@ fn said_with<'a>(said: Said<'a>, piece: &Piece<'a>) -> Option<Said<'a>>
             file: Some(*text),
             ..said
         }),
-        Piece::Acts(_) | Piece::Folder(_) | Piece::Keeps(_) => None,
+        Piece::Listens(port) if said.port.is_none() => Some(Said {
+            port: Some(*port),
+            ..said
+        }),
+        Piece::Limits(most) if said.limit.is_none() => Some(Said {
+            limit: Some(*most),
+            ..said
+        }),
         Piece::Awaiting(_) | Piece::Loads(_) => Some(said),
+        _ => None,
     }
 }
 
@@ -207,6 +257,7 @@ fn action_of(name: &str) -> Option<Action>
 {
     match name {
         "call" => Some(Action::Call),
+        "serve" => Some(Action::Serve),
         "audit" => Some(Action::Audit),
         _ => None,
     }
@@ -230,6 +281,8 @@ fn setting_of(name: &str) -> Option<Setting>
         "--modules" => Some(Setting::Modules),
         "--load" => Some(Setting::Load),
         "--store" => Some(Setting::Store),
+        "--listen" => Some(Setting::Listen),
+        "--connections" => Some(Setting::Connections),
         _ => None,
     }
 }
@@ -244,7 +297,64 @@ fn valued<'a>(setting: Setting, text: &'a str) -> Option<Piece<'a>>
         Setting::Load if is_field_name(text) => Some(Piece::Loads(text)),
         Setting::Store if is_path(text) => Some(Piece::Keeps(text)),
         Setting::Modules | Setting::Load | Setting::Store => None,
+        Setting::Listen => Some(Piece::Listens(port_of(text)?)),
+        Setting::Connections => Some(Piece::Limits(limit_of(text)?)),
     }
+}
+
+/// The port of an address of loopback.
+fn port_of(text: &str) -> Option<u16>
+    ensures { result ≡ port_of text.now }
+{
+    match text.split_once(':') {
+        Some(("127.0.0.1", digits)) => port_number(digits),
+        _ => None,
+    }
+}
+
+/// How many connections are served at most.
+fn limit_of(text: &str) -> Option<u32>
+    ensures { result ≡ limit_of text.now }
+{
+    match count_number(text) {
+        Some(most) if most > 0 => Some(most),
+        _ => None,
+    }
+}
+
+/// The number of a port.
+fn port_number(text: &str) -> Option<u16>
+    ensures { result ≡ number_below 65536 5 text.now }
+{
+    if !is_number(text, PORT_DIGITS) {
+        return None;
+    }
+    text.parse().ok()
+}
+
+/// The number of a count.
+fn count_number(text: &str) -> Option<u32>
+    ensures { result ≡ number_below 4294967296 10 text.now }
+{
+    if !is_number(text, NUMBER_DIGITS) {
+        return None;
+    }
+    text.parse().ok()
+}
+
+/// Whether a text is decimal digits, so many at most and one at least.
+fn is_number(text: &str, most: usize) -> bool
+    ensures { result ≡ is_number most text.now }
+{
+    let digits = text.as_bytes();
+    !digits.is_empty() && digits.len() <= most && are_digits(digits)
+}
+
+/// Whether bytes are decimal digits alone.
+fn are_digits(bytes: &[u8]) -> bool
+    ensures { result ≡ list_all is_ascii_digit bytes.now }
+{
+    bytes.iter().all(|byte| byte.is_ascii_digit())
 }
 
 /// Whether a text may be a path: it is of a byte at least, and doesn't begin with a hyphen.
@@ -263,6 +373,6 @@ fn waits_of(piece: &Piece<'_>) -> Option<Setting>
 {
     match piece {
         Piece::Awaiting(setting) => Some(*setting),
-        Piece::Acts(_) | Piece::Folder(_) | Piece::Loads(_) | Piece::Keeps(_) => None,
+        _ => None,
     }
 }

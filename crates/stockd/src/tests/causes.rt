@@ -7,7 +7,7 @@ use std::test::Fail;
 
 const EACH_STATUS_AND_EACH_REFUSAL: &str = r#"
 == other words than the one action
-words serve
+words gen
 2 demo.line create [{}]
 < usage: stockd call|serve|audit|gen [options]
 status 2
@@ -292,7 +292,7 @@ status 0
 
 == a last line that can't be written leaves the status
 fail sink 1
-words serve
+words gen
 status 2
 words call --load none
 status 3

@@ -118,6 +118,54 @@ words CALL
 < usage: stockd call|serve|audit|gen [options]
 status 2
 
+== where connections come, and how many, is taken with every action
+words call --load demo --listen 127.0.0.1:0 --connections 1
+2 demo.line create [{}]
+= 1
+status 0
+words call --listen=127.0.0.1:65535 --connections=4294967295
+status 0
+words call --connections=0000000001 --listen=127.0.0.1:00080
+status 0
+
+== addresses and numbers that are none
+words call --listen 0.0.0.0:1
+< usage: stockd call|serve|audit|gen [options]
+status 2
+words call --listen 127.0.0.1
+< usage: stockd call|serve|audit|gen [options]
+status 2
+words call --listen 127.0.0.1:
+< usage: stockd call|serve|audit|gen [options]
+status 2
+words call --listen 127.0.0.1:65536
+< usage: stockd call|serve|audit|gen [options]
+status 2
+words call --listen 127.0.0.1:000001
+< usage: stockd call|serve|audit|gen [options]
+status 2
+words call --listen 127.0.0.1:+1
+< usage: stockd call|serve|audit|gen [options]
+status 2
+words call --connections 0
+< usage: stockd call|serve|audit|gen [options]
+status 2
+words call --connections 4294967296
+< usage: stockd call|serve|audit|gen [options]
+status 2
+words call --connections 00000000001
+< usage: stockd call|serve|audit|gen [options]
+status 2
+words call --connections -1
+< usage: stockd call|serve|audit|gen [options]
+status 2
+words serve --connections 1 --connections 1
+< usage: stockd call|serve|audit|gen [options]
+status 2
+words serve --listen 127.0.0.1:1 --listen=127.0.0.1:1
+< usage: stockd call|serve|audit|gen [options]
+status 2
+
 == a name of 64 bytes, and one of 65
 words call --load a234567890123456789012345678901234567890123456789012345678901234
 < module a234567890123456789012345678901234567890123456789012345678901234: Absent text

@@ -103,7 +103,7 @@ status 0
 ! Request malformed at params.args.3
 > {"id":2,"method":"call","params":{"service":"object","method":"execute_kw","args":["stock",2,"admin",5,5,0]}}
 ! Request malformed at params.args.3
-2 demo.line unlink 0,0
+2 demo.line search 0,0
 ! Request malformed at params.args.4
 2 demo.line create {},0
 ! Request malformed at params.args.5

@@ -43,8 +43,11 @@ module tag name = "tag"|[[model]]|name = "tag.tag"|unique = [["name", "kind"]]|[
 = 3
 2 tag.tag create [{"name":"a"}]
 = 4
+2 tag.tag create [{"name":"a","kind":"x"}]
+! Constraint.Unique tag.tag 1 name
 status 0
 kept tag.tag ids 1,2,3,4
+kept tag.tag next 5
 "#;
 
 #[test]
@@ -132,4 +135,78 @@ status 0
 #[test]
 fn links(rt: HostRuntime) -> Result<(), Fail> {
     play(&rt, rt.alloc(), LINKS)
+}
+
+const DELETIONS: &str = r#"
+== rows that go with others, and cells that are left
+words call --load del
+module del name = "del"|[[model]]|name = "del.a"|[model.field.name]|type = "char"
+  |[[model]]|name = "del.b"|[model.field.a_id]|type = "many2one"|relation = "del.a"|ondelete = "cascade"
+  |[[model]]|name = "del.c"|[model.field.b_id]|type = "many2one"|relation = "del.b"
+  |[[model]]|name = "del.d"|[model.field.a_id]|type = "many2one"|relation = "del.a"|ondelete = "restrict"
+2 del.a create [{}]
+= 1
+2 del.b create [{"a_id":1}]
+= 1
+2 del.b create [{"a_id":1}]
+= 2
+2 del.c create [{"b_id":2}]
+= 1
+2 del.d create [{"a_id":1}]
+= 1
+2 del.a unlink [[1]]
+! Constraint.Restrict del.d 1 a_id
+2 del.d unlink [1]
+= true
+2 del.a unlink [[2,1]]
+! Missing del.a 2 does not exist
+2 del.a unlink [[1]]
+= true
+2 del.b read [[1],[]]
+! Missing del.b 1 does not exist
+2 del.c read [[1],["b_id"]]
+= [{"b_id":false,"id":1}]
+2 del.a unlink [[0]]
+! Request malformed at params.args.5.0.0
+status 0
+kept del.a ids
+kept del.a next 2
+kept del.b ids
+kept del.c ids 1
+
+== a row of a tree, a value that must be there, and a lock
+words call --load bin
+module bin name = "bin"|[[model]]|name = "bin.place"|parent = "parent_id"|[model.field.parent_id]|type = "many2one"|relation = "bin.place"|ondelete = "cascade"
+  |[[model]]|name = "bin.item"|[model.field.place_id]|type = "many2one"|relation = "bin.place"|required = true
+  |[[model]]|name = "bin.seal"|locked = "level > 3"|[model.field.level]|type = "integer"
+2 bin.place create [{}]
+= 1
+2 bin.place create [{"parent_id":1}]
+= 2
+2 bin.place create [{"parent_id":2}]
+= 3
+2 bin.place create [{}]
+= 4
+2 bin.item create [{"place_id":4}]
+= 1
+2 bin.place unlink [[1,3]]
+= true
+2 bin.place unlink [[4]]
+! Constraint.Required bin.item 1 place_id
+2 bin.seal create [{"level":4}]
+= 1
+2 bin.seal create [{"level":3}]
+= 2
+2 bin.seal unlink [[2,1]]
+! Constraint.Locked bin.seal 1 id
+2 bin.seal unlink [[2]]
+= true
+status 0
+kept bin.place ids 4
+kept bin.seal ids 1
+"#;
+
+#[test]
+fn deletions(rt: HostRuntime) -> Result<(), Fail> {
+    play(&rt, rt.alloc(), DELETIONS)
 }

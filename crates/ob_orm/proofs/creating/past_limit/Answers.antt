@@ -1,10 +1,13 @@
-use Rattle.std.proofs.Common.{refl}
-use Rattle.ob_orm.proofs.CreateIds.{id_found, no_id}
+use Rattle.std.proofs.Common.{ap}
+use Rattle.ob_base.specs.declared.id.Cell.{Cell}
+use Rattle.ob_base.specs.declared.refusal.BrokenKind.TheVariants as kind
+use Rattle.ob_base.specs.declared.refusal.Refusal.TheVariants as refusal
 use Rattle.ob_orm.proofs.creating.past_limit.Goals as goal
-
-pub unreachable-requires : goal.unreachable-requires
-unreachable-requires c = no_id c.args.schema.now c.parts_fit_together.ensures c.args.model c.field.result c.requires.model c.field.ensures.named c.in_default.is
 
 pub returns : goal.returns
 returns c =
-    (c.in-Some.field, id_found c.args.schema.now c.parts_fit_together.ensures c.args.model c.field.result c.in-Some.field c.requires.model c.field.ensures.named c.in-Some.is, refl)
+    let says = c.id_cell.ensures in (
+      c.id_cell.result.field,
+      says.field,
+      ap (λ (cell : Cell). refusal.Constraint (record { kind = kind.Limit; cell = cell })) (λ i. record { model = says.row.0 i; id = says.row.1 i; field = c.id_cell.result.field }),
+    )

@@ -3,6 +3,7 @@ use Rattle.ob_cache.proofs.CallerLemmas.{called-anyhow}
 use Rattle.ob_cache.specs.Calls.{IsCalled, models_at, standpoint}
 use Rattle.ob_call.specs.Called.{called_by, result_view}
 use Rattle.ob_orm.specs.Create.{CreateCause, Creates}
+use Rattle.ob_orm.specs.Unlink.{UnlinkCause, Unlinks}
 use Rattle.ob_orm.specs.Write.{WriteCause, Writes}
 use Rattle.ob_schema.specs.Models.{model_at}
 use Rattle.stockd.proofs.AnswerLaws.{known, known_model, makes_as, of_each}
@@ -62,3 +63,30 @@ returns-in-Write-clause-same g c = let (info, is) = known_model _ c.requires.mod
 
 pub returns-in-Write-clause-count : goal.returns-in-Write-clause-count
 returns-in-Write-clause-count g c = let (info, is) = known_model _ c.requires.model in (known _ info _ is c.write.ensures.call).count
+
+pub returns-in-Unlink-clause-call : goal.returns-in-Unlink-clause-call
+returns-in-Unlink-clause-call g c =
+    let before = standpoint g.K.Keeper c.args.engine.now in
+    let after = standpoint g.K.Keeper c.unlink.new.engine in
+    let models = models_at before in
+    let call = c.args.call.now in
+    let result = result_view c.unlink.result in
+    makes_as before after call c.args.method writing.Unlink c.in-Unlink.is result
+    (of_each (model_at models call.model) (λ info. IsCalled (Unlinks models (called_by call info)) before after (UnlinkCause models (called_by call info)) result)
+    (λ info. IsCalled (Unlinks models (called_by call info)) before after (λ _. ⊤) result)
+    (λ info. called-anyhow (Unlinks models (called_by call info)) before after (UnlinkCause models (called_by call info)) result) c.unlink.ensures.call)
+
+pub returns-in-Unlink-clause-models : goal.returns-in-Unlink-clause-models
+returns-in-Unlink-clause-models g c = let (info, is) = known_model _ c.requires.model in (known _ info _ is c.unlink.ensures.call).rests.models_are
+
+pub returns-in-Unlink-clause-phase : goal.returns-in-Unlink-clause-phase
+returns-in-Unlink-clause-phase g c = let (info, is) = known_model _ c.requires.model in (known _ info _ is c.unlink.ensures.call).rests.phase_is
+
+pub returns-in-Unlink-clause-next_ids : goal.returns-in-Unlink-clause-next_ids
+returns-in-Unlink-clause-next_ids g c = let (info, is) = known_model _ c.requires.model in (known _ info _ is c.unlink.ensures.call).rests.next_ids
+
+pub returns-in-Unlink-clause-same : goal.returns-in-Unlink-clause-same
+returns-in-Unlink-clause-same g c = let (info, is) = known_model _ c.requires.model in (known _ info _ is c.unlink.ensures.call).same
+
+pub returns-in-Unlink-clause-count : goal.returns-in-Unlink-clause-count
+returns-in-Unlink-clause-count g c = let (info, is) = known_model _ c.requires.model in (known _ info _ is c.unlink.ensures.call).count

@@ -5,7 +5,7 @@ use Rattle.ob_base.specs.declared.refusal.Refusal.TheVariants as refusal
 use Rattle.ob_rpc.specs.Envelope.{element_place}
 use Rattle.stockd.specs.MethodCall.{call_view}
 use Rattle.stockd.specs.Request.{call_of, request_by}
-use Rattle.stockd.proofs.AnswerLaws.{element_serves, serves_same, tells_by}
+use Rattle.stockd.proofs.AnswerLaws.{element_serves, serves_same, tells_by, tells_some}
 use Rattle.stockd.proofs.answer.serve.Goals as goal
 
 pub returns-in-Ok-clause-served : goal.returns-in-Ok-clause-served
@@ -20,3 +20,9 @@ returns-in-Err-clause-served g c = λ tables rests.
     let found : call_of models (items_view c.args.envelope.now.args) ≡ Err c.in-Err.number = rw (← c.as_slice.ensures, ← c.schema.ensures) c.in-Err.ensures.found in
     rw found (element_serves models tables _ _ _ c.in-Err.number _ _ _ rests
     (tells_by models c.schema-in-Err.result.now _ (Err (refusal.Request (element_place c.in-Err.number))) _ c.schema-in-Err.ensures c.element_refused.ensures))
+
+pub returns-in-Err-clause-causes : goal.returns-in-Err-clause-causes
+returns-in-Err-clause-causes g c =
+    let models = c.args.engine.now.held.models in
+    let why = Err (refusal.Request (element_place c.in-Err.number)) in
+    tells_some models _ (view c.args.envelope.now.id) why _ tt (tells_by models c.schema-in-Err.result.now _ why _ c.schema-in-Err.ensures c.element_refused.ensures)

@@ -2,7 +2,7 @@ use Rattle.std.proofs.Common.{Err, ◌∙◌}
 use Rattle.serde_json.specs.View.{view}
 use Rattle.ob_cache.specs.Calls.{models_at, standpoint}
 use Rattle.stockd.specs.Texts.{told}
-use Rattle.stockd.proofs.AnswerLaws.{known, known_model, refused_writing_serves, tells_by, writing_serves}
+use Rattle.stockd.proofs.AnswerLaws.{known, known_model, refused_writing_serves, tells_by, tells_since, tells_some, told_cause, writing_serves}
 use Rattle.stockd.proofs.Counts.{Rose-earlier}
 use Rattle.stockd.proofs.answer.serve_writing.Goals as goal
 
@@ -21,3 +21,19 @@ returns-in-Err-clause-served g c =
     let is_called = known _ info _ is c.in-Err.ensures.call in
     refused_writing_serves before (standpoint g.K.Keeper c.make.new.engine) info c.args.call.now (view c.args.id.now) _ c.args.method is c.in-Err.refusal is_called
     (tells_by (models_at before) c.schema.result.now (view c.args.id.now) (told (Err c.in-Err.refusal)) _ (c.schema.ensures ∙ is_called.rests.models_are) c.call_refused.ensures)
+
+pub returns-in-Ok-clause-causes : goal.returns-in-Ok-clause-causes
+returns-in-Ok-clause-causes g c =
+    let before = standpoint g.K.Keeper c.args.engine.now in
+    let (info, is) = known_model _ c.requires.model in
+    let is_called = known _ info _ is c.in-Ok.ensures.call in
+    tells_since (models_at before) _ _ _ _ is_called.rests.models_are (Rose-earlier _ _ _ is_called.count) c.keep.ensures.causes
+
+pub returns-in-Err-clause-causes : goal.returns-in-Err-clause-causes
+returns-in-Err-clause-causes g c =
+    let before = standpoint g.K.Keeper c.args.engine.now in
+    let (info, is) = known_model _ c.requires.model in
+    let is_called = known _ info _ is c.in-Err.ensures.call in
+    let why = told (Err c.in-Err.refusal) in
+    tells_some (models_at before) _ (view c.args.id.now) why _ (told_cause _ c.in-Err.refusal is_called.causes)
+    (tells_by (models_at before) c.schema.result.now (view c.args.id.now) why _ (c.schema.ensures ∙ is_called.rests.models_are) c.call_refused.ensures)

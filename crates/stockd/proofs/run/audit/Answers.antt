@@ -1,8 +1,19 @@
 -- The modules were loaded, and what of the report was written follows.
-use Rattle.std.proofs.Common.{refl}
-use Rattle.stockd.proofs.WholeCall.{ends_audited}
+use Rattle.std.proofs.Common.{inl, inr, refl}
 use Rattle.stockd.proofs.run.audit.Goals as goal
 
 pub returns-in-Ok-clause-outcome : goal.returns-in-Ok-clause-outcome
-returns-in-Ok-clause-outcome g c = λ start left coming told at.
-    ends_audited _ _ start _ left _ _ c.in-Ok.schema _ told c.in-Ok.ensures.ok (c.audited.ensures.told start.store start.written at.kept_is at.written_is) c.audited.ensures.same refl at
+returns-in-Ok-clause-outcome g c = λ store left door coming source_faults kept.
+    let (written, tells, now) = c.audited.ensures.told store kept in
+    inr (record {
+      models = c.in-Ok.schema;
+      loaded = c.in-Ok.ensures.ok;
+      written = written;
+      tells = tells;
+      same = record { left = refl; kept = c.audited.ensures.same; coming = refl; written = now };
+    })
+
+pub returns-in-Err-clause-outcome : goal.returns-in-Err-clause-outcome
+returns-in-Err-clause-outcome g c = λ store left door coming source_faults kept.
+    let (texts, agrees, stops) = c.in-Err.ensures.told in
+    inl (record { texts = texts; agrees = agrees; stops = stops; same = record { left = refl; kept = refl; coming = refl; written = refl } })

@@ -9,7 +9,7 @@ returns-in-Ok-clause-others g c =
     others_served g.K.Keeper.faults g.K.Keeper.kept _ _ _ _ c.serve_lines-ending.new.engine.keeper.now _ (search rules) opened.rests.models_are opened.same c.serve_lines-ending.ensures.others
 
 pub returns-in-Ok-clause-outcome : goal.returns-in-Ok-clause-outcome
-returns-in-Ok-clause-outcome g c = λ start at.
+returns-in-Ok-clause-outcome g c = λ store kept.
     let opened = c.in-Ok.ensures in
-    inr (opening_served g.K.Keeper.faults g.K.Keeper.kept _ c.in-Ok.engine.held start _ _ _ _ _ _ _ c.in-Ok.engine.keeper.now c.serve_lines-ending.new.engine.keeper.now _ _ (search rules)
-    opened.rests.models_are opened.stands opened.same opened.count c.serve_lines-ending.ensures.session at)
+    inr (opening_served g.K.Keeper.faults g.K.Keeper.kept _ c.in-Ok.engine.held store _ _ _ _ _ _ _ c.in-Ok.engine.keeper.now c.serve_lines-ending.new.engine.keeper.now _ _ (search rules)
+    opened.rests.models_are opened.stands opened.same opened.count c.serve_lines-ending.ensures.session kept)

@@ -1,12 +1,13 @@
 -- The last line comes after what the command did, and other words are told at once.
-use Rattle.std.proofs.Common.{◌≡◌, arith, sym}
+use Rattle.std.proofs.Common.{◌≡◌, ap, arith, refl, sym, ◌∙◌}
 use Rattle.stockd.specs.declared.ending.Ending.TheVariants as ending
 use Rattle.stockd.specs.WordPieces.{command_view}
+use Rattle.stockd.specs.Words.{Command}
 use Rattle.stockd.proofs.WholeCall.{no_command, no_room, not_begun}
 use Rattle.stockd.proofs.run.run.Goals as goal
 
 pub returns-in-Ok-Some-clause-runs : goal.returns-in-Ok-Some-clause-runs
-returns-in-Ok-Some-clause-runs g c = λ command is start texts at.
+returns-in-Ok-Some-clause-runs g c = λ command is store kept.
     let told = rw c.in-Ok-Some.field-0-is at c.in-Ok-Some.ensures in
     let same : command ≡ command_view c.in-Ok-Some.command = cc in
     record {
@@ -14,10 +15,16 @@ returns-in-Ok-Some-clause-runs g c = λ command is start texts at.
       status_is = c.finish.ensures.status;
       written = _;
       sink_faults = _;
-      done = rw same (c.carried_out-ending.ensures.outcome start texts at);
+      done = rw same (c.carried_out-ending.ensures.outcome store kept);
       since = c.carried_out-ending.ensures.output_count;
       last = c.finish.ensures.line;
     }
+
+pub returns-in-Ok-Some-clause-unused : goal.returns-in-Ok-Some-clause-unused
+returns-in-Ok-Some-clause-unused g c = λ command is other.
+    let told = rw c.in-Ok-Some.field-0-is at c.in-Ok-Some.ensures in
+    let same : command ≡ command_view c.in-Ok-Some.command = cc in
+    c.carried_out-ending.ensures.unused (λ serves. other (ap (λ (asked : Command). asked.action) same ∙ serves))
 
 pub returns-in-Ok-None-clause-causes : goal.returns-in-Ok-None-clause-causes
 returns-in-Ok-None-clause-causes g c =
@@ -25,12 +32,12 @@ returns-in-Ok-None-clause-causes g c =
     no_command _ _ _ _ c.finish-in-Ok-None.ensures.status (sym told)
 
 pub returns-in-Err-clause-runs : goal.returns-in-Err-clause-runs
-returns-in-Err-clause-runs g c = λ command is start texts at. record {
+returns-in-Err-clause-runs g c = λ command is store kept. record {
   why = ending.NoMemory;
   status_is = c.finish-in-Err.ensures.status;
   written = _;
   sink_faults = _;
-  done = not_begun command.action command start _ _ _ _ at;
+  done = not_begun command.action command store _ _ (record { left = refl; kept = refl; coming = refl; written = refl }) refl;
   since = omega arith;
   last = c.finish-in-Err.ensures.line;
 }

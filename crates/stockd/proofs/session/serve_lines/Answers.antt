@@ -4,11 +4,11 @@ use Rattle.stockd.proofs.Others.{others_same, others_on}
 use Rattle.stockd.proofs.session.serve_lines.Goals as goal
 
 pub returns-in_default-clause-session : goal.returns-in_default-clause-session
-returns-in_default-clause-session g c start first at rests = ends_at_once start first _ at rests
+returns-in_default-clause-session g c first rests = ends_at_once (record { left = _; now = _; first = first }) _ rests
 
 pub lines-init : goal.lines-init
 lines-init g c = record {
-  session = λ start first at rests. begins start first _ c.in-Ok.ensures at rests;
+  session = λ first rests. begins (record { left = _; now = _; first = first }) _ c.in-Ok.ensures rests;
   rests = c.requires.rest;
   input_count = omega arith;
   output_count = omega arith;
@@ -22,8 +22,8 @@ returns-in_default-clause-others g c = others_same _ _ _ refl
 
 -- the session went on to here, and ends
 pub returns-in-Some-clause-session : goal.returns-in-Some-clause-session
-returns-in-Some-clause-session g c start first at rests =
-    over_same c.lines.invariant.rests.models_are (c.in-Some.ensures.session start first (c.lines.invariant.session start first at rests))
+returns-in-Some-clause-session g c first rests =
+    over_same c.lines.invariant.rests.models_are (c.in-Some.ensures.session _ (c.lines.invariant.session first rests))
 
 -- the session went on to here, and goes on
 pub lines-preserved : goal.lines-preserved
@@ -31,7 +31,7 @@ lines-preserved g c =
     let so_far = c.lines.invariant in
     let said = c.in_default-serve_next.ensures in
     record {
-      session = λ start first at rests. said.session start first (so_far.session start first at rests);
+      session = λ first rests. said.session _ (so_far.session first rests);
       rests = rest_on so_far.rests said.rests;
       input_count = omega (arith, so_far.input_count, said.input_count);
       output_count = omega (arith, so_far.output_count, said.output_count);

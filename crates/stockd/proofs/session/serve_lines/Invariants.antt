@@ -3,19 +3,15 @@ use Rattle.ob_base.specs.Limits.{max_input_bytes}
 use Rattle.ob_cache.specs.Kept.{OthersStay}
 use Rattle.ob_cache.specs.Standing.{IsAtRest, RestsAt}
 use Rattle.ob_schema.specs.Tables.{Tables}
-use Rattle.stockd.specs.Session.{Start, StandsAt}
+use Rattle.stockd.specs.Outside.{engaged, surroundings}
 use Rattle.stockd.specs.SessionSteps.{GoesOn}
 use Rattle.stockd.proofs.session.serve_lines.Given as goal
 
 abbrev pub invariant-lines : goal.invariant-lines
 invariant-lines g l = record {
-  session : (start : Start) (first : Tables) → StandsAt start (g.S.Source.left l.fn.input)
-      (record { faults = g.K.Keeper.faults l.fn.engine.keeper.now; kept = g.K.Keeper.kept l.fn.engine.keeper.now; coming = g.C.Clock.coming l.fn.clock; written = g.W.Sink.written l.fn.output })
-      → RestsAt (g.K.Keeper.kept l.fn.engine.keeper.now) l.fn.engine.held first → GoesOn start first l.reader (g.S.Source.left l.input)
-      (record {
-        held = l.engine.held;
-        now = record { faults = g.K.Keeper.faults l.engine.keeper.now; kept = g.K.Keeper.kept l.engine.keeper.now; coming = g.C.Clock.coming l.clock; written = g.W.Sink.written l.output };
-      });
+  session : (first : Tables) → RestsAt (g.K.Keeper.kept l.fn.engine.keeper.now) l.fn.engine.held first
+      → GoesOn (record { left = g.S.Source.left l.fn.input; now = surroundings g.K.Keeper g.W.Sink g.C.Clock l.fn.engine.keeper.now l.fn.output l.fn.clock; first = first })
+      l.reader (g.S.Source.left l.input) (engaged g.K.Keeper g.W.Sink g.C.Clock l.engine l.output l.clock);
   rests : IsAtRest l.fn.engine.held.models l.engine.held;
   input_count : g.S.Source.faults l.fn.input ≤ g.S.Source.faults l.input;
   output_count : g.W.Sink.faults l.fn.output ≤ g.W.Sink.faults l.output;

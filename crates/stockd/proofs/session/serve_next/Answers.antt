@@ -4,8 +4,8 @@ use Rattle.stockd.proofs.Others.{others_same}
 use Rattle.stockd.proofs.session.serve_next.Goals as goal
 
 pub returns-in-Err-clause-session : goal.returns-in-Err-clause-session
-returns-in-Err-clause-session g c start first h =
-    ends_reading h c.in-Err.ending (c.in-Err.ensures.end start.stream h.lines h.read) c.in-Err.ensures.whole_replies
+returns-in-Err-clause-session g c from h =
+    ends_reading h c.in-Err.ending c.in-Err.ensures.end c.in-Err.ensures.whole_replies
 
 pub returns-in-Err-clause-kind : goal.returns-in-Err-clause-kind
 returns-in-Err-clause-kind g c = session_ending c.in-Err.ending c.in-Err.ensures.whole_replies
@@ -18,21 +18,21 @@ pub returns-in-Err-clause-others : goal.returns-in-Err-clause-others
 returns-in-Err-clause-others g c = others_same _ _ _ refl
 
 pub returns-then-is_err-clause-session : goal.returns-then-is_err-clause-session
-returns-then-is_err-clause-session g c start first h =
+returns-then-is_err-clause-session g c from h =
     let failed = sym c.if-is_err.ensures.value in
     let said = c.serve_line.ensures in
     let stops = rw c.line.ensures at (err_holds c.serve_line.result failed said.err) in
     let body = rw c.line.ensures at (err_holds c.serve_line.result failed said.body) in
-    over_same said.rests.models_are (ends_writing h c.in-Ok.whole c.next_line.new.reader c.next_line.new.reader.line _ (c.in-Ok.ensures.line start.stream h.lines h.read) body stops)
+    over_same said.rests.models_are (ends_writing h c.in-Ok.whole c.next_line.new.reader c.next_line.new.reader.line _ c.in-Ok.ensures.line body stops)
 
 pub returns-then-whole-clause-session : goal.returns-then-whole-clause-session
-returns-then-whole-clause-session g c start first h =
-    let read = rw c.if-whole.true at (c.in-Ok.ensures.line start.stream h.lines h.read) in
+returns-then-whole-clause-session g c from h =
+    let read = rw c.if-whole.true at c.in-Ok.ensures.line in
     let serves = rw c.line.ensures at (ok_holds c.serve_line.result (sym c.if-is_err.ensures.value) c.serve_line.ensures.ok) in
     goes_on h c.next_line.new.reader.line _ read serves
 
 pub returns-else-whole-clause-session : goal.returns-else-whole-clause-session
-returns-else-whole-clause-session g c start first h =
-    let read = rw c.if-whole.false at (c.in-Ok.ensures.line start.stream h.lines h.read) in
+returns-else-whole-clause-session g c from h =
+    let read = rw c.if-whole.false at c.in-Ok.ensures.line in
     let serves = rw c.line.ensures at (ok_holds c.serve_line.result (sym c.if-is_err.ensures.value) c.serve_line.ensures.ok) in
     over_same c.serve_line.ensures.rests.models_are (ends_at_end h c.next_line.new.reader.line _ read serves)

@@ -3,8 +3,8 @@ use Rattle.std.proofs.lemmas.List.{take_more, take_all}
 use Rattle.ob_cache.proofs.CallerLemmas.{stays-then}
 use Rattle.ob_call.proofs.CallerLemmas.{least_of}
 use Rattle.ob_orm.proofs.WriteMissing.{IsSeeking-all, IsSeeking-gap, IsSeeking-none, IsSeeking-there}
-use Rattle.ob_orm.proofs.writing.missing_id.Goals as goal
-use Rattle.ob_orm.proofs.writing.missing_id.Goals.{then-not-there, else-not-there}
+use Rattle.ob_orm.proofs.there.missing_id.Goals as goal
+use Rattle.ob_orm.proofs.there.missing_id.Goals.{then-not-there, else-not-there}
 
 pub loop-id-init : goal.loop-id-init
 loop-id-init g c = (IsSeeking-none (g.K.Keeper.kept c.args.engine.now.keeper.now) c.args.engine.now.held c.args.model, search rules, refl)

@@ -1,6 +1,6 @@
 use Rattle.std.proofs.Common.{◌≡◌, ◌≤◌, take}
 use Rattle.ob_orm.proofs.WriteMissing.{IsSeeking}
-use Rattle.ob_orm.proofs.writing.missing_id.Given as goal
+use Rattle.ob_orm.proofs.there.missing_id.Given as goal
 
 abbrev pub invariant-loop-id : goal.invariant-loop-id
 invariant-loop-id g l =

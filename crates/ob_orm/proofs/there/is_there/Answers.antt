@@ -1,6 +1,6 @@
 use Rattle.ob_cache.specs.Stages.{resting}
 use Rattle.ob_orm.proofs.WriteMissing.{fault_refuses}
-use Rattle.ob_orm.proofs.writing.is_there.Goals as goal
+use Rattle.ob_orm.proofs.there.is_there.Goals as goal
 
 pub returns-in-Ok-clause-told : goal.returns-in-Ok-clause-told
 returns-in-Ok-clause-told g c = λ tables rests. c.in-Ok.ensures.there (resting c.args.engine.now.held.models tables) rests

@@ -1,0 +1,62 @@
+//! Which of the rows that a call names are there.
+
+ghost use Rattle.std.specs.Prelude.{◌≡◌, ◌≤◌, Contains, IfErr, IfOk, IfSome, is_some};
+ghost use Rattle.ob_cache.specs.Calls.{Refuses};
+ghost use Rattle.ob_cache.specs.Standing.{RestsAt, Stays};
+ghost use Rattle.ob_cache.specs.declared.stages.Phase.TheVariants as phase;
+ghost use Rattle.ob_io.specs.Cause.{Rose};
+ghost use Rattle.ob_orm.specs.WriteSteps.{MissesOnly};
+ghost use Rattle.ob_schema.specs.Models.{HasModel};
+ghost use Rattle.ob_schema.specs.Tables.{Tables, row_at};
+
+use crate::fault::keeper_refusal;
+use ob_base::{ModelNo, RecId, Refusal};
+use ob_cache::Engine;
+use ob_call::least;
+use ob_io::Keeper;
+
+/// The least of the ids that no row has.
+pub(crate) fn missing_id<K: Keeper>(
+    engine: &mut Engine<'_, K>,
+    model: ModelNo,
+    ids: &[u64],
+) -> Result<Option<u64>, Refusal>
+    requires model { HasModel engine.old.held.models model }
+    requires rest { engine.old.held.phase ≡ phase.Settled }
+    ensures told { IfOk result (λ missing. (tables : Tables) → RestsAt (K.kept engine.old.keeper.now) engine.old.held tables → MissesOnly model tables ids.now missing) }
+    ensures asked { IfOk result (λ missing. IfSome missing (Contains ids.now)) }
+    ensures causes { IfErr result (Refuses (Rose (K.faults engine.old.keeper.now) (K.faults engine.new.keeper.now)) (λ _. ⊥)) }
+    ensures same { Stays (K.kept engine.old.keeper.now) engine.old.held (K.kept engine.new.keeper.now) engine.new.held }
+    ensures count { K.faults engine.old.keeper.now ≤ K.faults engine.new.keeper.now }
+    ensures lender { engine.new.keeper.ghost_name ≡ engine.old.keeper.ghost_name }
+{
+    let mut missing = None;
+    for id in ids {
+        let there = is_there(engine, model, RecId(*id))?;
+        if !there {
+            missing = least(missing, *id);
+        }
+    }
+    Ok(missing)
+}
+
+/// Whether a row is there.
+fn is_there<K: Keeper>(
+    engine: &mut Engine<'_, K>,
+    model: ModelNo,
+    id: RecId,
+) -> Result<bool, Refusal>
+    requires model { HasModel engine.old.held.models model }
+    requires rest { engine.old.held.phase ≡ phase.Settled }
+    ensures told { IfOk result (λ there. (tables : Tables) → RestsAt (K.kept engine.old.keeper.now) engine.old.held tables
+        → there ≡ is_some (row_at tables model id)) }
+    ensures causes { IfErr result (Refuses (Rose (K.faults engine.old.keeper.now) (K.faults engine.new.keeper.now)) (λ _. ⊥)) }
+    ensures same { Stays (K.kept engine.old.keeper.now) engine.old.held (K.kept engine.new.keeper.now) engine.new.held }
+    ensures count { K.faults engine.old.keeper.now ≤ K.faults engine.new.keeper.now }
+    ensures lender { engine.new.keeper.ghost_name ≡ engine.old.keeper.ghost_name }
+{
+    match engine.has_row(model, id) {
+        Ok(there) => Ok(there),
+        Err(fault) => Err(keeper_refusal(fault)),
+    }
+}
