@@ -175,6 +175,12 @@ def requests(n):
     return "\n".join(lines)
 
 
+def searches(n, method, arguments):
+    """The same search so many times."""
+    return "\n".join('{"jsonrpc":"2.0","method":"call","params":{"service":"object","method":"execute_kw","args":["stock",2,"admin","demo.line","%s",%s]},"id":%d}' % (
+        method, arguments, k) for k in range(1, n + 1))
+
+
 def told(n):
     """Python's own reading and writing of the JSON values that the codec is given, so often each."""
     for text in TEXTS:
@@ -192,6 +198,9 @@ CALLS = {"admissions": lambda n: four(n, '[2,[1,4],"m.a",1,"read","row"]'), "rig
          "checked": checked, "chosen": chosen, "summed": summed, "small": small, "large": large, "modules": modules, "registry": registry,
          "takes": takes, "move_lines": move_lines, "pull_chain": pull_chain, "requests": requests,
          "chains": chains, "tree": tree, "fan": lambda n: priced(n, 1), "others": lambda n: priced(1000, n),
+         "found": lambda n: searches(n, "search", '[[["qty",">=",990]],0,false,"id"]'),
+         "ordered": lambda n: searches(n, "search", '[[],0,10,"price desc"]'),
+         "counted": lambda n: searches(n, "search_count", '[[["qty",">=",500],["price","<",250000]]]'),
          "row": lambda n: "times %d row %s" % (n, ROW), "body": lambda n: "times %d body %s" % (n, ROW),
          "json": lambda n: "\n".join("times %d value %s %s" % (n, *it) for it in zip(("day", "name", "qty"), TEXTS)),
          "bytes": lambda n: str(len("".join(map(module, range(n)))))}

@@ -1,8 +1,13 @@
-"""Files of rows by python's sqlite3, for `run.sh store`: rows.py upserts PATH N keeps N rows of the
-length of a line's, a transaction each, in a new file; rows.py fill PATH N makes N of the one line
-that a store has."""
+"""Files of rows by python's sqlite3, for `run.sh store` and `run.sh search`: rows.py upserts PATH N
+keeps N rows of the length of a line's, a transaction each, in a new file; rows.py fill PATH N makes
+N of the one line that a store has; rows.py vary PATH N does so too, each with a quantity and a price
+of its own; rows.py ask N CALL TIMES asks SQLite, in memory, of so many such rows what a search of
+bench/lines.py asks, and prints the seconds of one."""
+import re
 import sqlite3
+import struct
 import sys
+import time
 
 UPSERT = "INSERT INTO kept(model, id, body) VALUES(?1, ?2, ?3) ON CONFLICT(model, id) DO UPDATE SET body = excluded.body"
 NEXT = "INSERT INTO counter(model, next) VALUES(?1, ?2) ON CONFLICT(model) DO UPDATE SET next = excluded.next"
@@ -30,4 +35,45 @@ def fill(path, count):
     rows.close()
 
 
-{"upserts": upserts, "fill": fill}[sys.argv[1]](sys.argv[2], int(sys.argv[3]))
+def figures(number):
+    """The quantity and the price of the line of this number."""
+    return number * 7919 % 1000, number * 104729 % 1000003
+
+
+def with_figures(body, number):
+    """The kept row of a line with them, and with the subtotal that they come to."""
+    qty, price = figures(number)
+    for name, value in ((b"qty", qty), (b"price", price), (b"subtotal", qty * price)):
+        field = bytes([len(name)]) + name + b"\x02"
+        body = re.sub(re.escape(field) + b"(?s:.{8})", lambda found: field + struct.pack(">q", value), body, count=1)
+    return body
+
+
+def vary(path, count):
+    with sqlite3.connect(path) as rows:
+        model, body = rows.execute("SELECT model, body FROM kept").fetchone()
+        rows.executemany(UPSERT, ((model, number, with_figures(body, number)) for number in range(1, count + 1)))
+        rows.execute(NEXT, (model, count + 1))
+    rows.close()
+
+
+# What SQLite is asked for each search of lines.py.
+QUERIES = {"found": "SELECT id FROM line WHERE qty >= 990 ORDER BY id",
+           "ordered": "SELECT id FROM line ORDER BY price DESC, id LIMIT 10",
+           "counted": "SELECT count(*) FROM line WHERE qty >= 500 AND price < 250000"}
+
+
+def ask(count, call, times):
+    rows = sqlite3.connect(":memory:")
+    rows.execute("CREATE TABLE line(id INTEGER PRIMARY KEY, qty INTEGER, price INTEGER) STRICT")
+    rows.executemany("INSERT INTO line VALUES(?1, ?2, ?3)", ((number, *figures(number)) for number in range(1, count + 1)))
+    began = time.perf_counter()
+    for _ in range(times):
+        rows.execute(QUERIES[call]).fetchall()
+    print((time.perf_counter() - began) / times)
+
+
+if sys.argv[1] == "ask":
+    ask(int(sys.argv[2]), sys.argv[3], int(sys.argv[4]))
+else:
+    {"upserts": upserts, "fill": fill, "vary": vary}[sys.argv[1]](sys.argv[2], int(sys.argv[3]))

@@ -8,11 +8,13 @@ set -euo pipefail
 top=$(cd "$(dirname "$0")/.." && pwd)
 
 # The size of what is asked, and how often (of codec the rows and the values, of http the small
-# requests and the bodies, of store the creates and the rows of a file that is opened).
+# requests and the bodies, of store the creates and the rows of a file that is opened, of search the
+# rows and the searches).
 table='
 name         program       size     times
 call         stockd        500      1
 store        stockd        500      100000
+search       stockd        100000   20
 codec        probe_values  5000000  1000000
 expr         probe_values  1        2000
 schema       probe_models  256      6
@@ -102,6 +104,19 @@ bench_store() {
     python3 "$top/bench/rows.py" fill "$work/many" "$times"
     awk -v n="$times" -v o="$(seconds /dev/null --store "$work/many")" -v a="$(timed "$program" audit --modules "$top/modules" --load demo --store "$work/many")" 'BEGIN {
         printf "%d rows: opened in %.2f s, audited in %.2f s\n", n, o, a }'
+}
+
+# The same searches of a file of rows, without what opening it takes, and of SQLite in memory.
+bench_search() {
+    local call opened
+    lines requests 1 | "$program" call --modules "$top/modules" --load demo --store "$work/many" >/dev/null
+    python3 "$top/bench/rows.py" vary "$work/many" "$size"
+    opened=$(seconds /dev/null --store "$work/many")
+    for call in found ordered counted; do
+        lines "$call" "$times" >"$work/searches"
+        awk -v what="$call" -v n="$size" -v m="$times" -v o="$opened" -v s="$(seconds "$work/searches" --store "$work/many")" -v p="$(python3 "$top/bench/rows.py" ask "$size" "$call" "$times")" 'BEGIN {
+            printf "%s: %.1f ms of %d rows; SQLite %.1f ms; ratio %.1f\n", what, (s - o) / m * 1000, n, p * 1000, (s - o) / m / p }'
+    done
 }
 
 bench_codec() {

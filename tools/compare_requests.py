@@ -4,12 +4,13 @@
 
 SEEDS is A-B or one number, and each seed gives a stream. PROFILE says of which state of the
 machine it is. `mixed` and `hostile` are of the one that knows the one caller and serves the models
-without relations and conditions alone, so requests on other models are left out; its rows are kept
-in a file, of which rows, links and next ids are compared too. `orm` is of the next state, which
-serves all models, and much that the program doesn't yet: of it are taken `read` and `fields_get` of
-named fields, `create` of one object of plain values, `write` of such values and `unlink`, as calls
-of the one caller, on models without parents. Prints what differs and how many streams do; the status is 1
-where one does.
+without relations and conditions alone, so requests on other models are left out, and each create of
+a list; its rows are kept in a file, of which rows, links and next ids are compared too. `orm` is of a
+later state, which serves all models, and much that the program doesn't yet: of it are taken `read`
+and `fields_get` of named fields, `search`, `search_count` and `search_read` that don't ask of moments
+(of which the machine has one alone), `create` of objects of plain values, `write` of such values and
+`unlink`, as calls of the one caller, on models without parents. Prints what differs and how many
+streams do; the status is 1 where one does.
 """
 import json
 import os
@@ -23,6 +24,7 @@ BEYOND = {"demo.client", "res.groups", "res.users"}
 # Fields that calls don't give (the machine names another refusal), or that come with users.
 SERVERS = {"id", "create_date", "write_date", "subtotal", "parent_path"}
 USERS = {"create_uid", "write_uid"}
+MOMENTS = {"create_date", "write_date"}
 
 
 def parts(line):
@@ -38,13 +40,14 @@ def parts(line):
 def unrelated(line):
     """The request, where it isn't of a model with relations, nor a call that that state doesn't serve."""
     found = parts(line)
-    unserved = found and any(method in found[2] for method in ("write", "unlink", "fields_get"))
-    return None if unserved or found and isinstance(found[3], str) and found[3] in RELATED else line
+    unserved = found and any(method in found[2] for method in ("write", "unlink", "fields_get", "search", "search_count", "search_read"))
+    several = found and "create" in found[2] and isinstance(argument(found[2], 0, "vals"), list)
+    return None if unserved or several or found and isinstance(found[3], str) and found[3] in RELATED else line
 
 
 def argument(elements, place, name):
     """What a call is given at a place or by a name."""
-    args, kw = elements[5], elements[6] if len(elements) > 6 else {}
+    args, kw = elements[5] if len(elements) > 5 else None, elements[6] if len(elements) > 6 else {}
     if isinstance(args, list) and len(args) > place:
         return args[place]
     return kw.get(name) if isinstance(kw, dict) else None
@@ -57,15 +60,17 @@ def is_served(model, elements):
         return False
     if method == "unlink":
         return True
+    if method in ("search", "search_count"):
+        return not any(name in text for name in (*BEYOND, *MOMENTS))
+    if method == "search_read" and any(name in text for name in MOMENTS):
+        return False
     if method == "fields_get":
         return argument(elements, 0, "allfields") not in (None, False, [])
     if "_ids" in text:
         return False
-    if method == "read":
+    if method in ("read", "search_read"):
         return bool(argument(elements, 1, "fields")) and isinstance(argument(elements, 1, "fields"), list)
-    if method not in ("create", "write") or any(f'"{name}"' in text for name in SERVERS):
-        return False
-    return method == "write" or not isinstance(argument(elements, 0, "vals"), list)
+    return method in ("create", "write") and not any(f'"{name}"' in text for name in SERVERS)
 
 
 def of_one_caller(line):
@@ -102,8 +107,8 @@ def main():
     oracle, program, seeds, count, profile = sys.argv[1:]
     first, _, last = seeds.partition("-")
     if profile == "orm":
-        # Of four requests about one is taken.
-        stage, count, take = "4", str(4 * int(count)), of_one_caller
+        # Of seven requests about two are taken.
+        stage, count, take = "5", str(7 * int(count) // 2), of_one_caller
         more = ["--dir", os.path.join(os.getcwd(), "modules"), "--load", "demo"]
     else:
         stage, take, more = "3", unrelated, ["--store"]

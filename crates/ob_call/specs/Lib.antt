@@ -5,4 +5,5 @@ pub mod Places
 pub mod Results
 pub mod Columns
 pub mod Called
+pub mod Context
 pub mod ArgumentsSteps

@@ -20,6 +20,7 @@ abbrev pub below_steps : Below → List PathStep
 below_steps below.Whole = []
 below_steps (below.Item number) = Item number ∷ []
 below_steps (below.Key name) = Key name.now ∷ []
+below_steps (below.Place place) = place
 
 -- the refusal tells this place, or want of memory
 abbrev pub IsMalformedAt : List PathStep → Refusal → Type 0

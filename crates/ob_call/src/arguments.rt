@@ -12,7 +12,7 @@ ghost use Rattle.ob_call.specs.Results.{IsResultOf};
 use crate::call::Json;
 use crate::form::Form;
 use crate::places::{Below, Spot, malformed, malformed_whole};
-use ob_base::Refusal;
+use ob_base::{NoMemory, Refusal};
 use serde_json::Map;
 use std::alloc::Global;
 
@@ -109,10 +109,11 @@ fn positioned<'a, F: Form>(
     ensures { IsResultOf (option_map given_of) result
         (positioned (spot_place spot.entry) (expected_of F.fault parameter.now) (view json.now)) }
 {
-    if is_absent(parameter, json) {
-        return Ok(None);
+    match is_absent(alloc, parameter, json) {
+        Ok(true) => Ok(None),
+        Ok(false) => judged(alloc, &parameter.form, spot, json),
+        Err(NoMemory) => Err(Refusal::NoMemory),
     }
-    judged(alloc, &parameter.form, spot, json)
 }
 
 /// An argument at a spot, where it is of its form.
@@ -125,27 +126,35 @@ fn judged<'a, F: Form>(
     ensures { IsResultOf (option_map given_of) result
         (judged (spot_place spot.entry) (view json.now) (F.fault form.now (view json.now))) }
 {
-    match form.fault(json) {
-        None => Ok(Some(Given { spot, json })),
-        Some(below) => Err(malformed(alloc, spot, below)),
+    match form.fault(alloc, json) {
+        Ok(None) => Ok(Some(Given { spot, json })),
+        Ok(Some(below)) => Err(malformed(alloc, spot, below)),
+        Err(NoMemory) => Err(Refusal::NoMemory),
     }
 }
 
 /// Whether an argument counts as not given: an optional one that is nothing.
-fn is_absent<F: Form>(parameter: &Parameter<F>, json: &Json) -> bool
-    ensures { result ≡ is_absent (expected_of F.fault parameter.now) (view json.now) }
+fn is_absent<F: Form>(
+    alloc: Global,
+    parameter: &Parameter<F>,
+    json: &Json,
+) -> Result<bool, NoMemory>
+    ensures { IfOk result (λ absent. absent ≡ is_absent (expected_of F.fault parameter.now) (view json.now)) }
 {
-    !parameter.required && is_nothing(&parameter.form, json)
+    if parameter.required {
+        return Ok(false);
+    }
+    is_nothing(alloc, &parameter.form, json)
 }
 
 /// Whether a value is `null`, or is `false` and that isn't of the form.
-fn is_nothing<F: Form>(form: &F, json: &Json) -> bool
-    ensures { result ≡ is_nothing (F.fault form.now) (view json.now) }
+fn is_nothing<F: Form>(alloc: Global, form: &F, json: &Json) -> Result<bool, NoMemory>
+    ensures { IfOk result (λ nothing. nothing ≡ is_nothing (F.fault form.now) (view json.now)) }
 {
     match json {
-        Json::Null => true,
-        Json::Bool(false) => form.fault(json).is_some(),
-        _ => false,
+        Json::Null => Ok(true),
+        Json::Bool(false) => Ok(form.fault(alloc, json)?.is_some()),
+        _ => Ok(false),
     }
 }
 
@@ -236,11 +245,10 @@ fn named<'a, F: Form>(
         (named name.now (view json.now) (expected_of F.fault parameter.now) (option_map given_of before.entry)) }
 {
     let spot = Spot::Name(name);
-    if is_absent(parameter, json) {
-        return Ok(before);
+    match is_absent(alloc, parameter, json) {
+        Ok(true) => Ok(before),
+        Ok(false) if before.is_some() => Err(malformed(alloc, spot, Below::Whole)),
+        Ok(false) => judged(alloc, &parameter.form, spot, json),
+        Err(NoMemory) => Err(Refusal::NoMemory),
     }
-    if before.is_some() {
-        return Err(malformed(alloc, spot, Below::Whole));
-    }
-    judged(alloc, &parameter.form, spot, json)
 }

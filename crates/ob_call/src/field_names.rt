@@ -9,8 +9,9 @@ ghost use Rattle.ob_call.specs.Places.{below_steps};
 use crate::call::Json;
 use crate::form::Form;
 use crate::places::Below;
-use ob_base::ModelNo;
+use ob_base::{ModelNo, NoMemory};
 use ob_schema::Schema;
+use std::alloc::Global;
 
 /// A list of texts, each the name of a field of the model.
 #[derive(Clone, Copy)]
@@ -25,10 +26,10 @@ impl Form for FieldNames<'_> {
 
     ghost fault = { λ names json. names_fault (fields_at names.schema.now names.model) json };
 
-    fn fault<'j>(&self, json: &'j Json) -> Option<Below<'j>> {
+    fn fault<'j>(&self, _alloc: Global, json: &'j Json) -> Result<Option<Below<'j>>, NoMemory> {
         match json {
-            Json::Array(items) => first_unknown(self.schema, self.model, items.as_slice()),
-            _ => Some(Below::Whole),
+            Json::Array(items) => Ok(first_unknown(self.schema, self.model, items.as_slice())),
+            _ => Ok(Some(Below::Whole)),
         }
     }
 }

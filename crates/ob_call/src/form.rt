@@ -1,7 +1,7 @@
 //! What the form of an argument is: it tells where a value breaks it. Forms that several
 //! calls share stand in `ids` and `field_names`; any other stands with its call.
 
-ghost use Rattle.std.specs.Prelude.{◌≡◌, List, Option, option_map};
+ghost use Rattle.std.specs.Prelude.{◌≡◌, List, Option, option_map, IfOk};
 ghost use Rattle.serde_json.specs.Data.{Data};
 ghost use Rattle.serde_json.specs.View.{view};
 ghost use Rattle.ob_base.specs.declared.place.PathStep.{PathStep};
@@ -9,6 +9,8 @@ ghost use Rattle.ob_call.specs.Places.{below_steps};
 
 use crate::call::Json;
 use crate::places::Below;
+use ob_base::NoMemory;
+use std::alloc::Global;
 
 /// The form of an argument. A call whose arguments have several forms makes them an enum,
 /// each variant by the form that it holds.
@@ -17,7 +19,8 @@ pub trait Form {
     /// the form.
     ghost fault: { Self → Data → Option (List PathStep) };
 
-    /// Where a value breaks the form first.
-    fn fault<'j>(&self, json: &'j Json) -> Option<Below<'j>>
-        ensures { option_map below_steps result ≡ fault self.now (view json.now) };
+    /// Where a value breaks the form first. A form that looks deep into a value takes memory
+    /// for the place.
+    fn fault<'j>(&self, alloc: Global, json: &'j Json) -> Result<Option<Below<'j>>, NoMemory>
+        ensures { IfOk result (λ told. option_map below_steps told ≡ fault self.now (view json.now)) };
 }

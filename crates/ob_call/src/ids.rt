@@ -25,8 +25,8 @@ impl Form for Ids {
 
     ghost fault = { λ _ json. ids_fault json };
 
-    fn fault<'j>(&self, json: &'j Json) -> Option<Below<'j>> {
-        ids_fault(json)
+    fn fault<'j>(&self, _alloc: Global, json: &'j Json) -> Result<Option<Below<'j>>, NoMemory> {
+        Ok(ids_fault(json))
     }
 }
 
@@ -39,8 +39,8 @@ impl Form for Unread {
 
     ghost fault = { λ _ _. None };
 
-    fn fault<'j>(&self, _json: &'j Json) -> Option<Below<'j>> {
-        None
+    fn fault<'j>(&self, _alloc: Global, _json: &'j Json) -> Result<Option<Below<'j>>, NoMemory> {
+        Ok(None)
     }
 }
 

@@ -6,13 +6,14 @@
 //! Rooms: `call` (what a call is handed), `places` (where an argument is wrong), `form`
 //! (what a form is), with the forms that several calls share in `ids` (any value too, and the
 //! ids that an argument names), `field_names` and `texts`; `columns` (the fields that an
-//! argument names); `arguments` (which argument stands where); `members` (of the objects that
-//! calls answer). The definitions stand in specs/.
+//! argument names); `arguments` (which argument stands where); `context` (which every call takes
+//! beside them); `members` (of the objects that calls answer). The definitions stand in specs/.
 #![tactic(auto)]
 
 mod arguments;
 mod call;
 mod columns;
+mod context;
 mod field_names;
 mod form;
 mod ids;
@@ -23,6 +24,7 @@ mod texts;
 pub use arguments::{Given, Parameter, arguments_of};
 pub use call::{Call, Json};
 pub use columns::named_fields;
+pub use context::active_test;
 pub use field_names::FieldNames;
 pub use form::Form;
 pub use ids::{Ids, Unread, id_of, least, named_ids};

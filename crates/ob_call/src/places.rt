@@ -15,13 +15,14 @@ pub enum Spot<'a> {
     Name(&'a str),
 }
 
-/// Where in an argument something is wrong: the whole of it, an item of a list from 0, or
-/// a key of an object.
-#[derive(Clone, Copy, Debug)]
+/// Where in an argument something is wrong: the whole of it, an item of a list from 0, a key
+/// of an object, or a place of any depth.
+#[derive(Debug, Drop)]
 pub enum Below<'a> {
     Whole,
     Item(usize),
     Key(&'a str),
+    Place(Place),
 }
 
 impl Spot<'_> {
@@ -85,6 +86,7 @@ fn place_below(alloc: Global, spot: Spot<'_>, below: Below<'_>) -> Result<Place,
         Below::Whole => {}
         Below::Item(number) => place.push(PathStep::Item(number as u64))?,
         Below::Key(name) => place.push_key(alloc, name)?,
+        Below::Place(further) => place.extend(alloc, &further)?,
     }
     Ok(place)
 }

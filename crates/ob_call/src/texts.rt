@@ -9,6 +9,8 @@ ghost use Rattle.ob_call.specs.Places.{below_steps};
 use crate::call::Json;
 use crate::form::Form;
 use crate::places::Below;
+use ob_base::NoMemory;
+use std::alloc::Global;
 
 /// A list of texts.
 #[derive(Clone, Copy, Debug)]
@@ -19,10 +21,10 @@ impl Form for Texts {
 
     ghost fault = { λ _ json. texts_fault json };
 
-    fn fault<'j>(&self, json: &'j Json) -> Option<Below<'j>> {
+    fn fault<'j>(&self, _alloc: Global, json: &'j Json) -> Result<Option<Below<'j>>, NoMemory> {
         match json {
-            Json::Array(items) => first_no_text(items.as_slice()),
-            _ => Some(Below::Whole),
+            Json::Array(items) => Ok(first_no_text(items.as_slice())),
+            _ => Ok(Some(Below::Whole)),
         }
     }
 }

@@ -1,7 +1,16 @@
+pub mod AccessForms
+pub mod AccessSteps
 pub mod Adding
 pub mod Circles
+pub mod DeclaredTo
+pub mod Declaring
+pub mod DocumentSteps
 pub mod Documents
+pub mod DomainTexts
+pub mod Entering
 pub mod Entries
+pub mod EntryParts
+pub mod GroupIds
 pub mod HeldTexts
 pub mod Loads
 pub mod ModuleTexts

@@ -1,6 +1,6 @@
 -- What is loaded, or what stands against it first.
-use Rattle.std.proofs.Common.{◌≡◌, ◌≢◌, inl, inr, ℕ, ◌<◌, List, [], length, Option, None, Some, Ok, Err, refl, sym, ap, subst, ◌∙◌}
-use Rattle.std.specs.Prelude.{option_map, slice_get}
+use Rattle.std.proofs.Common.{◌≡◌, ◌≢◌, inl, inr, ℕ, ◌<◌, List, [], length, Option, None, Some, Result, Ok, Err, refl, sym, ap, subst, ◌∙◌}
+use Rattle.std.specs.Prelude.{IfOk, option_map, slice_get}
 use Rattle.std.proofs.lemmas.Option.{same_Some}
 use Rattle.ob_base.specs.declared.place.PathStep.{PathStep}
 use Rattle.ob_definition.specs.Ranking.{rank}
@@ -9,9 +9,13 @@ use Rattle.ob_definition.specs.declared.definition.ModelDef.{ModelDef}
 use Rattle.ob_schema.specs.Built.{IsBuilt}
 use Rattle.ob_schema.specs.Faults.{IsFaultless, IsFirst}
 use Rattle.ob_schema.specs.declared.schema.Schema.{Schema}
+use Rattle.ob_access.specs.Policies.{PolicyData}
+use Rattle.ob_load.specs.Access.{declared_policy}
+use Rattle.ob_load.specs.AccessFaults.{access_fault}
 use Rattle.ob_load.specs.Dependencies.{IsCyclic, IsFirstCyclic, Takes}
 use Rattle.ob_load.specs.Loading.{AreTaken, IsFirstFault, IsLoaded, all_models, model_place, owner_of, wanted}
 use Rattle.ob_load.specs.Reading.{Module, ReadsTo, whole}
+use Rattle.ob_load.specs.declared.loading.Loaded.{Loaded}
 use Rattle.ob_load.specs.declared.fault.FaultyModule.{FaultyModule}
 use Rattle.ob_load.specs.declared.fault.LoadFault.{LoadFault}
 use Rattle.ob_load.specs.declared.fault.LoadFault.TheVariants as load
@@ -38,7 +42,7 @@ same-owner all a b m owner k entry first second same =
     (ap (λ (p : Module × ℕ). p.0) e, ap (λ (p : Module × ℕ). p.1) e)
 
 -- the name that stands at a number is that of the module there
-name-of : (modules : List Module) (number : ℕ) (m : Module) (name : List ℕ) → slice_get modules number ≡ Some m → option_map (λ (m : Module). m.name) (slice_get modules number) ≡ Some name → name ≡ m.name
+pub name-of : (modules : List Module) (number : ℕ) (m : Module) (name : List ℕ) → slice_get modules number ≡ Some m → option_map (λ (m : Module). m.name) (slice_get modules number) ≡ Some name → name ≡ m.name
 name-of modules number m name at named = same_Some name m.name (sym named ∙ ap (option_map (λ (m : Module). m.name)) at)
 
 -- what is refused in the module that has the entry is refused in its owner
@@ -66,15 +70,20 @@ module _ (text : List ℕ → Option (List ℕ)) (names : List (List ℕ)) (modu
     -- the first fault of their models stands against them
     pub models-first : (why : SchemaFault) (owner : Module) (entry : ℕ) (faulty : FaultyModule) → IsFirst (all_models taken) why → owner_of taken (rank why).entry ≡ Some (owner, entry)
         → faulty ≡ record { name = owner.name; place = model_place entry (rank why).field; fault = fault.Schema why } → IsFirstFault text names faulty
-    models-first why owner entry faulty first owned told = inr (inr (why, record { taken = taken; are_taken = taken-of; first = first; owner = owner; entry = entry; owned = owned; told = told }))
+    models-first why owner entry faulty first owned told = inr (inr (inl (why, record { taken = taken; are_taken = taken-of; first = first; owner = owner; entry = entry; owned = owned; told = told })))
+
+    -- a name or a value of theirs that doesn't fit stands against them
+    pub access-first : (schema : Schema) (faulty : FaultyModule) → IsBuilt (all_models taken) schema → IsFaultless (all_models taken) → access_fault schema taken ≡ Some faulty → IsFirstFault text names faulty
+    access-first schema faulty built faultless first =
+        inr (inr (inr (record { taken = taken; schema = schema; are_built = record { are_taken = taken-of; built = built; faultless = faultless }; first = first })))
 
 -- for texts that the files may hold
 module _ (told : Option FileTexts) (folder : List ℕ) (names : List (List ℕ)) where
   abbrev pub Faulty : FaultyModule → Type 0
   Faulty faulty = (texts : FileTexts) × AgreesWith told texts × IsFirstFault (text_in texts folder) names faulty
 
-  abbrev pub Loads : Schema → Type 0
-  Loads schema = (texts : FileTexts) × AgreesWith told texts × IsLoaded (text_in texts folder) names schema
+  abbrev pub Loads : Schema → PolicyData → Type 0
+  Loads schema policy = (texts : FileTexts) × AgreesWith told texts × IsLoaded (text_in texts folder) names schema policy
 
   -- a fault of reading is the first
   pub reading-told : (faulty : FaultyModule) → (texts : FileTexts) × AgreesWith told texts × ReadsTo (text_in texts folder) [] (wanted names) (Err faulty) → Faulty faulty
@@ -90,18 +99,33 @@ module _ (told : Option FileTexts) (folder : List ℕ) (names : List (List ℕ))
       (read.0, read.1, cycle-first (text_in read.0 folder) names modules read.2 m.name faulty first same)
 
   module _ (acyclic : (name : List ℕ) → IsCyclic modules name → ⊥) (taken : List Module) (order : Takes modules [] (wanted names) taken) (models : List ModelDef) (all : models ≡ all_models taken) where
-    -- the registry of all models is what is loaded
-    pub loaded-from : (schema : Schema) → IsBuilt models schema → IsFaultless models → Loads told folder names schema
-    loaded-from schema built faultless = (
+    -- the registry of all models and the policy are what is loaded, where all names and values fit
+    pub loaded-from : (schema : Schema) (policy : PolicyData) → IsBuilt models schema → IsFaultless models → access_fault schema taken ≡ None → policy ≡ declared_policy schema taken → Loads told folder names schema policy
+    loaded-from schema policy built faultless fits declared = (
       read.0,
       read.1,
       record {
         taken = taken;
-        are_taken = taken-of (text_in read.0 folder) names modules read.2 acyclic taken order;
-        built = subst (λ (defs : List ModelDef). IsBuilt defs schema) all built;
-        faultless = subst IsFaultless all faultless;
+        are_built = record {
+          are_taken = taken-of (text_in read.0 folder) names modules read.2 acyclic taken order;
+          built = subst (λ (defs : List ModelDef). IsBuilt defs schema) all built;
+          faultless = subst IsFaultless all faultless;
+        };
+        fits = fits;
+        declared = declared;
       },
     )
+
+    -- so it is of what is made of them
+    pub loaded-by : (schema : Schema) (r : Result Loaded LoadFault) → IsBuilt models schema → IsFaultless models → IfOk r (λ l. l.schema ≡ schema) → IfOk r (λ l. access_fault schema taken ≡ None)
+        → IfOk r (λ l. l.policy ≡ declared_policy schema taken) → IfOk r (λ l. Loads told folder names l.schema l.policy)
+    loaded-by schema (Ok l) built faultless same fits declared = subst (λ (s : Schema). Loads told folder names s l.policy) (sym same) (loaded-from schema l.policy built faultless fits declared)
+    loaded-by schema (Err why) built faultless same fits declared = tt
+
+    -- the first that doesn't is told
+    pub access-told : (schema : Schema) (faulty : FaultyModule) → IsBuilt models schema → IsFaultless models → access_fault schema taken ≡ Some faulty → Faulty told folder names faulty
+    access-told schema faulty built faultless first =
+        (read.0, read.1, access-first (text_in read.0 folder) names modules read.2 acyclic taken order schema faulty (subst (λ (defs : List ModelDef). IsBuilt defs schema) all built) (subst IsFaultless all faultless) first)
 
     -- an entry of the models is one of all
     pub entry-low : (n : ℕ) → n < length models → n < length (all_models taken)

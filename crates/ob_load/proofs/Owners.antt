@@ -63,7 +63,7 @@ module _ (modules : List Module) where
   next_of (x ∷ numbers) zero n (m ∷ more) low at is = (m, more, refl, ap (slice_get modules) at ∙ is.0, is.1)
   next_of (x ∷ numbers) (suc i) n rest low at is = next_of numbers i n rest (omega (arith, low)) at is
 
-  numbered-next : (numbers : List ℕ) (i n : ℕ) (rest : List Module) → i < length numbers → n ≡ get_or numbers i n → numbered modules (drop i numbers) rest
+  pub numbered-next : (numbers : List ℕ) (i n : ℕ) (rest : List Module) → i < length numbers → n ≡ get_or numbers i n → numbered modules (drop i numbers) rest
       → (m : Module) × (more : List Module) × (rest ≡ m ∷ more) × (slice_get modules n ≡ Some m) × numbered modules (drop (i + 1) numbers) more
   numbered-next numbers i n rest low at is =
       let step = next_of numbers i n rest low at is in

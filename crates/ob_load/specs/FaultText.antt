@@ -31,6 +31,7 @@ kind_text fault.Toml = codes "Toml"
 kind_text fault.Form = codes "Form"
 kind_text fault.Cycle = codes "Cycle"
 kind_text (fault.Schema why) = schema_name why
+kind_text (fault.Domain why) = codes "Domain"
 
 -- `module NAME: KIND PLACE`
 abbrev pub fault_text : FaultyModule → List ℕ

@@ -6,7 +6,7 @@ use Rattle.std.specs.Ordering.{is_lt, nat_cmp}
 use Rattle.ob_base.specs.declared.place.PathStep.{PathStep}
 use Rattle.ob_base.specs.declared.place.PathStep.TheVariants.{Key, Item}
 use Rattle.ob_definition.specs.Definitions.{first_of}
-use Rattle.toml.specs.Data.{Data, string, integer, boolean, array, table, Items, no_items, item, Members, no_members, member, get_member}
+use Rattle.toml.specs.Data.{Data, string, integer, boolean, array, table, Items, no_items, item, Members, no_members, member, get, get_member}
 
 -- the steps from a value down to where it breaks the form first; none where it is of the form
 abbrev pub Form : Type 0
@@ -100,6 +100,15 @@ keys_where test form key = if test key then Some form else None
 
 abbrev pub any_key : List ℕ → Bool
 any_key key = true
+
+-- the first of these keys that no member has
+abbrev pub first_absent : List (List ℕ) → Members → Option (List ℕ)
+first_absent [] _ = None
+first_absent (key ∷ keys) members = first_of (absent key members) (first_absent keys members)
+
+-- what stands at a key, if anything does, is of a form
+abbrev pub at_key : List ℕ → Form → Form
+at_key key form d = option_map_or (λ v. under (Key key) (form v)) (get key d) None
 
 -- a table that needs no key
 abbrev pub table_where : (List ℕ → Bool) → Form → Form

@@ -1,5 +1,6 @@
 -- Which keys the tables of a module's text have, and the form of each. A key of the format that is added has its line here, and its meaning in Meaning.
-use Rattle.std.specs.Prelude.{ℕ, List, [], ◌∷◌, codes, is_some, if◌then◌else◌, Option, None}
+use Rattle.std.specs.Prelude.{ℕ, List, [], ◌∷◌, codes, is_some, if◌then◌else◌, Bool, Option, None}
+use Rattle.std.specs.List.{list_any}
 use Rattle.std.specs.Map.{lookup}
 use Rattle.std.specs.Str.{bytes_eq}
 use Rattle.ob_definition.specs.Names.{is_field_name, is_model_name}
@@ -8,7 +9,7 @@ use Rattle.ob_definition.specs.declared.field_type.FieldType.TheVariants as type
 use Rattle.ob_definition.specs.declared.field_type.OnDelete.{OnDelete}
 use Rattle.ob_definition.specs.declared.field_type.OnDelete.TheVariants as ondelete
 use Rattle.toml.specs.Data.{Members, get_member}
-use Rattle.ob_load.specs.Forms.{Form, Keys, absent, any_key, constant, flag, list_of, pair_of, table_of, table_where, text, text_where}
+use Rattle.ob_load.specs.Forms.{Form, Keys, absent, any_key, constant, first_absent, flag, list_of, pair_of, table_of, table_where, text, text_where}
 
 -- the types of fields, by their names
 abbrev pub type_names : List (List ℕ × FieldType)
@@ -60,9 +61,37 @@ missing_name members = if is_some (get_member (codes "inherit") members) then No
 abbrev pub model : Form
 model = table_of (among model_keys) missing_name
 
+-- a group
+abbrev pub group_keys : List (List ℕ × Form)
+group_keys = (codes "name", text) ∷ (codes "implies", texts) ∷ []
+
+abbrev pub group : Form
+group = table_of (among group_keys) (absent (codes "name"))
+
+-- an access line
+abbrev pub access_keys : List (List ℕ × Form)
+access_keys =
+    (codes "model", text) ∷ (codes "group", text) ∷ (codes "read", flag) ∷ (codes "create", flag) ∷ (codes "write", flag) ∷ (codes "unlink", flag) ∷ []
+
+abbrev pub access : Form
+access = table_of (among access_keys) (absent (codes "model"))
+
+-- an operation, by its name
+abbrev pub is_op_name : List ℕ → Bool
+is_op_name name = list_any (λ own. bytes_eq own name) (codes "read" ∷ codes "create" ∷ codes "write" ∷ codes "unlink" ∷ [])
+
+-- a rule
+abbrev pub rule_keys : List (List ℕ × Form)
+rule_keys = (codes "name", text) ∷ (codes "model", text) ∷ (codes "groups", texts) ∷ (codes "ops", list_of (text_where is_op_name)) ∷ (codes "domain", text) ∷ []
+
+abbrev pub rule : Form
+rule = table_of (among rule_keys) (first_absent (codes "domain" ∷ codes "model" ∷ codes "name" ∷ []))
+
 -- a document, which says the name of its module
 abbrev pub document_keys : List ℕ → List (List ℕ × Form)
-document_keys name = (codes "name", text_where (bytes_eq name)) ∷ (codes "depends", texts) ∷ (codes "model", list_of model) ∷ []
+document_keys name =
+    (codes "name", text_where (bytes_eq name)) ∷ (codes "depends", texts) ∷ (codes "model", list_of model) ∷ (codes "group", list_of group)
+    ∷ (codes "access", list_of access) ∷ (codes "rule", list_of rule) ∷ []
 
 abbrev pub document : List ℕ → Form
 document name = table_of (among (document_keys name)) (absent (codes "name"))

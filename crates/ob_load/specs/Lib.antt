@@ -5,6 +5,8 @@ pub mod Meaning
 pub mod Texts
 pub mod Reading
 pub mod Dependencies
+pub mod Access
+pub mod AccessFaults
 pub mod Loading
 pub mod FaultText
 -- Private: the words by which the rooms of the crate are joined.

@@ -1,4 +1,4 @@
--- What is loaded of module texts, or what stands against them first: a text or its form in the order of reading, then a circle, then the models.
+-- What is loaded of module texts, or what stands against them first: a text or its form in the order of reading, then a circle, then the models, then a name or a value that doesn't fit.
 use Rattle.std.specs.Prelude.{◌≡◌, ◌⊎◌, ℕ, ◌-◌, List, [], ◌∷◌, length, flat_map, nat_lt, codes, if◌then◌else◌, Option, Some, None, Ok, Err}
 use Rattle.ob_base.specs.declared.place.PathStep.{PathStep}
 use Rattle.ob_base.specs.declared.place.PathStep.TheVariants.{Key, Item}
@@ -8,6 +8,9 @@ use Rattle.ob_definition.specs.declared.fault.SchemaFault.{SchemaFault}
 use Rattle.ob_schema.specs.Built.{IsBuilt}
 use Rattle.ob_schema.specs.Faults.{IsFaultless, IsFirst}
 use Rattle.ob_schema.specs.declared.schema.Schema.{Schema}
+use Rattle.ob_access.specs.Policies.{PolicyData}
+use Rattle.ob_load.specs.Access.{declared_policy}
+use Rattle.ob_load.specs.AccessFaults.{access_fault}
 use Rattle.ob_load.specs.Dependencies.{IsCyclic, IsFirstCyclic, Takes}
 use Rattle.ob_load.specs.Meaning.{models_of}
 use Rattle.ob_load.specs.Reading.{Module, ReadsTo, whole}
@@ -40,12 +43,22 @@ module _ (text : List ℕ → Option (List ℕ)) (names : List (List ℕ)) where
     pub acyclic : (name : List ℕ) → IsCyclic modules name → ⊥
     pub order : Takes modules [] (wanted names) taken
 
-  -- the registry is that of their models
-  pub record IsLoaded (schema : Schema) : Type 0 where
-    pub taken : List Module
+  -- these are the modules in their order, and their models, against which nothing stands, make the registry
+  pub record AreBuilt (taken : List Module) (schema : Schema) : Type 0 where
     pub are_taken : AreTaken taken
     pub built : IsBuilt (all_models taken) schema
     pub faultless : IsFaultless (all_models taken)
+
+  -- the registry is that of their models, all names and values fit, and the policy is what they declare over it
+  pub record IsLoaded (schema : Schema) (policy : PolicyData) : Type 0 where
+    pub taken : List Module
+    pub are_built : AreBuilt taken schema
+    pub fits : access_fault schema taken ≡ None
+    pub declared : policy ≡ declared_policy schema taken
+
+  -- the registry is that of modules which are loaded
+  abbrev pub HasRegistry : Schema → Type 0
+  HasRegistry schema = (policy : PolicyData) × IsLoaded schema policy
 
   -- the first fault of their models, told in the module that has the entry
   pub record IsModelsFault (why : SchemaFault) (faulty : FaultyModule) : Type 0 where
@@ -57,8 +70,16 @@ module _ (text : List ℕ → Option (List ℕ)) (names : List (List ℕ)) where
     pub owned : owner_of taken (rank why).entry ≡ Some (owner, entry)
     pub told : faulty ≡ record { name = owner.name; place = model_place entry (rank why).field; fault = fault.Schema why }
 
+  -- the first name or value that doesn't fit
+  pub record IsAccessFault (faulty : FaultyModule) : Type 0 where
+    pub taken : List Module
+    pub schema : Schema
+    pub are_built : AreBuilt taken schema
+    pub first : access_fault schema taken ≡ Some faulty
+
   -- what stands against the texts first
   abbrev pub IsFirstFault : FaultyModule → Type 0
   IsFirstFault faulty = ReadsTo text [] (wanted names) (Err faulty)
       ⊎ ((modules : List Module) × ReadsTo text [] (wanted names) (Ok modules) × IsFirstCyclic modules faulty.name × (faulty ≡ whole faulty.name fault.Cycle))
       ⊎ ((why : SchemaFault) × IsModelsFault why faulty)
+      ⊎ IsAccessFault faulty

@@ -1,9 +1,20 @@
 -- Private: the words by which the rooms of the crate are joined.
-use Rattle.std.specs.Prelude.{◌≡◌, ◌≢◌, ◌⊎◌, ℕ, List, [], ◌∷◌, ◌++◌, All, Contains, codes, map, string_bytes, Bool, true, is_some, if◌then◌else◌, Option, Some, None, MatchOption, ⊤, nat_eq, slice_get}
+use Rattle.std.specs.Prelude.{◌≡◌, ◌≢◌, ◌≤◌, ◌⊎◌, ℕ, List, [], ◌∷◌, ◌++◌, All, Contains, codes, map, string_bytes, Bool, true, is_some, if◌then◌else◌, Option, Some, None, MatchOption, Result, IsErrOf, IfSome, ⊤, nat_eq, slice_get}
 use Rattle.std.specs.List.{AllZip, IsDistinct}
 use Rattle.std.specs.Str.{bytes_eq}
 use Rattle.toml.specs.View.{table_view}
+use Rattle.ob_access.specs.Policies.{AreNamedApart, RuleData, rule_data}
+use Rattle.ob_access.specs.declared.policy.AccessLine.{AccessLine}
+use Rattle.ob_access.specs.declared.policy.Group.{Group}
+use Rattle.ob_access.specs.declared.policy.Rule.{Rule}
 use Rattle.ob_definition.specs.Names.{is_field_name, is_model_name}
+use Rattle.ob_domain.specs.Over.{IsOver}
+use Rattle.ob_domain.specs.Trees.{tree_of_domain}
+use Rattle.ob_schema.specs.Models.{HasModel}
+use Rattle.ob_schema.specs.declared.info.ModelInfo.{ModelInfo}
+use Rattle.ob_base.specs.declared.id.RecId.{RecId}
+use Rattle.ob_load.specs.Access.{is_among}
+use Rattle.ob_load.specs.declared.access.Declared.{Declared}
 use Rattle.ob_load.specs.declared.fault.FaultyModule.{FaultyModule}
 use Rattle.ob_load.specs.declared.fault.LoadFault.{LoadFault}
 use Rattle.ob_load.specs.declared.fault.LoadFault.TheVariants as load
@@ -12,7 +23,7 @@ use Rattle.ob_load.specs.declared.modules.Modules.{Modules}
 use Rattle.ob_load.specs.declared.form.Text.{Text}
 use Rattle.ob_load.specs.declared.form.Text.TheVariants as text
 use Rattle.ob_load.specs.Dependencies.{Takes}
-use Rattle.ob_load.specs.Keys.{ondelete_named, type_named}
+use Rattle.ob_load.specs.Keys.{is_op_name, ondelete_named, type_named}
 use Rattle.ob_load.specs.Meaning.{depends_of}
 use Rattle.ob_load.specs.Reading.{Module, has_module}
 use Rattle.ob_load.specs.Texts.{base_text, stock_text}
@@ -28,6 +39,7 @@ text_test text.ModelName = is_model_name
 text_test text.FieldName = is_field_name
 text_test text.FieldType = λ name. is_some (type_named name)
 text_test text.OnDelete = λ name. is_some (ondelete_named name)
+text_test text.Op = is_op_name
 text_test (text.Exactly own) = bytes_eq own.now
 
 -- the text of a module that stands inside the program
@@ -93,3 +105,41 @@ AddsOnce number old new = (Contains old number × (new ≡ old)) ⊎ ((Contains 
 -- the names lead from the modules of these numbers to those of those
 abbrev pub TakesOn : List Module → List ℕ → List (List ℕ) → List ℕ → Type 0
 TakesOn modules old names new = (before : List Module) → numbered modules old before → (all : List Module) × numbered modules new all × Takes modules before names all
+
+-- a refusal that is told of a module is this fault
+abbrev pub Tells : {T : Type 0} → Result T LoadFault → Option FaultyModule → Type 0
+Tells result fault = (faulty : FaultyModule) → IsErrOf result (load.Module faulty) → fault ≡ Some faulty
+
+-- want of memory, or a fault of a module that was read
+abbrev pub IsOfText : LoadFault → Type 0
+IsOfText load.File = ⊥
+IsOfText load.NoMemory = ⊤
+IsOfText (load.Module faulty) = faulty.fault ≢ fault.Absent
+
+-- the id of one of so many groups
+abbrev pub IsGroupOf : ℕ → RecId → Type 0
+IsGroupOf count id = (1 ≤ id.0) × (id.0 ≤ count)
+
+-- a line of a model that there is, for every user or one of so many groups
+abbrev pub IsLineOf : List ModelInfo → ℕ → AccessLine → Type 0
+IsLineOf models count line = HasModel models line.model × IfSome line.group (IsGroupOf count)
+
+-- a rule of a model that there is, for some of so many groups, with a domain over its model
+abbrev pub IsRuleOf : List ModelInfo → ℕ → Rule → Type 0
+IsRuleOf models count rule = HasModel models rule.model × IfSome rule.groups (All (IsGroupOf count)) × IsOver models rule.model (tree_of_domain rule.domain)
+
+-- what modules declare fits together, where there are so many groups: groups are named apart, by names that are taken, and what is named is there
+pub record AreConsistent (models : List ModelInfo) (count : ℕ) (declared : Declared) : Type 0 where
+  pub apart : AreNamedApart declared.groups
+  pub taken : All (λ group. is_among declared.names group.name ≡ true) declared.groups
+  pub implied : All (λ group. All (IsGroupOf count) group.implies) declared.groups
+  pub lines : All (IsLineOf models count) declared.lines
+  pub rules : All (IsRuleOf models count) declared.rules
+
+-- to what modules declare these full names, groups, lines and rules were added, and they fit together with the others
+pub record GrowsBy (models : List ModelInfo) (count : ℕ) (old new : Declared) (names : List (List ℕ)) (groups : List Group) (lines : List AccessLine) (rules : List RuleData) : Type 0 where
+  pub names_grow : new.names ≡ old.names ++ names
+  pub groups_grow : new.groups ≡ old.groups ++ groups
+  pub lines_grow : new.lines ≡ old.lines ++ lines
+  pub rules_grow : map rule_data new.rules ≡ map rule_data old.rules ++ rules
+  pub consistent : AreConsistent models count old → AreConsistent models count new

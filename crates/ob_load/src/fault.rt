@@ -7,6 +7,7 @@ ghost use Rattle.ob_load.specs.declared.fault.LoadFault.TheVariants as load;
 
 use ob_base::{NoMemory, Place, Word};
 use ob_definition::SchemaFault;
+use ob_domain::DomainFault;
 use std::fmt;
 use thiserror::Error;
 
@@ -52,13 +53,16 @@ pub enum ModuleFault {
     TooLong,
     /// The text is no TOML.
     Toml,
-    /// A key that may not be there or is missing, or a value of another form.
+    /// A key that may not be there or is missing, a value of another form, or a name that
+    /// names nothing or that another has.
     Form,
     /// It depends on itself, directly or through others.
     Cycle,
     /// The first thing that stands against the models of all modules. Its entry counts
     /// over all models; the place has its number in the module.
     Schema(SchemaFault),
+    /// The text of a rule's domain is none; the place is that of the rule.
+    Domain(DomainFault),
 }
 
 /// A fault of models, as its variant is spelled.
@@ -93,6 +97,7 @@ fn kind_text(fault: &ModuleFault) -> &'static str
         ModuleFault::Form => "Form",
         ModuleFault::Cycle => "Cycle",
         ModuleFault::Schema(fault) => schema_name(fault),
+        ModuleFault::Domain(_) => "Domain",
     }
 }
 

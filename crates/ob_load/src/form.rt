@@ -9,10 +9,11 @@ ghost use Rattle.toml.specs.Data.{Data, Members, array};
 ghost use Rattle.toml.specs.View.{items_view, table_view, view};
 ghost use Rattle.ob_load.specs.Forms as forms;
 ghost use Rattle.ob_load.specs.Forms.{here, missing_place, stands_before};
+ghost use Rattle.ob_load.specs.Keys.{is_op_name};
 ghost use Rattle.ob_load.specs.Rooms.{text_test};
 
 use crate::definitions::{ondelete_named, type_named};
-use crate::tables::has;
+use crate::tables::{found, has};
 use crate::wrong::Wrong;
 use ob_base::NoMemory;
 use ob_definition::{is_field_name, is_model_name};
@@ -58,6 +59,8 @@ pub(crate) enum Text<'n> {
     FieldType,
     /// What becomes of a row whose many2one names a deleted one.
     OnDelete,
+    /// The name of an operation.
+    Op,
     /// This text alone.
     Exactly(&'n str),
 }
@@ -72,9 +75,17 @@ impl<'n> Text<'n> {
             Text::FieldName => is_field_name(text),
             Text::FieldType => type_named(text).is_some(),
             Text::OnDelete => ondelete_named(text).is_some(),
+            Text::Op => is_op_name(text),
             Text::Exactly(own) => own == text,
         }
     }
+}
+
+/// Whether a text is the name of an operation.
+fn is_op_name(name: &str) -> bool
+    ensures { result ≡ is_op_name name.now }
+{
+    matches!(name, "read" | "create" | "write" | "unlink")
 }
 
 impl<'n> Form for Text<'n> {
@@ -118,7 +129,7 @@ impl Form for Constant {
 }
 
 /// Wrong here, unless the value fits.
-fn unless(alloc: Global, fits: bool) -> Option<Wrong>
+pub(crate) fn unless(alloc: Global, fits: bool) -> Option<Wrong>
     ensures { result ≡ forms.unless fits }
 {
     if fits { None } else { Some(Wrong::here(alloc)) }
@@ -214,6 +225,47 @@ impl<K: Keys> Form for TableOf<K> {
             Value::Table(table) => wrong_member(alloc, &self.keys, table),
             _ => Ok(Some(Wrong::here(alloc))),
         }
+    }
+}
+
+/// What stands at a key of a table, if anything does, is of a form.
+#[derive(Clone, Copy)]
+pub(crate) struct AtKey<F> {
+    pub(crate) key: &'static str,
+    pub(crate) form: F,
+}
+
+impl<F: Form> Form for AtKey<F> {
+    ghost wrong = { λ k. forms.at_key k.key.now (F.wrong k.form) };
+
+    fn wrong(&self, alloc: Global, value: &Value) -> Result<Option<Wrong>, NoMemory> {
+        let Some(member) = found(value, self.key) else {
+            return Ok(None);
+        };
+        match self.form.wrong(alloc, member)? {
+            Some(wrong) => Ok(Some(wrong.under_key(alloc, self.key)?)),
+            None => Ok(None),
+        }
+    }
+}
+
+/// Any keys, with values of a form.
+#[derive(Clone, Copy)]
+pub(crate) struct AnyKey<F> {
+    pub(crate) values: F,
+}
+
+impl<F: Form> Keys for AnyKey<F> {
+    ghost keys = { λ k. forms.keys_where forms.any_key (F.wrong k.values) };
+
+    ghost missing = { λ _. forms.no_key };
+
+    fn wrong(&self, alloc: Global, _key: &str, value: &Value) -> Result<Option<Wrong>, NoMemory> {
+        self.values.wrong(alloc, value)
+    }
+
+    fn missing(&self, _table: &Table) -> Option<&'static str> {
+        None
     }
 }
 

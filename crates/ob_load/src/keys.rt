@@ -10,7 +10,7 @@ ghost use Rattle.ob_load.specs.Keys as spec;
 ghost use Rattle.ob_load.specs.Rooms.{type_key};
 
 use crate::form::{
-    Constant, Flag, Form, Keys, ListOf, PairOf, TableOf, Text, absent, wrong_member,
+    AnyKey, Constant, Flag, Form, Keys, ListOf, PairOf, TableOf, Text, absent, wrong_member,
 };
 use crate::tables::has;
 use crate::wrong::Wrong;
@@ -21,6 +21,19 @@ use toml::{Table, Value};
 
 /// Any list of texts.
 const TEXTS: ListOf<Text<'static>> = ListOf { items: Text::Any };
+
+/// The keys of a selection, each with its words.
+const CHOICES: ListOf<PairOf<Text<'static>, Text<'static>>> = ListOf {
+    items: PairOf {
+        first: Text::Any,
+        second: Text::Any,
+    },
+};
+
+/// Checks, by any name.
+const CHECKS: TableOf<AnyKey<Text<'static>>> = TableOf {
+    keys: AnyKey { values: Text::Any },
+};
 
 /// The keys of a field.
 #[derive(Clone, Copy)]
@@ -43,7 +56,7 @@ impl Keys for FieldKeys {
                 Flag.wrong(alloc, value)
             }
             "depends" | "groups" => TEXTS.wrong(alloc, value),
-            "selection" => pairs(Text::Any).wrong(alloc, value),
+            "selection" => CHOICES.wrong(alloc, value),
             _ => Ok(Some(Wrong::here(alloc))),
         }
     }
@@ -87,24 +100,6 @@ impl Keys for Fields {
     }
 }
 
-/// Checks, by any name.
-#[derive(Clone, Copy)]
-struct Checks;
-
-impl Keys for Checks {
-    ghost keys = { λ _. forms.keys_where forms.any_key forms.text };
-
-    ghost missing = { λ _. forms.no_key };
-
-    fn wrong(&self, alloc: Global, _key: &str, value: &Value) -> Result<Option<Wrong>, NoMemory> {
-        Text::Any.wrong(alloc, value)
-    }
-
-    fn missing(&self, _table: &Table) -> Option<&'static str> {
-        None
-    }
-}
-
 /// The keys of a model.
 #[derive(Clone, Copy)]
 struct ModelKeys;
@@ -120,7 +115,7 @@ impl Keys for ModelKeys {
             "inherit" | "order" | "parent" | "locked" => Text::Any.wrong(alloc, value),
             "inherits" => pairs(Text::FieldName).wrong(alloc, value),
             "unique" => ListOf { items: TEXTS }.wrong(alloc, value),
-            "check" => TableOf { keys: Checks }.wrong(alloc, value),
+            "check" => CHECKS.wrong(alloc, value),
             "managed" => Flag.wrong(alloc, value),
             "field" => TableOf { keys: Fields }.wrong(alloc, value),
             _ => Ok(Some(Wrong::here(alloc))),
@@ -130,6 +125,85 @@ impl Keys for ModelKeys {
     fn missing(&self, table: &Table) -> Option<&'static str> {
         if has(table, "inherit") {
             None
+        } else {
+            absent(table, "name")
+        }
+    }
+}
+
+/// The keys of a group.
+#[derive(Clone, Copy)]
+struct GroupKeys;
+
+impl Keys for GroupKeys {
+    ghost use Rattle.std.specs.Prelude.{codes};
+
+    ghost keys = { λ _. spec.among spec.group_keys };
+
+    ghost missing = { λ _. forms.absent (codes "name") };
+
+    fn wrong(&self, alloc: Global, key: &str, value: &Value) -> Result<Option<Wrong>, NoMemory> {
+        match key {
+            "name" => Text::Any.wrong(alloc, value),
+            "implies" => TEXTS.wrong(alloc, value),
+            _ => Ok(Some(Wrong::here(alloc))),
+        }
+    }
+
+    fn missing(&self, table: &Table) -> Option<&'static str> {
+        absent(table, "name")
+    }
+}
+
+/// The keys of an access line.
+#[derive(Clone, Copy)]
+struct AccessKeys;
+
+impl Keys for AccessKeys {
+    ghost use Rattle.std.specs.Prelude.{codes};
+
+    ghost keys = { λ _. spec.among spec.access_keys };
+
+    ghost missing = { λ _. forms.absent (codes "model") };
+
+    fn wrong(&self, alloc: Global, key: &str, value: &Value) -> Result<Option<Wrong>, NoMemory> {
+        match key {
+            "model" | "group" => Text::Any.wrong(alloc, value),
+            "read" | "create" | "write" | "unlink" => Flag.wrong(alloc, value),
+            _ => Ok(Some(Wrong::here(alloc))),
+        }
+    }
+
+    fn missing(&self, table: &Table) -> Option<&'static str> {
+        absent(table, "model")
+    }
+}
+
+/// The keys of a rule.
+#[derive(Clone, Copy)]
+struct RuleKeys;
+
+impl Keys for RuleKeys {
+    ghost use Rattle.std.specs.Prelude.{◌∷◌, [], codes};
+
+    ghost keys = { λ _. spec.among spec.rule_keys };
+
+    ghost missing = { λ _. forms.first_absent (codes "domain" ∷ codes "model" ∷ codes "name" ∷ []) };
+
+    fn wrong(&self, alloc: Global, key: &str, value: &Value) -> Result<Option<Wrong>, NoMemory> {
+        match key {
+            "name" | "model" | "domain" => Text::Any.wrong(alloc, value),
+            "groups" => TEXTS.wrong(alloc, value),
+            "ops" => ListOf { items: Text::Op }.wrong(alloc, value),
+            _ => Ok(Some(Wrong::here(alloc))),
+        }
+    }
+
+    fn missing(&self, table: &Table) -> Option<&'static str> {
+        if !has(table, "domain") {
+            Some("domain")
+        } else if !has(table, "model") {
+            Some("model")
         } else {
             absent(table, "name")
         }
@@ -153,7 +227,10 @@ impl<'n> Keys for DocumentKeys<'n> {
         match key {
             "name" => Text::Exactly(self.name).wrong(alloc, value),
             "depends" => TEXTS.wrong(alloc, value),
-            "model" => list_of_models(alloc, value),
+            "model" => listed(alloc, ModelKeys, value),
+            "group" => listed(alloc, GroupKeys, value),
+            "access" => listed(alloc, AccessKeys, value),
+            "rule" => listed(alloc, RuleKeys, value),
             _ => Ok(Some(Wrong::here(alloc))),
         }
     }
@@ -163,14 +240,15 @@ impl<'n> Keys for DocumentKeys<'n> {
     }
 }
 
-/// Where a list of models breaks its form first.
-fn list_of_models(alloc: Global, value: &Value) -> Result<Option<Wrong>, NoMemory>
-    ensures { IfOk result (λ found. found ≡ forms.list_of spec.model (view value.now)) }
+/// Where a list of tables with these keys breaks its form first.
+fn listed<K: Keys + Copy>(alloc: Global, keys: K, value: &Value) -> Result<Option<Wrong>, NoMemory>
+    ensures { IfOk result (λ found. found ≡ forms.list_of
+        (forms.table_of (K.keys keys) (K.missing keys)) (view value.now)) }
 {
-    let models = ListOf {
-        items: TableOf { keys: ModelKeys },
+    let tables = ListOf {
+        items: TableOf { keys },
     };
-    models.wrong(alloc, value)
+    tables.wrong(alloc, value)
 }
 
 /// Where the document of a module of this name breaks its form first.

@@ -1,14 +1,17 @@
 //! What modules are loaded, or what stands against them first: a text or its form, in the
-//! order of reading; then a circle; then their models.
+//! order of reading; then a circle; then their models; then a name or a value that doesn't fit.
 
 ghost use Rattle.std.specs.Prelude.{◌≡◌, ◌≢◌, ◌<◌, ℕ, List, IfErr, IfNone, IfOk, IfSome, IsErrOf, None, Some, length, slice_get};
 ghost use Rattle.ob_io.specs.Cause.{HasCause, Rose};
+ghost use Rattle.ob_access.specs.Policies.{IsPolicyOver};
 ghost use Rattle.ob_definition.specs.Ranking.{rank};
 ghost use Rattle.ob_schema.specs.Models.{IsRegistry};
+ghost use Rattle.ob_load.specs.Access.{declared_policy};
+ghost use Rattle.ob_load.specs.AccessFaults.{access_fault};
 ghost use Rattle.ob_load.specs.Loading as spec;
 ghost use Rattle.ob_load.specs.Loading.{IsFirstFault, IsLoaded};
 ghost use Rattle.ob_load.specs.Reading.{Module};
-ghost use Rattle.ob_load.specs.Rooms.{Refuses, ToldAbsent, modules_in, numbered};
+ghost use Rattle.ob_load.specs.Rooms.{IsOfText, Refuses, Tells, ToldAbsent, modules_in, numbered};
 ghost use Rattle.ob_load.specs.Texts.{AgreesWith, FileTexts, text_in};
 ghost use Rattle.ob_load.specs.declared.fault.FaultyModule.{FaultyModule};
 
@@ -16,18 +19,22 @@ use crate::definitions::add_models;
 use crate::dependencies::{first_cyclic, in_order};
 use crate::fault::{LoadFault, ModuleFault};
 use crate::modules::Modules;
+use crate::policy::policy_of;
 use crate::reading::{read_modules, refused, refused_at};
 use crate::tables::listed_at;
+use ob_access::Policy;
 use ob_base::{NoMemory, PathStep, Place, Sequence, Word};
 use ob_io::Files;
 use ob_schema::{ModelDef, Schema, SchemaFault};
 use std::alloc::Global;
 
 /// What modules mean.
-#[derive(Debug, Drop)]
+#[derive(Drop)]
 pub struct Loaded {
     /// The registry of all their models.
     pub schema: Schema,
+    /// The policy of their groups, access lines and rules over that registry.
+    pub policy: Policy,
 }
 
 /// Loads the modules of these names: `base` and `stock` first, which stand inside the
@@ -35,7 +42,8 @@ pub struct Loaded {
 /// which it depends. Each text is read once. What stands against them first is told: a
 /// text or its form, in the order of reading; then the first module in this order that
 /// depends on itself; then the first fault of all models, in the order in which modules are
-/// taken, each after those on which it depends.
+/// taken, each after those on which it depends; then, in this order of modules, the first name
+/// or value of their fields, groups, access lines and rules that doesn't fit.
 pub fn load<F: Files>(
     alloc: Global,
     files: &mut F,
@@ -45,14 +53,15 @@ pub fn load<F: Files>(
     // The meaning of the texts, or their first fault. Where the files tell what they hold, these
     // are the texts; where they don't, each name has one text.
     ensures loaded { IfOk result (λ loaded. (texts : FileTexts) × AgreesWith (F.texts files.old) texts
-        × IsLoaded (text_in texts folder.now) names.now loaded.schema) }
+        × IsLoaded (text_in texts folder.now) names.now loaded.schema loaded.policy) }
     ensures fault { (faulty : FaultyModule) → IsErrOf result (LoadFault.Module faulty)
         → (texts : FileTexts) × AgreesWith (F.texts files.old) texts
         × IsFirstFault (text_in texts folder.now) names.now faulty }
 
-    // Whatever files tell: the registry is sound, `File` comes only where their count rose,
-    // and so does `Absent` where they don't tell.
+    // Whatever files tell: the registry is sound, the policy is one over it, `File` comes only
+    // where their count rose, and so does `Absent` where they don't tell.
     ensures sound { IfOk result (λ loaded. IsRegistry loaded.schema) }
+    ensures over { IfOk result (λ loaded. IsPolicyOver loaded.schema loaded.policy) }
     ensures cause { HasCause (F.faults files.old) (F.faults files.new)
         (IsErrOf result LoadFault.File) }
     ensures absent { IfErr result
@@ -66,10 +75,29 @@ pub fn load<F: Files>(
     let taken = in_order(alloc, &modules, names)?;
     let models = all_models(alloc, &modules, &taken)?;
     match Schema::build(alloc, models.as_slice()) {
-        Ok(schema) => Ok(Loaded { schema }),
+        Ok(schema) => with_policy(alloc, schema, &modules, &taken),
         Err(SchemaFault::NoMemory) => Err(LoadFault::NoMemory),
         Err(fault) => Err(models_fault(alloc, &modules, &taken, fault)),
     }
+}
+
+/// The registry of modules, and the policy that they declare over it.
+fn with_policy(
+    alloc: Global,
+    schema: Schema,
+    modules: &Modules,
+    taken: &[usize],
+) -> Result<Loaded, LoadFault>
+    requires { (all : List Module) × numbered (modules_in modules.now) taken.now all }
+    ensures same { IfOk result (λ loaded. loaded.schema ≡ schema) }
+    ensures fits { IfOk result (λ _. (all : List Module) → numbered (modules_in modules.now) taken.now all → access_fault schema all ≡ None) }
+    ensures declared { IfOk result (λ loaded. (all : List Module) → numbered (modules_in modules.now) taken.now all → loaded.policy ≡ declared_policy schema all) }
+    ensures over { IfOk result (λ loaded. IsPolicyOver loaded.schema loaded.policy) }
+    ensures fault { (all : List Module) → numbered (modules_in modules.now) taken.now all → Tells result (access_fault schema all) }
+    ensures read { IfErr result IsOfText }
+{
+    let policy = policy_of(alloc, &schema, modules, taken)?;
+    Ok(Loaded { schema, policy })
 }
 
 /// The models of modules, one after another.

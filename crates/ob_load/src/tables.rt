@@ -3,6 +3,7 @@
 ghost use Rattle.std.specs.Prelude.{◌≡◌, IfOk, is_some, map, option_and_then, option_map};
 ghost use Rattle.toml.specs.Data.{as_table, get, get_member, table};
 ghost use Rattle.toml.specs.View.{table_view, view};
+ghost use Rattle.ob_load.specs.Access.{is_set, word_at};
 ghost use Rattle.ob_load.specs.Meaning as spec;
 ghost use Rattle.ob_load.specs.Meaning.{texts_at};
 
@@ -101,6 +102,23 @@ pub(crate) fn str_at<'t>(value: &'t Value, key: &str) -> Option<&'t str>
         Some(text) => text.as_str(),
         None => None,
     }
+}
+
+/// The text at a key, the empty one where there is none.
+pub(crate) fn word_at<'t>(value: &'t Value, key: &str) -> &'t str
+    ensures { result.now ≡ word_at key.now (view value.now) }
+{
+    match str_at(value, key) {
+        Some(text) => text,
+        None => "",
+    }
+}
+
+/// Whether a flag is set.
+pub(crate) fn is_set(value: &Value, key: &str) -> bool
+    ensures { result ≡ is_set key.now (view value.now) }
+{
+    flag_at(value, key).unwrap_or(false)
 }
 
 /// The text at a key.

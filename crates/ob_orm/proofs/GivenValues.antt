@@ -14,7 +14,6 @@ use Rattle.ob_schema.specs.declared.info.FieldInfo.{FieldInfo}
 use Rattle.ob_schema.specs.declared.info.ModelInfo.{ModelInfo}
 use Rattle.ob_call.specs.Arguments.{IsFit}
 use Rattle.ob_call.specs.ArgumentsSteps.{given_of}
-use Rattle.ob_call.specs.Places.{spot_place}
 use Rattle.ob_call.specs.Results.{IsResultOf}
 use Rattle.ob_call.specs.declared.arguments.Given.{Given}
 use Rattle.ob_orm.specs.RowValues.{members_of, row_values, vals_expected, values_from}
@@ -29,32 +28,40 @@ pub not_none : (fields : List FieldInfo) (o : Option Given) → FitsValues field
 not_none fields None fit is = let e = fit in absurd cc
 not_none fields (Some given) fit is = absurd cc
 
+-- and is of its form
+pub form_of : (fields : List FieldInfo) (o : Option Given) (given : Given) → FitsValues fields o → o ≡ Some given → values_fault fields (view given.json.now) ≡ None
+form_of fields o given fit is = let own : FitsValues fields (Some given) = subst (FitsValues fields) is fit in own
+
+-- the values of what is given, as its place and its data have them
+pub values_given : {Of : Type 0} (o : Option ModelInfo) (made : Bool) (passed now : ℤ) → passed ≡ now → (arg : Option Given) (given : Given) (of : ModelInfo → Of → List (FieldNo × Value)) (r : Result Of Refusal) → arg ≡ Some given
+    → IfSome o (λ info. IsResultOf (of info) r (values_from made info passed (Some (given_of given)))) → IfSome o (λ info. IsResultOf (of info) r (values_from made info now (option_map given_of arg)))
+values_given None made passed now is arg given of r one h = tt
+values_given (Some info) made passed now is arg given of r one h =
+    let meant : values_from made info passed (Some (given_of given)) ≡ values_from made info now (option_map given_of arg) =
+    ap (λ (n : ℤ). values_from made info n (Some (given_of given))) is ∙ sym (ap (λ (x : Option Given). values_from made info now (option_map given_of x)) one) in
+    subst (λ (m : Result (List (FieldNo × Value)) (List PathStep)). IsResultOf (of info) r m) meant h
+
+-- ---- the object
+
 -- data of its form is an object
 object_of : (fields : List FieldInfo) (d : Data) → values_fault fields d ≡ None → (ms : Members) × (d ≡ object ms)
 object_of fields (object ms) right = (ms, refl)
 object_of fields _ right = absurd cc
 
--- so what is given is one
-pub object_given : (fields : List FieldInfo) (o : Option Given) (given : Given) → FitsValues fields o → o ≡ Some given → (ms : Members) × (view given.json.now ≡ object ms)
-object_given fields o given fit is = object_of fields (view given.json.now) (subst (FitsValues fields) is fit)
-
--- an object has members
-pub no_members_of : (fields : List FieldInfo) (o : Option Given) (given : Given) → FitsValues fields o → o ≡ Some given → None ≡ as_object (view given.json.now) → ⊥
-no_members_of fields o given fit is found = let (ms, json) = object_given fields o given fit is in let wrong : None ≡ Some ms = found ∙ ap as_object json in cc
+-- which has members
+pub no_members_of : (fields : List FieldInfo) (d : Data) → values_fault fields d ≡ None → None ≡ as_object d → ⊥
+no_members_of fields d right found = let (ms, json) = object_of fields d right in let wrong : None ≡ Some ms = found ∙ ap as_object json in cc
 
 -- the values of its members are those that it gives
-pub values_given : {Of : Type 0} (o : Option ModelInfo) (fields : List FieldInfo) (made : Bool) (passed now : ℤ) → passed ≡ now
-    → (arg : Option Given) (given : Given) (ms : Members) (of : ModelInfo → Of → List (FieldNo × Value)) (r : Result Of Refusal)
-    → FitsValues fields arg → arg ≡ Some given → Some ms ≡ as_object (view given.json.now)
-    → IfSome o (λ info. IsResultOf (of info) r (row_values made passed (spot_place given.spot) ms (plain_columns info)))
-    → IfSome o (λ info. IsResultOf (of info) r (values_from made info now (option_map given_of arg)))
-values_given None fields made passed now is arg given ms of r fit one found h = tt
-values_given (Some info) fields made passed now is arg given ms of r fit one found h =
-    let (held, json) = object_given fields arg given fit one in
+pub values_of_members : {Of : Type 0} (o : Option ModelInfo) (fields : List FieldInfo) (made : Bool) (passed now : ℤ) → passed ≡ now → (place : List PathStep) (d : Data) (ms : Members) (of : ModelInfo → Of → List (FieldNo × Value)) (r : Result Of Refusal)
+    → values_fault fields d ≡ None → Some ms ≡ as_object d → IfSome o (λ info. IsResultOf (of info) r (row_values made passed place ms (plain_columns info)))
+    → IfSome o (λ info. IsResultOf (of info) r (values_from made info now (Some (record { place = place; json = d }))))
+values_of_members None fields made passed now is place d ms of r right found h = tt
+values_of_members (Some info) fields made passed now is place d ms of r right found h =
+    let (held, json) = object_of fields d right in
     let members : ms ≡ held = same_Some ms held (found ∙ ap as_object json) in
-    let meant : row_values made passed (spot_place given.spot) ms (plain_columns info) ≡ values_from made info now (option_map given_of arg) =
-    ap (λ (n : ℤ). row_values made n (spot_place given.spot) ms (plain_columns info)) is
-    ∙ ap (λ (m : Members). row_values made now (spot_place given.spot) m (plain_columns info)) members
-    ∙ sym (ap (λ (d : Data). row_values made now (spot_place given.spot) (members_of d) (plain_columns info)) json)
-    ∙ sym (ap (λ (x : Option Given). values_from made info now (option_map given_of x)) one) in
+    let meant : row_values made passed place ms (plain_columns info) ≡ values_from made info now (Some (record { place = place; json = d })) =
+    ap (λ (n : ℤ). row_values made n place ms (plain_columns info)) is
+    ∙ ap (λ (m : Members). row_values made now place m (plain_columns info)) members
+    ∙ sym (ap (λ (e : Data). row_values made now place (members_of e) (plain_columns info)) json) in
     subst (λ (m : Result (List (FieldNo × Value)) (List PathStep)). IsResultOf (of info) r m) meant h

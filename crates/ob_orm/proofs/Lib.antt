@@ -5,13 +5,17 @@ pub mod CreateFields
 pub mod RowValue
 pub mod RowValues
 pub mod GivenValues
+pub mod ObjectPlaces
+pub mod CreateRows
 pub mod CreateIds
 pub mod CreateStaged
+pub mod CreateMakes
 pub mod CalledFound
 pub mod CreateAnswer
 pub mod FirstArguments
 pub mod WriteEdits
 pub mod WriteMissing
+pub mod CreateCarried
 pub mod WriteCarried
 pub mod WriteAnswer
 pub mod FieldsTold

@@ -1,5 +1,6 @@
 pub mod Creatable
 pub mod Values
+pub mod Objects
 pub mod RowValues
 pub mod Create
 pub mod Write
@@ -9,6 +10,7 @@ pub mod Unlink
 pub mod FieldsGet
 pub mod RefusalText
 pub mod Faults
+pub mod ObjectSteps
 pub mod CreateSteps
 pub mod WriteSteps
 pub mod LockSteps

@@ -3,7 +3,7 @@
 //! answer is the one that the tables of plain values define.
 //!
 //! Rooms: `creating`, `writing` and `unlinking`, with `values` (the form of an object of values),
-//! `row_values` (the values that it gives a row), `there` (which rows are there), `settled` (values
+//! `objects` (of one, or of a list of them), `row_values` (the values that one gives a row), `there` (which rows are there), `settled` (values
 //! as they were settled last), `locking` (which rows are locked), `ids` (the cell `id` of a row) and
 //! `settling` (how edits are settled); `fields` (what fields a model has); `refusal_texts` (how
 //! refusals and cells are told), `creatable` (of which models a create makes rows and a write
@@ -17,6 +17,7 @@ mod fault;
 mod fields;
 mod ids;
 mod locking;
+mod objects;
 mod refusal_texts;
 mod row_values;
 mod settled;

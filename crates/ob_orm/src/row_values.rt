@@ -3,7 +3,7 @@
 //! field. A field that gets none of these isn't named: a row that is made has there what the
 //! tables know, and another one keeps what it has.
 
-ghost use Rattle.std.specs.Prelude.{◌≡◌, ◌∷◌, ◌++◌, [], IfOk, IfSome, None, OnOk, false, if◌then◌else◌, option_map};
+ghost use Rattle.std.specs.Prelude.{◌≡◌, ◌∷◌, ◌++◌, [], IfOk, IfSome, None, OnOk, Some, false, if◌then◌else◌, option_map};
 ghost use Rattle.serde_json.specs.View.{members_view, view};
 ghost use Rattle.ob_base.specs.Times.{IsMoment};
 ghost use Rattle.ob_base.specs.declared.place.PathStep.TheVariants.{Key};
@@ -11,19 +11,21 @@ ghost use Rattle.ob_codec.specs.JsonForm.{value_from};
 ghost use Rattle.ob_schema.specs.Fields.{Holds, plain_columns};
 ghost use Rattle.ob_schema.specs.Models.{HasField, HasModel, field_at, model_at};
 ghost use Rattle.ob_definition.specs.Types.{is_list};
+ghost use Rattle.ob_orm.specs.ObjectSteps.{object_place};
 ghost use Rattle.ob_orm.specs.RowValues as spec;
 ghost use Rattle.ob_orm.specs.RowValues.{is_stamp, placed, row_value, row_values, vals_expected, valued, values_from};
+ghost use Rattle.ob_orm.specs.Values.{values_fault};
 ghost use Rattle.ob_orm.specs.CreateSteps.{IsFaultAt, IsMakeable};
 ghost use Rattle.ob_call.specs.Arguments.{IsFit};
 ghost use Rattle.ob_call.specs.ArgumentsSteps.{given_of};
 ghost use Rattle.ob_call.specs.Forms.{fields_at};
-ghost use Rattle.ob_call.specs.Places.{spot_place};
 ghost use Rattle.ob_call.specs.Results.{IsResultOf};
 ghost use Rattle.ob_tables.specs.Fitting.{AreFitIn};
 
+use crate::objects::ObjectSpot;
 use crate::values::is_free;
 use ob_base::{FieldNo, ModelNo, NoMemory, Refusal, Sequence, Value};
-use ob_call::{Below, Given, Json, Spot, malformed_below};
+use ob_call::{Given, Json};
 use ob_codec::{CodecFault, Input, from_json};
 use ob_schema::{FieldInfo, Schema};
 use serde_json::Map;
@@ -34,7 +36,7 @@ use std::alloc::Global;
 struct RowValues<'a> {
     made: bool,
     now: i64,
-    spot: Spot<'a>,
+    object: ObjectSpot<'a>,
     members: &'a Map<String, Json>,
 }
 
@@ -57,13 +59,34 @@ pub(crate) fn given_values(
     let Some(values) = given else {
         unreachable!();
     };
-    let Some(members) = values.json.as_object() else {
+    let object = ObjectSpot::Argument(values.spot);
+    object_values(alloc, schema, model, made, now, object, values.json)
+}
+
+/// The values that an object gives the plain fields of a row, made or changed at a moment.
+pub(crate) fn object_values(
+    alloc: Global,
+    schema: &Schema,
+    model: ModelNo,
+    made: bool,
+    now: i64,
+    object: ObjectSpot<'_>,
+    json: &Json,
+) -> Result<Sequence<(FieldNo, Value)>, Refusal>
+    requires model { HasModel schema.now model }
+    requires moment { IsMoment now }
+    requires form { values_fault (fields_at schema.now model) (view json.now) ≡ None }
+    ensures value { IfSome (model_at schema.now model) (λ info. IsResultOf (λ values. values) result
+        (values_from made info now (Some (record { place = object_place object.entry; json = view json.now })))) }
+    ensures fit { IfOk result (AreFitIn schema.now model) }
+{
+    let Some(members) = json.as_object() else {
         unreachable!();
     };
     let row = RowValues {
         made,
         now,
-        spot: values.spot,
+        object,
         members,
     };
     all_values(alloc, schema, model, &row)
@@ -80,7 +103,7 @@ fn all_values(
     requires moment { IsMoment row.now.now }
     ensures value { IfSome (model_at schema.now model)
         (λ info. IsResultOf (λ values. values) result
-        (row_values row.entry.now.made row.entry.now.now (spot_place row.entry.now.spot)
+        (row_values row.entry.now.made row.entry.now.now (object_place row.entry.now.object)
         (members_view row.entry.now.members.now.entries) (plain_columns info))) }
     ensures fit { IfOk result (AreFitIn schema.now model) }
 {
@@ -124,7 +147,7 @@ fn row_value(
     requires givable { IfSome (field_at schema.now model number) IsMakeable }
     requires moment { IsMoment row.now.now }
     ensures value { IfSome (field_at schema.now model number)
-        (λ field. IsResultOf (λ value. value) result (row_value row.entry.now.made row.entry.now.now (spot_place row.entry.now.spot)
+        (λ field. IsResultOf (λ value. value) result (row_value row.entry.now.made row.entry.now.now (object_place row.entry.now.object)
         (members_view row.entry.now.members.now.entries) field)) }
     ensures holds { IfOk result (λ value. IfSome (field_at schema.now model number)
         (λ field. IfSome value (Holds field))) }
@@ -136,7 +159,7 @@ fn row_value(
     }
     match given_of(field, row.members) {
         Some(json) => {
-            let value = given_value(alloc, schema, model, number, row.spot, json)?;
+            let value = given_value(alloc, schema, model, number, row.object, json)?;
             Ok(Some(value))
         }
         None => match default_value(alloc, row.made, field) {
@@ -172,7 +195,7 @@ fn given_value(
     schema: &Schema,
     model: ModelNo,
     number: FieldNo,
-    spot: Spot<'_>,
+    object: ObjectSpot<'_>,
     json: &Json,
 ) -> Result<Value, Refusal>
     requires field { HasField schema.now model number }
@@ -180,7 +203,7 @@ fn given_value(
         (λ field. is_list field.field_type ≡ false) }
     ensures value { IfSome (field_at schema.now model number)
         (λ field. IsResultOf (λ value. value) result
-        (placed (spot_place spot.entry ++ Key field.name ∷ [])
+        (placed (object_place object.entry ++ Key field.name ∷ [])
         (value_from field.field_type field.selection (view json.now)))) }
     ensures holds { IfOk result (λ value. IfSome (field_at schema.now model number)
         (λ field. Holds field value)) }
@@ -189,17 +212,17 @@ fn given_value(
     match from_json(alloc, schema, model, number, json) {
         Ok(Input::Plain(value)) => Ok(value),
         Ok(Input::Commands(_)) => unreachable!(),
-        Err(fault) => Err(fault_refusal(alloc, spot, name, &fault)),
+        Err(fault) => Err(fault_refusal(alloc, object, name, &fault)),
     }
 }
 
 /// The refusal of a value that isn't read, at the place of the fault.
-fn fault_refusal(alloc: Global, spot: Spot<'_>, name: &str, fault: &CodecFault) -> Refusal
-    ensures { IsFaultAt (spot_place spot.entry ++ Key name.now ∷ []) fault.now result }
+fn fault_refusal(alloc: Global, object: ObjectSpot<'_>, name: &str, fault: &CodecFault) -> Refusal
+    ensures { IsFaultAt (object_place object.entry ++ Key name.now ∷ []) fault.now result }
 {
     match fault {
         CodecFault::Shape(place) | CodecFault::Range(place) | CodecFault::Unknown(place) => {
-            malformed_below(alloc, spot, Below::Key(name), place)
+            object.malformed_below_key(alloc, name, place)
         }
         CodecFault::NoMemory => Refusal::NoMemory,
     }

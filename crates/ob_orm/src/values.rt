@@ -8,10 +8,11 @@ ghost use Rattle.ob_call.specs.Forms.{fields_at};
 ghost use Rattle.ob_call.specs.Places.{below_steps};
 ghost use Rattle.ob_orm.specs.Values.{first_key, is_free, is_given};
 
-use ob_base::ModelNo;
+use ob_base::{ModelNo, NoMemory};
 use ob_call::{Below, Form, Json};
 use ob_schema::{FieldInfo, Schema};
 use serde_json::Map;
+use std::alloc::Global;
 
 /// An object of values, each for a field of the model that calls give.
 #[derive(Clone, Copy)]
@@ -27,10 +28,10 @@ impl Form for Values<'_> {
 
     ghost fault = { λ values json. values_fault (fields_at values.schema.now values.model) json };
 
-    fn fault<'j>(&self, json: &'j Json) -> Option<Below<'j>> {
+    fn fault<'j>(&self, _alloc: Global, json: &'j Json) -> Result<Option<Below<'j>>, NoMemory> {
         match json {
-            Json::Object(members) => first_key(self.schema, self.model, members),
-            _ => Some(Below::Whole),
+            Json::Object(members) => Ok(first_key(self.schema, self.model, members)),
+            _ => Ok(Some(Below::Whole)),
         }
     }
 }

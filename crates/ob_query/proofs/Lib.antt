@@ -1,4 +1,13 @@
-pub mod ReadGiven
 pub mod ReadObjects
 pub mod ReadSteps
+pub mod ReadGiven
 pub mod ReadAnswers
+pub mod RankedRows
+pub mod Walks
+pub mod Asked
+pub mod SearchedIds
+pub mod FoundRows
+pub mod SearchLoops
+pub mod SearchFields
+pub mod SearchAnswers
+pub mod SearchReadAnswers

@@ -1,28 +1,24 @@
 -- The answer of a read, by its arguments and the rows that were fetched.
-use Rattle.std.proofs.Common.{◌≡◌, ℕ, suc, ◌+◌, ◌<◌, List, [], ◌∷◌, map, length, get_or, Option, Some, None, option_map, option_and_then, Result, Ok, Err, refl, sym, ap, subst, ◌∙◌, arith}
-use Rattle.std.specs.Prelude.{All, Contains, IsSome, IfErr, IfSome}
-use Rattle.std.proofs.lemmas.List.Elements.{All-cons, All-nil, All-head, All-tail, All-filter}
-use Rattle.std.proofs.lemmas.List.FromFn.{get_or-enumerate_from, length-enumerate_from}
-use Rattle.std.proofs.lemmas.Option.{IfSome_then, slice_get-get_or}
+use Rattle.std.proofs.Common.{◌≡◌, ℕ, List, [], ◌∷◌, map, get_or, Option, Some, None, option_map, Result, Ok, Err, refl, sym, ap, subst, ◌∙◌}
+use Rattle.std.specs.Prelude.{Contains, IfErr, IfSome}
+use Rattle.std.proofs.lemmas.Option.{IfSome_then}
 use Rattle.ob_base.specs.declared.id.FieldNo.{FieldNo}
 use Rattle.ob_base.specs.declared.place.PathStep.{PathStep}
 use Rattle.ob_base.specs.declared.refusal.Refusal.{Refusal}
 use Rattle.ob_base.specs.declared.refusal.Refusal.TheVariants as refusal
-use Rattle.ob_schema.specs.Fields.{Column, columns}
-use Rattle.ob_schema.specs.Built.{numbered}
+use Rattle.ob_schema.specs.Fields.{Column}
 use Rattle.ob_cache.specs.Calls.{HasTables, KeeperRose, Refuses, Standpoint, TellsBy, models_at}
-use Rattle.ob_schema.specs.Models.{fields_of, model_at}
+use Rattle.ob_schema.specs.Models.{model_at}
 use Rattle.ob_schema.specs.Tables.{Tables}
 use Rattle.ob_schema.specs.declared.info.FieldInfo.{FieldInfo}
 use Rattle.ob_schema.specs.declared.info.ModelInfo.{ModelInfo}
-use Rattle.serde_json.specs.Data.{Data, null, boolean, number, string, array, object}
+use Rattle.serde_json.specs.Data.{Data}
 use Rattle.serde_json.specs.View.{view}
 use Rattle.ob_call.specs.Arguments as arguments
 use Rattle.ob_base.specs.Chain.{◌>>=◌}
 use Rattle.ob_call.specs.Arguments.{AreFit, arguments_of}
 use Rattle.ob_call.specs.Called.{Called, called_by}
 use Rattle.ob_call.specs.Forms.{fields_at}
-use Rattle.ob_codec.specs.Commands.{listed}
 use Rattle.ob_call.specs.ArgumentsSteps.{all_given_of, given_of}
 use Rattle.ob_call.specs.Results.{IsResultOf}
 use Rattle.ob_call.specs.Ids.{IsLeastMissing, IsMissingAmong, MissesLeast, named_ids}

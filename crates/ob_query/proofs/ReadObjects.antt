@@ -3,7 +3,7 @@ use Rattle.std.proofs.Common.{◌≡◌, ℕ, ◌+◌, ◌<◌, ◌≤◌, Bool,
 use Rattle.std.specs.Prelude.{IfOk, IfSome, IsSome, pos, negsuc, option_and_then, option_map}
 use Rattle.std.proofs.lemmas.List.{drop_more, drop_all}
 use Rattle.std.proofs.lemmas.Option.{same_Some}
-use Rattle.serde_json.specs.Data.{Data, object, Members, no_members, member, put}
+use Rattle.serde_json.specs.Data.{Data, object, Members, put}
 use Rattle.serde_json.specs.View.{items_of, view}
 use Rattle.serde_json.specs.Written.{has_float, items_have_float, members_have_float}
 use Rattle.serde_json.specs.declared.value.Value.{Value as Json}
@@ -38,7 +38,7 @@ use Rattle.ob_call.specs.Columns.{columns_at}
 -- ---- no float is told
 
 -- ids are no floats
-ids_plain : (ids : List RecId) → items_have_float (items_of (map id_json ids)) ≡ false
+pub ids_plain : (ids : List RecId) → items_have_float (items_of (map id_json ids)) ≡ false
 ids_plain [] = refl
 ids_plain (id ∷ ids) = ids_plain ids
 

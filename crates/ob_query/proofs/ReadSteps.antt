@@ -1,9 +1,9 @@
 -- The steps of fetching rows one after another.
-use Rattle.std.proofs.Common.{◌≡◌, ℕ, false, List, [], ◌∷◌, ◌++◌, map, Option, Some, None, Ok, Err, refl, sym, subst}
+use Rattle.std.proofs.Common.{◌≡◌, ℕ, false, List, [], ◌∷◌, ◌++◌, map, Option, Some, None, Err, refl, sym, subst}
 use Rattle.std.specs.Prelude.{IfSome, IsSome, All, Contains}
 use Rattle.std.proofs.lemmas.List.{map-append}
 use Rattle.std.proofs.lemmas.Option.{IfSome_then}
-use Rattle.std.proofs.lemmas.List.Elements.{All-cons, All-nil}
+use Rattle.std.proofs.lemmas.List.Elements.{All-cons, All-contains, All-nil}
 use Rattle.ob_base.specs.declared.id.FieldNo.{FieldNo}
 use Rattle.ob_base.specs.declared.id.ModelNo.{ModelNo}
 use Rattle.ob_base.specs.declared.refusal.Refusal.TheVariants as refusal
@@ -11,7 +11,7 @@ use Rattle.ob_cache.specs.Standing.{Holding, RestsAt, Stays}
 use Rattle.ob_io.specs.Store.{Store}
 use Rattle.ob_schema.specs.Fields.{Column}
 use Rattle.ob_schema.specs.Models.{model_at}
-use Rattle.ob_schema.specs.Tables.{Tables, row_at}
+use Rattle.ob_schema.specs.Tables.{PlainRow, Tables, row_at}
 use Rattle.ob_schema.specs.declared.info.ModelInfo.{ModelInfo}
 use Rattle.serde_json.specs.Data.{Data, array}
 use Rattle.serde_json.specs.View.{items_of, view}
@@ -22,17 +22,12 @@ use Rattle.ob_call.specs.Ids.{IsLeastMissing}
 use Rattle.ob_query.specs.Read.{TellsRow, TellsRows}
 use Rattle.ob_query.specs.ReadParts.{TellsOrMisses}
 use Rattle.ob_call.specs.Columns.{columns_at}
-use Rattle.ob_query.specs.ReadRows.{AnswersRows}
+use Rattle.ob_query.specs.ReadRows.{AnswersRows, AreFetched, ListsRows}
 use Rattle.ob_query.proofs.ReadObjects.{stays-rests}
 use Rattle.ob_call.proofs.CallerLemmas.{both_plain, left_plain, right_plain}
 use Rattle.ob_cache.proofs.CallerLemmas.{stays-then}
 
 module _ (models : List ModelInfo) (model : ModelNo) (tables : Tables) where
-  -- the objects of the ids so far, or the least id of those that no row has
-  abbrev pub Fetched : List Column → List ℕ → List Data → Option ℕ → Type 0
-  Fetched fields ids objects None = TellsRows models tables model fields ids objects
-  Fetched fields ids objects (Some id) = IsLeastMissing model tables ids id
-
   -- the ids of rows that are told have rows
   all_there : (fields : List Column) (ids : List ℕ) (objects : List Data) → TellsRows models tables model fields ids objects → All (IsThere model tables) ids
   all_there fields [] [] tell = All-nil (IsThere model tables)
@@ -49,16 +44,16 @@ module _ (models : List ModelInfo) (model : ModelNo) (tables : Tables) where
   one_more fields (other ∷ ids) (o ∷ objects) id d tell there told = (tell.0, tell.1, one_more fields ids objects id d tell.2 there told)
 
   -- one row more was fetched
-  fetched_row : (fields : List Column) (ids : List ℕ) (objects : List Data) (missing : Option ℕ) (id : ℕ) (d : Data) → Fetched fields ids objects missing → IsSome (row_at tables model (record { 0 = id }))
+  fetched_row : (fields : List Column) (ids : List ℕ) (objects : List Data) (missing : Option ℕ) (id : ℕ) (d : Data) → AreFetched models tables model fields ids objects missing → IsSome (row_at tables model (record { 0 = id }))
       → TellsRow models tables model fields (record { 0 = id }) d
-      → Fetched fields (ids ++ id ∷ []) (objects ++ d ∷ []) missing
+      → AreFetched models tables model fields (ids ++ id ∷ []) (objects ++ d ∷ []) missing
   fetched_row fields ids objects None id d tell there told = one_more fields ids objects id d tell there told
   fetched_row fields ids objects (Some gap) id d are there told = missing-kept model tables ids gap id are there
 
 -- one id more is missing
-fetched_gap : (models : List ModelInfo) (model : ModelNo) (tables : Tables) (fields : List Column) (ids : List ℕ) (objects : List Data) (missing : Option ℕ) (id : ℕ) → Fetched models model tables fields ids objects missing
+fetched_gap : (models : List ModelInfo) (model : ModelNo) (tables : Tables) (fields : List Column) (ids : List ℕ) (objects : List Data) (missing : Option ℕ) (id : ℕ) → AreFetched models tables model fields ids objects missing
     → row_at tables model (record { 0 = id }) ≡ None
-    → Fetched models model tables fields (ids ++ id ∷ []) objects (Some (least_of missing id))
+    → AreFetched models tables model fields (ids ++ id ∷ []) objects (Some (least_of missing id))
 fetched_gap models model tables fields ids objects None id tell none = missing-first model tables ids id (all_there models model tables fields ids objects tell) none
 fetched_gap models model tables fields ids objects (Some gap) id are none = missing-lesser model tables ids gap id are none
 
@@ -73,7 +68,7 @@ plain_push (o ∷ objects) d e f =
 
 -- the objects of the ids so far, or the least that is missing, with the fields of these numbers
 abbrev pub FetchedIn : List ModelInfo → Option ModelInfo → ModelNo → List FieldNo → List ℕ → List Json → Option ℕ → Tables → Type 0
-FetchedIn models found model numbers ids objects missing tables = IfSome found (λ info. Fetched models model tables (columns_at info numbers) ids (map view objects) missing)
+FetchedIn models found model numbers ids objects missing tables = IfSome found (λ info. AreFetched models tables model (columns_at info numbers) ids (map view objects) missing)
 
 -- an object tells of the id's row, or there is none
 abbrev pub ObjectIn : List ModelInfo → Option ModelInfo → ModelNo → List FieldNo → ℕ → Option Json → Tables → Type 0
@@ -84,7 +79,7 @@ row_in : (models : List ModelInfo) (found : Option ModelInfo) (model : ModelNo) 
     → FetchedIn models found model numbers ids objects missing tables → ObjectIn models found model numbers id (Some json) tables → FetchedIn models found model numbers (ids ++ id ∷ []) (objects ++ json ∷ []) missing tables
 row_in models None model numbers ids objects missing id json tables so_far are = tt
 row_in models (Some info) model numbers ids objects missing id json tables so_far are =
-    subst (λ (ds : List Data). Fetched models model tables (columns_at info numbers) (ids ++ id ∷ []) ds missing) (sym (map-append view objects (json ∷ [])))
+    subst (λ (ds : List Data). AreFetched models tables model (columns_at info numbers) (ids ++ id ∷ []) ds missing) (sym (map-append view objects (json ∷ [])))
     (fetched_row models model tables (columns_at info numbers) ids (map view objects) missing id (view json) so_far are.0 are.1)
 
 -- one id more is missing, of a model that may be there
@@ -133,15 +128,25 @@ module _ (kept : Option Store) (held : Holding) (now : Option Store) (new : Hold
 
 -- ---- the answer, once all were fetched
 
-module _ (kept : Option Store) (held : Holding) (now : Option Store) (new : Holding) (model : ModelNo) (numbers : List FieldNo) (rose : Type 0) (ids : List ℕ) (objects : List Json) where
+module _ (models : List ModelInfo) (tables : Tables) (model : ModelNo) (numbers : List FieldNo) (ids : List ℕ) (objects : List Json) where
   -- an id is missing
-  pub answers_gap : (id : ℕ) → IsFetching kept held now new model numbers ids objects (Some id) → (tables : Tables) → RestsAt kept held tables
-      → IfSome (model_at held.models model) (λ info. AnswersRows held.models tables model (columns_at info numbers) ids rose (Err (refusal.Missing model (record { 0 = id }))))
-  answers_gap id so_far tables rests =
-      IfSome_then (model_at held.models model) (so_far.told tables rests) (λ info gap. (refl, gap))
+  pub answers_gap : (found : Option ModelInfo) (rose : Type 0) (id : ℕ) → FetchedIn models found model numbers ids objects (Some id) tables
+      → IfSome found (λ info. AnswersRows models tables model (columns_at info numbers) ids rose (Err (refusal.Missing model (record { 0 = id }))))
+  answers_gap found rose id gap = IfSome_then found gap (λ info least. (refl, least))
 
   -- all rows are told
-  pub answers_rows : (json : Data) → json ≡ array (items_of (map view objects)) → IsFetching kept held now new model numbers ids objects None → (tables : Tables) → RestsAt kept held tables
-      → IfSome (model_at held.models model) (λ info. AnswersRows held.models tables model (columns_at info numbers) ids rose (Ok json))
-  answers_rows json is so_far tables rests =
-      IfSome_then (model_at held.models model) (so_far.told tables rests) (λ info rows. (map view objects, rows, is))
+  pub answers_rows : (found : Option ModelInfo) (json : Data) → json ≡ array (items_of (map view objects)) → FetchedIn models found model numbers ids objects None tables
+      → IfSome found (λ info. ListsRows models tables model (columns_at info numbers) ids json)
+  answers_rows found json is rows = IfSome_then found rows (λ info tell. (map view objects, tell, is))
+
+  -- an id that has a row isn't the one that is missing
+  no_gap : (id : ℕ) → All (IsThere model tables) ids → IsLeastMissing model tables ids id → ⊥
+  no_gap id there gap =
+      let row : IsThere model tables id = All-contains (IsThere model tables) ids id there gap.asked in
+      let e = subst (λ (o : Option PlainRow). IsSome o) gap.missing row in cc
+
+  -- where all have rows, all are told
+  pub rows_told : (found : Option ModelInfo) (missing : Option ℕ) (json : Data) → json ≡ array (items_of (map view objects)) → All (IsThere model tables) ids → FetchedIn models found model numbers ids objects missing tables
+      → IfSome found (λ info. ListsRows models tables model (columns_at info numbers) ids json)
+  rows_told found None json is there rows = answers_rows found json is rows
+  rows_told found (Some id) json is there gap = IfSome_then found gap (λ info least. absurd (no_gap id there least))

@@ -1,6 +1,12 @@
 -- What contracts of public functions cite.
 pub mod Read
+pub mod SearchForms
+pub mod SearchOrder
+pub mod Search
 -- Private: the words by which the rooms of the crate are joined.
 pub mod ReadForm
 pub mod ReadParts
 pub mod ReadRows
+pub mod SearchKeys
+pub mod SearchQuestions
+pub mod SearchParts

@@ -1,8 +1,8 @@
 //! `read`: the named fields of the named rows.
 //!
-//! Rooms: `read_form` (the forms of its arguments), `asked` (which fields are asked for) and `told_rows`
-//! (how rows are told). What it means is `Reads`, and why it may be refused over any keeper
-//! `ReadCause`: a change begins with these.
+//! Room: `read_form` (the forms of its arguments); how rows are told stands in `told_rows` beside
+//! this one. What it means is `Reads`, and why it may be refused over any keeper `ReadCause`: a
+//! change begins with these.
 
 ghost use Rattle.std.specs.Prelude.{◌≡◌, ◌≤◌, false, All, IfErr, IfOk, IfSome};
 ghost use Rattle.serde_json.specs.View.{view};
@@ -19,13 +19,12 @@ ghost use Rattle.ob_schema.specs.Models.{HasField, HasModel, model_at};
 ghost use Rattle.ob_schema.specs.Tables.{Tables};
 
 mod read_form;
-mod told_rows;
 
 use crate::reading::read_form::read_parameters;
-use crate::reading::told_rows::row_object;
+use crate::told_rows::fetched_rows;
 use ob_base::{FieldNo, Ledger, ModelNo, NoMemory, RecId, Refusal, Steps};
 use ob_cache::Engine;
-use ob_call::{Call, Json, arguments_of, least, named_fields, named_ids};
+use ob_call::{Call, Json, arguments_of, named_fields, named_ids};
 use ob_io::Keeper;
 use std::alloc::Global;
 
@@ -115,16 +114,9 @@ fn objects_of<K: Keeper>(
     ensures count { (standpoint K.Keeper engine.old).faults ≤ (standpoint K.Keeper engine.new).faults }
     ensures lender { engine.new.keeper.ghost_name ≡ engine.old.keeper.ghost_name }
 {
-    let mut objects = Vec::new(alloc);
-    let mut missing = None;
-    for id in ids {
-        match row_object(alloc, engine, model, fields, RecId(*id))? {
-            Some(object) => objects.push(object).map_err(|_| Refusal::NoMemory)?,
-            None => missing = least(missing, *id),
-        }
-    }
-    match missing {
+    let rows = fetched_rows(alloc, engine, model, ids, fields)?;
+    match rows.missing {
         Some(id) => Err(Refusal::Missing(model, RecId(id))),
-        None => Ok(Json::Array(objects)),
+        None => Ok(Json::Array(rows.objects)),
     }
 }

@@ -1,6 +1,6 @@
 //! Rights and admissions from a line: one JSON object with the definitions of its `models` as
-//! a text of `probe_parts::definitions`, the policy of `policies`, the `rows` of `row_facts`, and
-//! what is `asked`: questions of callers, each a list that begins with the caller's id and the
+//! a text of `probe_parts::definitions` and the policy of `policies`, or with both from modules
+//! (`modules`), the `rows` of `row_facts`, and what is `asked`: questions of callers, each a list that begins with the caller's id and the
 //! groups in which he is stated to be. What is told is a list with an answer to each.
 //!
 //! | behind the caller | answer |
@@ -14,6 +14,7 @@ ghost use Rattle.std.specs.Prelude.{◌≡◌};
 ghost use Rattle.ob_schema.specs.Models.{HasModel};
 ghost use Rattle.ob_access.specs.Policies.{IsPolicyOver};
 
+use crate::modules::loaded;
 use crate::policies::{op_of, policy};
 use crate::row_facts::RowFacts;
 use crate::unanswered::Unanswered;
@@ -31,6 +32,14 @@ use std::alloc::Global;
 struct Caller<'g> {
     user: RecId,
     groups: &'g GroupSet,
+}
+
+/// Adds the answers to what an object asks by the policy of its modules, or what stands against
+/// these.
+pub(crate) fn put_declared(alloc: Global, told: &mut Told, times: u32, json: &Json) {
+    if let Some(loaded) = loaded(alloc, told, json) {
+        put_by(alloc, told, times, &loaded.schema, &loaded.policy, json);
+    }
 }
 
 /// Adds the answers to what an object asks.

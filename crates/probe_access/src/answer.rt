@@ -6,18 +6,19 @@
 //! | `fields CASE` | the fields that the domain names, as MODEL.FIELD, or the fault with its place |
 //! | `asks CASE` | whether a criterion on the field stands outside `any`, or the fault with its place |
 //! | `access CASE` | an answer to each question of the case, in JSON |
+//! | `declared CASE` | the same by the policy of modules, or what stands against these first |
 //!
 //! The CASE of `domain` is `{"model":MODEL,"user":ID,"rows":[ROW, ..],"domain":DOMAIN}`, or with
 //! `"domains":[DOMAIN, ..]`. MODEL is `probe.row` or `probe.place`, or one of those that
 //! `"models":DEFINITIONS` defines. `row_facts` says what a row is, `accesses` what the CASE of
-//! `access` is, `fields` that of `fields` and `asks`, `probe_parts::definitions` what DEFINITIONS
+//! `access` and `declared` is, `fields` that of `fields` and `asks`, `probe_parts::definitions` what DEFINITIONS
 //! are. With `"answered":N` so many questions about each row are answered, and `failed` stands
 //! where that isn't enough: in the answer of `domain` behind the row's id, of `access` alone.
 //!
 //! In a CASE `«N TEXT»` stands for a text so many times. `times N` before a word makes its call
 //! N times and tells the last answer. `no JSON` and `no case` tell what a line lacks.
 
-use crate::accesses::put_access;
+use crate::accesses::{put_access, put_declared};
 use crate::domains::put_domain;
 use crate::fields::{Question, put_fields};
 use ob_domain::Json;
@@ -49,6 +50,7 @@ fn put_answer(alloc: Global, told: &mut Told, times: u32, word: &str, json: &Jso
         "fields" => put_fields(alloc, told, times, Question::Fields, json),
         "asks" => put_fields(alloc, told, times, Question::Asks, json),
         "access" => put_access(alloc, told, times, json),
+        "declared" => put_declared(alloc, told, times, json),
         _ => told.put("no word"),
     }
     if told.is_malformed() {

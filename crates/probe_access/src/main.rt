@@ -4,7 +4,7 @@
 //!
 //! Rooms: `answer` tells a word from another; `domains` asks ob_domain and `accesses` asks
 //! ob_access, over the rows of `row_facts`; `fields` asks ob_domain for the fields of a domain;
-//! `policies` reads a policy, `unanswered` says why there is no answer. A further word gets its
+//! `policies` reads a policy, `modules` asks ob_load for one, `unanswered` says why there is no answer. A further word gets its
 //! line in `answer`.
 #![tactic(auto)]
 
@@ -12,6 +12,7 @@ mod accesses;
 mod answer;
 mod domains;
 mod fields;
+mod modules;
 mod policies;
 mod row_facts;
 mod unanswered;

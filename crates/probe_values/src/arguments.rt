@@ -129,11 +129,11 @@ pub(crate) fn put_below(alloc: Global, told: &mut Told, asked: &str) {
         None => (asked, "-"),
     };
     let (part, steps) = first_word(rest);
-    let (spot, below) = (spot_of(spot), below_of(part));
+    let spot = spot_of(spot);
     let steps = place_of(alloc, told, steps);
-    put_refusal(told, &malformed(alloc, spot, below));
+    put_refusal(told, &malformed(alloc, spot, below_of(part)));
     told.put(" ");
-    put_refusal(told, &malformed_below(alloc, spot, below, &steps));
+    put_refusal(told, &malformed_below(alloc, spot, below_of(part), &steps));
 }
 
 /// The spot that a word names.

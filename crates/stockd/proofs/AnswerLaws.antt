@@ -1,8 +1,8 @@
 -- From what each step of serving a request does to a step of the machine.
-use Rattle.std.proofs.Common.{◌≡◌, inl, inr, ℕ, ℤ, pos, List, Option, Some, None, option_map, Result, Ok, Err, refl, ap, ◌∙◌, subst, sym, Bor, BTreeMap, Global, String}
-use Rattle.std.specs.Prelude.{IfErr, IfSome, IsSome, IsSomeAnd, unwrap_or, ⊤}
+use Rattle.std.proofs.Common.{◌≡◌, inl, inr, ℕ, ℤ, pos, true, false, codes, List, Option, Some, None, option_map, Result, Ok, Err, refl, ap, ◌∙◌, subst, sym, Bor, BTreeMap, Global, String}
+use Rattle.std.specs.Prelude.{IfErr, IfSome, IsSome, IsSomeAnd, bytes_eq, unwrap_or}
 use Rattle.std.specs.BTreeMap.{IsEmpty}
-use Rattle.serde_json.specs.Data.{Data, object, no_members}
+use Rattle.serde_json.specs.Data.{Data, Items, object, no_members}
 use Rattle.serde_json.specs.View.{members_view, view}
 use Rattle.serde_json.proofs.Views.{view-Object}
 use Rattle.serde_json.specs.declared.value.Value.{Value}
@@ -18,21 +18,23 @@ use Rattle.ob_call.specs.declared.call.Call.{Call as Handed}
 use Rattle.ob_io.specs.Moments.{later}
 use Rattle.ob_io.specs.Store.{Store}
 use Rattle.ob_rpc.specs.Envelope.{Envelope, Fault, element_place, envelope_of}
-use Rattle.ob_rpc.specs.declared.methods.Served.TheVariants.{ExecuteKw}
+use Rattle.ob_rpc.specs.declared.methods.Served.TheVariants.{EveryMethod}
 use Rattle.ob_schema.specs.Models.{model_at}
 use Rattle.ob_schema.specs.declared.info.ModelInfo.{ModelInfo}
 use Rattle.ob_schema.specs.Tables.{Tables}
 use Rattle.stockd.specs.MethodCall.{call_view, handed_view}
+use Rattle.stockd.specs.declared.request.Layout.{Layout}
+use Rattle.stockd.specs.declared.request.Layout.TheVariants as layout
 use Rattle.stockd.specs.declared.request.Method.{Method}
 use Rattle.stockd.specs.declared.request.Method.TheVariants as method
 use Rattle.stockd.specs.declared.request.MethodCall.{MethodCall}
 use Rattle.stockd.specs.declared.request.ReadMethod.{ReadMethod}
 use Rattle.stockd.specs.declared.request.WriteMethod.{WriteMethod}
-use Rattle.stockd.specs.Request.{Call, Request, call_of, called, request_by, request_of}
-use Rattle.stockd.specs.Texts.{malformed_text, no_memory_text, outcome_text, told, told_refusal}
+use Rattle.stockd.specs.Request.{Call, Request, call_of, called, is_login, listed, login_of, malformed, request_by, request_of, request_with, telling_by, told_of, version_json}
+use Rattle.stockd.specs.Texts.{malformed_text, no_memory_text, outcome_text, told}
 use Rattle.stockd.specs.Body.{MayBeGiven, Serves, ServesOver, TakesMoment}
-use Rattle.stockd.specs.Machine.{Calls, Makes, MayAnswer, Means, Tells}
-use Rattle.stockd.specs.Reply.{Keeps, MayTell, TellsSome}
+use Rattle.stockd.specs.Machine.{Calls, Makes, MakesCause, MayAnswer, Means, MeansCause, Tells, TellsCause, called_at}
+use Rattle.stockd.specs.Reply.{Keeps, MayTell, RepliesTo, TellsKept, TellsPlainly}
 
 -- what holds of some model holds of the model of the number
 at_model : (P : ModelInfo → Type 0) (found : Option ModelInfo) (info : ModelInfo) → found ≡ Some info → P info → IsSomeAnd found P
@@ -40,14 +42,14 @@ at_model P found info is holds = rw is holds
 
 -- an outcome that leaves the tables, and its reply, are a step
 pub told_step : (models : List ModelInfo) (old : Tables) (now : ℤ) (rose : Type 0) (id : Data) (call : Call) (reply : List ℕ) (outcome : Result Data Refusal) → Calls models old now call outcome old
-    → MayTell reply (outcome_text models id (told outcome))
+    → MayTell reply (outcome_text models id (told call.layout outcome))
     → MayAnswer models old now rose (called id call) reply old
 told_step models old now rose id call reply outcome calls (inl tells) = inl (outcome, calls, tells)
 told_step models old now rose id call reply outcome calls (inr unmade) = inr (refl, inl unmade)
 
 -- a refusal and its reply are a step
 pub refused_step : (models : List ModelInfo) (old : Tables) (now : ℤ) (rose : Type 0) (id : Data) (call : Call) (reply : List ℕ) (why : Refusal)
-    → Refuses rose (λ cause. Calls models old now call (Err cause) old) why → MayTell reply (outcome_text models id (told (Err why)))
+    → Refuses rose (λ cause. Calls models old now call (Err cause) old) why → MayTell reply (outcome_text models id (told call.layout (Err why)))
     → MayAnswer models old now rose (called id call) reply old
 refused_step models old now rose id call reply refusal.Keeper cause (inl tells) = inr (refl, inr (cause, tells))
 refused_step models old now rose id call reply refusal.Keeper cause (inr unmade) = inr (refl, inl unmade)
@@ -68,11 +70,6 @@ known_model (Some info) there = (info, refl)
 pub known : (found : Option ModelInfo) (info : ModelInfo) (P : ModelInfo → Type 0) → found ≡ Some info → IfSome found P → P info
 known found info P is h = let there : IfSome (Some info) P = subst (λ (o : Option ModelInfo). IfSome o P) is h in there
 
--- and of each, step by step
-pub of_each : (found : Option ModelInfo) (P Q : ModelInfo → Type 0) → ((info : ModelInfo) → P info → Q info) → IfSome found P → IfSome found Q
-of_each None P Q step h = tt
-of_each (Some info) P Q step h = step info h
-
 -- an engine of the same models that stands as before rests at the tables still
 pub rests_on : (before now : Option Store) (old new : Holding) → new.models ≡ old.models → OfStages before old (Stands now new) → (tables : Tables) → RestsAt before old tables → RestsAt now new tables
 rests_on before now old new same stands tables rests = subst (λ (models : List ModelInfo). Stands now new (resting models tables)) (sym same) (stands (resting old.models tables) rests)
@@ -86,7 +83,7 @@ pub serves_unchanged : (models : List ModelInfo) (old : Tables) (now : ℤ) (ros
     → RestsAt kept held old → MayAnswer models old now rose request reply old → Serves models old now rose request reply kept held
 serves_unchanged models old now rose request reply kept held rests answer = record { tables = old; rests = rests; answer = answer }
 
-module _ (before after : Standpoint) (info : ModelInfo) (call : Handed) (id : Data) (reply : List ℕ) where
+module _ (before after : Standpoint) (info : ModelInfo) (layout : Layout) (call : Handed) (id : Data) (reply : List ℕ) where
   abbrev models : List ModelInfo
   models = models_at before
 
@@ -96,52 +93,52 @@ module _ (before after : Standpoint) (info : ModelInfo) (call : Handed) (id : Da
 
   -- a refusal among others, of a method
   as_call : (named : Method) (why : Refusal) (old : Tables) → model_at models call.model ≡ Some info → Refuses (KeeperRose before after) (λ w. Means named models called_with old (Err w) old) why
-      → Refuses (KeeperRose before after) (λ w. Calls models old call.now (handed_view named call) (Err w) old) why
-  as_call named why old is cause = refuses_as (λ w. Means named models called_with old (Err w) old) (λ w. Calls models old call.now (handed_view named call) (Err w) old) (KeeperRose before after)
+      → Refuses (KeeperRose before after) (λ w. Calls models old call.now (handed_view layout named call) (Err w) old) why
+  as_call named why old is cause = refuses_as (λ w. Means named models called_with old (Err w) old) (λ w. Calls models old call.now (handed_view layout named call) (Err w) old) (KeeperRose before after)
       (λ w means. at_model (λ own. Means named models (called_by call own) old (Err w) old) (model_at models call.model) info is means) why cause
 
   module _ (reads : ReadMethod) (is : model_at models call.model ≡ Some info) where
     -- a method that reads was answered, and its reply told
-    pub reading_serves : (json : Data) → IsAsked (Tells reads models called_with) before after (λ _. ⊤) (Ok json) → MayTell reply (outcome_text models id (Ok json))
-        → ServesOver before after call.now (called id (handed_view (method.Reads reads) call)) reply
+    pub reading_serves : (json : Data) → IsAsked (Tells reads models called_with) before after (TellsCause reads models called_with) (Ok json) → MayTell reply (outcome_text models id (Ok json))
+        → ServesOver before after call.now (called id (handed_view layout (method.Reads reads) call)) reply
     reading_serves json asked tells = λ tables rests.
-        serves_unchanged models tables call.now (KeeperRose before after) (called id (handed_view (method.Reads reads) call)) reply after.kept after.held
+        serves_unchanged models tables call.now (KeeperRose before after) (called id (handed_view layout (method.Reads reads) call)) reply after.kept after.held
         (rests_on before.kept after.kept before.held after.held asked.same.models asked.same.stands tables rests)
-        (told_step models tables call.now (KeeperRose before after) id (handed_view (method.Reads reads) call) reply (Ok json)
+        (told_step models tables call.now (KeeperRose before after) id (handed_view layout (method.Reads reads) call) reply (Ok json)
         (at_model (λ own. Means (method.Reads reads) models (called_by call own) tables (Ok json) tables) (model_at models call.model) info is (asked.answer tables rests, refl)) tells)
 
     -- or it was refused
-    pub refused_reading_serves : (why : Refusal) → IsAsked (Tells reads models called_with) before after (λ _. ⊤) (Err why) → MayTell reply (outcome_text models id (told (Err why)))
-        → ServesOver before after call.now (called id (handed_view (method.Reads reads) call)) reply
+    pub refused_reading_serves : (why : Refusal) → IsAsked (Tells reads models called_with) before after (TellsCause reads models called_with) (Err why) → MayTell reply (outcome_text models id (told layout (Err why)))
+        → ServesOver before after call.now (called id (handed_view layout (method.Reads reads) call)) reply
     refused_reading_serves why asked tells = λ tables rests.
-        serves_unchanged models tables call.now (KeeperRose before after) (called id (handed_view (method.Reads reads) call)) reply after.kept after.held
+        serves_unchanged models tables call.now (KeeperRose before after) (called id (handed_view layout (method.Reads reads) call)) reply after.kept after.held
         (rests_on before.kept after.kept before.held after.held asked.same.models asked.same.stands tables rests)
-        (refused_step models tables call.now (KeeperRose before after) id (handed_view (method.Reads reads) call) reply why
+        (refused_step models tables call.now (KeeperRose before after) id (handed_view layout (method.Reads reads) call) reply why
         (as_call (method.Reads reads) why tables is
         (refuses_as (λ w. Tells reads models called_with tables (Err w)) (λ w. Means (method.Reads reads) models called_with tables (Err w) tables) (KeeperRose before after) (λ w tells. (tells, refl)) why
         (asked.answer tables rests))) tells)
 
   module _ (writes : WriteMethod) (is : model_at models call.model ≡ Some info) where
     -- a method that writes was refused
-    pub refused_writing_serves : (why : Refusal) → IsCalled (Makes writes models called_with) before after (λ _. ⊤) (Err why) → MayTell reply (outcome_text models id (told (Err why)))
-        → ServesOver before after call.now (called id (handed_view (method.Writes writes) call)) reply
+    pub refused_writing_serves : (why : Refusal) → IsCalled (Makes writes models called_with) before after (MakesCause writes models called_with) (Err why) → MayTell reply (outcome_text models id (told layout (Err why)))
+        → ServesOver before after call.now (called id (handed_view layout (method.Writes writes) call)) reply
     refused_writing_serves why is_called tells = λ tables rests.
         let (cause, rest) = is_called.answer tables rests in
-        serves_unchanged models tables call.now (KeeperRose before after) (called id (handed_view (method.Writes writes) call)) reply after.kept after.held rest
-        (refused_step models tables call.now (KeeperRose before after) id (handed_view (method.Writes writes) call) reply why (as_call (method.Writes writes) why tables is cause) tells)
+        serves_unchanged models tables call.now (KeeperRose before after) (called id (handed_view layout (method.Writes writes) call)) reply after.kept after.held rest
+        (refused_step models tables call.now (KeeperRose before after) id (handed_view layout (method.Writes writes) call) reply why (as_call (method.Writes writes) why tables is cause) tells)
 
     -- it was carried out, and was kept with its reply or not
     kept_serves : (old next : Tables) (json : Data) (last : Standpoint) (rose_keeping rose : Type 0) → (rose_keeping → rose) → Makes writes models called_with old (Ok json) next
-        → Keeps rose_keeping id json old next last.kept last.held reply → Serves models old call.now rose (called id (handed_view (method.Writes writes) call)) reply last.kept last.held
+        → Keeps rose_keeping id json old next last.kept last.held reply → Serves models old call.now rose (called id (handed_view layout (method.Writes writes) call)) reply last.kept last.held
     kept_serves old next json last rose_keeping rose since makes (inl (rests, tells)) =
         record { tables = next; rests = rests; answer = inl (Ok json, at_model (λ own. Makes writes models (called_by call own) old (Ok json) next) (model_at models call.model) info is makes, tells) }
     kept_serves old next json last rose_keeping rose since makes (inr (rests, inl unmade)) = record { tables = old; rests = rests; answer = inr (refl, inl unmade) }
     kept_serves old next json last rose_keeping rose since makes (inr (rests, inr (cause, tells))) = record { tables = old; rests = rests; answer = inr (refl, inr (since cause, tells)) }
 
     -- by what became of it
-    pub writing_serves : (json : Data) (last : Standpoint) → (KeeperRose after last → KeeperRose before last) → IsCalled (Makes writes models called_with) before after (λ _. ⊤) (Ok json)
+    pub writing_serves : (json : Data) (last : Standpoint) → (KeeperRose after last → KeeperRose before last) → IsCalled (Makes writes models called_with) before after (MakesCause writes models called_with) (Ok json)
         → ((old next : Tables) → Stands after.kept after.held (settled_over after.held.models old next) → Keeps (KeeperRose after last) id json old next last.kept last.held reply)
-        → ServesOver before last call.now (called id (handed_view (method.Writes writes) call)) reply
+        → ServesOver before last call.now (called id (handed_view layout (method.Writes writes) call)) reply
     writing_serves json last since is_called keeps = λ tables rests.
         let (next, makes, stands) = is_called.answer tables rests in
         kept_serves tables next json last (KeeperRose after last) (KeeperRose before last) since makes (keeps tables next stands)
@@ -154,44 +151,100 @@ element_serves models old now rose id n reply kept held rests (inr unmade) = ser
 
 -- who serves the request of a body's envelope serves the body
 pub body_serves : (models : List ModelInfo) (old : Tables) (now moment : ℤ) (rose : Type 0) (body reply : List ℕ) (envelope : Envelope) (kept : Option Store) (held : Holding)
-    → now ≡ moment → envelope_of ExecuteKw body ≡ Ok envelope
-    → Serves models old now rose (request_by envelope.id (call_of models envelope.args)) reply kept held → Serves models old moment rose (request_of models (envelope_of ExecuteKw body)) reply kept held
+    → now ≡ moment → envelope_of EveryMethod body ≡ Ok envelope
+    → Serves models old now rose (request_with models envelope.id envelope.method envelope.args) reply kept held → Serves models old moment rose (request_of models (envelope_of EveryMethod body)) reply kept held
 body_serves models old now moment rose body reply envelope kept held now_is is serves = rw is (rw now_is at serves)
 
 -- the refusal of a body at a place, with the id that was read, serves it
 pub fault_serves : (models : List ModelInfo) (old : Tables) (now : ℤ) (rose : Type 0) (body reply : List ℕ) (fault : Fault) (kept : Option Store) (held : Holding)
-    → envelope_of ExecuteKw body ≡ Err fault → RestsAt kept held old → MayTell reply (malformed_text models fault.id fault.place)
-    → Serves models old now rose (request_of models (envelope_of ExecuteKw body)) reply kept held
+    → envelope_of EveryMethod body ≡ Err fault → RestsAt kept held old → MayTell reply (malformed_text models fault.id fault.place)
+    → Serves models old now rose (request_of models (envelope_of EveryMethod body)) reply kept held
 fault_serves models old now rose body reply fault kept held is rests (inl tells) = rw is (serves_unchanged models old now rose (request_of models (Err fault)) reply kept held rests (inl (tells, refl)))
 fault_serves models old now rose body reply fault kept held is rests (inr unmade) = rw is (serves_unchanged models old now rose (request_of models (Err fault)) reply kept held rests (inr (refl, inl unmade)))
 
--- a reply that may tell of an outcome tells of some
-pub tells_some : (models : List ModelInfo) (rose : Type 0) (id : Data) (outcome : Result Data Refusal) (reply : List ℕ) → IfErr outcome (Refuses rose (λ _. ⊤))
-    → MayTell reply (outcome_text models id outcome) → TellsSome models rose reply
-tells_some _ _ id outcome _ cause (inl tells) = record { id = id; outcome = outcome; cause = cause; told = tells }
-tells_some _ _ id _ _ _ (inr unmade) = record { id = id; outcome = Err refusal.NoMemory; cause = tt; told = unmade }
+-- the reply to a call that was answered tells of the result
+pub replies_result : (models : List ModelInfo) (rose : Type 0) (now : ℤ) (id : Data) (call : Call) (json : Data) (reply : List ℕ)
+    → MayTell reply (outcome_text models id (Ok json)) → RepliesTo models rose now (called id call) reply
+replies_result _ _ _ _ _ json _ tells = record { outcome = Ok json; cause = tt; tells = tells }
 
--- and one for want of memory does
-pub tells_no_memory : (models : List ModelInfo) (rose : Type 0) (id : Data) → TellsSome models rose no_memory_text
-tells_no_memory _ _ id = record { id = id; outcome = Err refusal.NoMemory; cause = tt; told = refl }
-
--- a refusal has its cause also where its place is told as one of the body
-pub told_cause : (rose : Type 0) (why : Refusal) → Refuses rose (λ _. ⊤) why → Refuses rose (λ _. ⊤) (told_refusal why)
-told_cause rose (refusal.Request place) cause = tt
-told_cause rose why cause = cause
-
--- what some reply may tell, also where it is read so that the count rose in more
-pub tells_since : (models others : List ModelInfo) (rose rose' : Type 0) (reply : List ℕ) → others ≡ models → (rose → rose') → TellsSome others rose reply → TellsSome models rose' reply
-tells_since models others rose rose' reply same since some = record {
-  id = some.id;
-  outcome = some.outcome;
-  cause = by some.outcome some.cause;
-  told = rw (← same) some.told;
-}
+-- that to one which was refused has the cause that its method has
+pub replies_refusal : (models : List ModelInfo) (rose : Type 0) (now : ℤ) (id : Data) (call : Call) (info : ModelInfo) (why : Refusal) (reply : List ℕ)
+    → model_at models call.model ≡ Some info → Refuses rose (MeansCause call.method models (called_at now call info)) why → MayTell reply (outcome_text models id (told call.layout (Err why)))
+    → RepliesTo models rose now (called id call) reply
+replies_refusal models rose now _ call info why _ is cause tells = record { outcome = Err why; cause = at_its_model; tells = tells }
   where
-    by : (outcome : Result Data Refusal) → IfErr outcome (Refuses rose (λ _. ⊤)) → IfErr outcome (Refuses rose' (λ _. ⊤))
-    by (Ok json) cause = tt
-    by (Err why) cause = Refuses-weaker rose rose' (λ _. ⊤) (λ _. ⊤) why since (λ _ any. any) cause
+    at_its_model : Refuses rose (λ w. IsSomeAnd (model_at models call.model) (λ own. MeansCause call.method models (called_at now call own) w)) why
+    at_its_model = refuses_as (MeansCause call.method models (called_at now call info)) (λ w. IsSomeAnd (model_at models call.model) (λ own. MeansCause call.method models (called_at now call own) w)) rose
+        (λ w holds. at_model (λ own. MeansCause call.method models (called_at now call own) w) (model_at models call.model) info is holds) why cause
+
+-- and that to one whose result was made, as it was kept or not
+pub replies_kept : (models : List ModelInfo) (rose_keeping rose : Type 0) (now : ℤ) (id : Data) (call : Call) (json : Data) (reply : List ℕ)
+    → (rose_keeping → rose) → TellsKept rose_keeping id json reply → RepliesTo models rose now (called id call) reply
+replies_kept models _ rose now id call json reply since (inl tells) = replies_result models rose now id call json reply tells
+replies_kept _ _ _ _ _ _ _ _ since (inr (cause, tells)) = record { outcome = Err refusal.Keeper; cause = since cause; tells = tells }
+
+-- want of memory may be told of any request
+pub replies_no_memory : (models : List ModelInfo) (rose : Type 0) (now : ℤ) (request : Request) → RepliesTo models rose now request no_memory_text
+replies_no_memory _ _ _ (called id call) = record { outcome = Err refusal.NoMemory; cause = tt; tells = inr refl }
+replies_no_memory _ _ _ (told_of id json) = inr refl
+replies_no_memory _ _ _ (malformed id place) = inr refl
+
+-- the reply to a request that is no call replies to it
+pub plainly_replies : (models : List ModelInfo) (rose : Type 0) (now : ℤ) (request : Request) (reply : List ℕ) → TellsPlainly models request reply → RepliesTo models rose now request reply
+plainly_replies _ _ _ (called id call) _ tells = absurd tells
+plainly_replies _ _ _ (told_of id json) _ tells = tells
+plainly_replies _ _ _ (malformed id place) _ tells = tells
+
+-- and serves it
+pub plainly_serves : (models : List ModelInfo) (old : Tables) (now : ℤ) (rose : Type 0) (request : Request) (reply : List ℕ) (kept : Option Store) (held : Holding)
+    → RestsAt kept held old → TellsPlainly models request reply → Serves models old now rose request reply kept held
+plainly_serves _ _ _ _ (called id call) _ _ _ rests tells = absurd tells
+plainly_serves models old now rose (told_of id json) reply kept held rests (inl tells) = serves_unchanged models old now rose (told_of id json) reply kept held rests (inl (tells, refl))
+plainly_serves models old now rose (told_of id json) reply kept held rests (inr unmade) = serves_unchanged models old now rose (told_of id json) reply kept held rests (inr (refl, inl unmade))
+plainly_serves models old now rose (malformed id place) reply kept held rests (inl tells) = serves_unchanged models old now rose (malformed id place) reply kept held rests (inl (tells, refl))
+plainly_serves models old now rose (malformed id place) reply kept held rests (inr unmade) = serves_unchanged models old now rose (malformed id place) reply kept held rests (inr (refl, inl unmade))
+
+-- want of memory serves any request
+pub no_memory_serves : (models : List ModelInfo) (old : Tables) (now : ℤ) (rose : Type 0) (request : Request) (kept : Option Store) (held : Holding)
+    → RestsAt kept held old → Serves models old now rose request no_memory_text kept held
+no_memory_serves models old now rose request kept held rests = serves_unchanged models old now rose request no_memory_text kept held rests (inr (refl, inl refl))
+
+-- a reply to a request is one to the same one by another name, at the same moment
+pub replies_same : (models : List ModelInfo) (rose : Type 0) (now moment : ℤ) (request other : Request) (reply : List ℕ)
+    → now ≡ moment → request ≡ other → RepliesTo models rose now request reply → RepliesTo models rose moment other reply
+replies_same models rose now moment request other reply now_is is replies = rw (← now_is, ← is) replies
+
+-- who replies to the request of a body's envelope replies to the body
+pub body_replies : (models : List ModelInfo) (rose : Type 0) (now moment : ℤ) (body reply : List ℕ) (envelope : Envelope)
+    → now ≡ moment → envelope_of EveryMethod body ≡ Ok envelope → RepliesTo models rose now (request_with models envelope.id envelope.method envelope.args) reply
+    → RepliesTo models rose moment (request_of models (envelope_of EveryMethod body)) reply
+body_replies models rose now moment body reply envelope now_is is replies = rw is (rw now_is at replies)
+
+-- the refusal of a body at a place, with the id that was read, replies to it
+pub fault_replies : (models : List ModelInfo) (rose : Type 0) (now : ℤ) (body reply : List ℕ) (fault : Fault)
+    → envelope_of EveryMethod body ≡ Err fault → MayTell reply (malformed_text models fault.id fault.place) → RepliesTo models rose now (request_of models (envelope_of EveryMethod body)) reply
+fault_replies models rose now body reply fault is tells = rw is tells
+
+-- ---- the request of a method
+
+-- `version` is told whatever the rows
+pub asks_version : (models : List ModelInfo) (id : Data) (method : List ℕ) (elements : Items) → bytes_eq method (codes "version") ≡ true → request_with models id method elements ≡ told_of id version_json
+asks_version _ _ _ _ is = rw is refl
+
+-- a login by its elements
+pub asks_login : (models : List ModelInfo) (id : Data) (method : List ℕ) (elements : Items) → bytes_eq method (codes "version") ≡ false → is_login method ≡ true
+    → request_with models id method elements ≡ telling_by id (login_of elements)
+asks_login _ _ _ _ other is = rw (other, is) refl
+
+-- `execute` is a call by its elements, whose arguments are listed
+pub asks_spread : (models : List ModelInfo) (id : Data) (method : List ℕ) (elements : Items) → bytes_eq method (codes "version") ≡ false → is_login method ≡ false → bytes_eq method (codes "execute") ≡ true
+    → request_with models id method elements ≡ request_by id (call_of models layout.Spread (listed elements))
+asks_spread _ _ _ _ other no_login is = rw (other, no_login, is) refl
+
+-- and any other a call by its elements
+pub asks_listed : (models : List ModelInfo) (id : Data) (method : List ℕ) (elements : Items) → bytes_eq method (codes "version") ≡ false → is_login method ≡ false → bytes_eq method (codes "execute") ≡ false
+    → request_with models id method elements ≡ request_by id (call_of models layout.Listed elements)
+asks_listed _ _ _ _ other no_login no_spread = rw (other, no_login, no_spread) refl
 
 -- a moment that a clock may give
 pub given_moment : (coming : Option (ℕ → ℤ)) → (now : ℤ) × MayBeGiven coming now
@@ -203,11 +256,11 @@ pub given_as : (coming : Option (ℕ → ℤ)) (now moment : ℤ) → moment ≡
 given_as coming now moment is given = subst (MayBeGiven coming) (sym is) given
 
 -- a body with an envelope takes a moment
-pub one_taken : (before now : Option (ℕ → ℤ)) (body : List ℕ) (envelope : Envelope) → envelope_of ExecuteKw body ≡ Ok envelope → now ≡ option_map later before → TakesMoment before now body
+pub one_taken : (before now : Option (ℕ → ℤ)) (body : List ℕ) (envelope : Envelope) → envelope_of EveryMethod body ≡ Ok envelope → now ≡ option_map later before → TakesMoment before now body
 one_taken before now body envelope is rest = rw is rest
 
 -- one without takes none
-pub none_taken : (coming : Option (ℕ → ℤ)) (body : List ℕ) (fault : Fault) → envelope_of ExecuteKw body ≡ Err fault → TakesMoment coming coming body
+pub none_taken : (coming : Option (ℕ → ℤ)) (body : List ℕ) (fault : Fault) → envelope_of EveryMethod body ≡ Err fault → TakesMoment coming coming body
 none_taken None body fault is = refl
 none_taken (Some moments) body fault is = rw is refl
 
@@ -228,19 +281,19 @@ named_or_none (Some kw) none chosen empty is = rw is refl
 
 -- a call by its parts is the one that was read
 pub seen_as : (id : Data) (call : MethodCall) (named : Method) (kw : Data) → call.method ≡ named → kw ≡ unwrap_or (option_map (λ k. view k.now) call.kw) (object no_members)
-    → called id (record { caller = call.caller; model = call.model; method = named; args = view call.args.now; kw = kw }) ≡ called id (call_view call)
+    → called id (record { caller = call.caller; model = call.model; method = named; args = view call.args.now; kw = kw; layout = call.layout }) ≡ called id (call_view call)
 seen_as id call named kw is kw_is = rw (← is, kw_is) refl
 
 -- a call by what one method tells is one by the method that it is
 pub tells_as : (before after : Standpoint) (call : Handed) (reads named : ReadMethod) → reads ≡ named → (r : Result Data Refusal)
-    → IfSome (model_at (models_at before) call.model) (λ info. IsAsked (Tells named (models_at before) (called_by call info)) before after (λ _. ⊤) r)
-    → IfSome (model_at (models_at before) call.model) (λ info. IsAsked (Tells reads (models_at before) (called_by call info)) before after (λ _. ⊤) r)
+    → IfSome (model_at (models_at before) call.model) (λ info. IsAsked (Tells named (models_at before) (called_by call info)) before after (TellsCause named (models_at before) (called_by call info)) r)
+    → IfSome (model_at (models_at before) call.model) (λ info. IsAsked (Tells reads (models_at before) (called_by call info)) before after (TellsCause reads (models_at before) (called_by call info)) r)
 tells_as before after call reads named is r =
-    subst (λ (method : ReadMethod). IfSome (model_at (models_at before) call.model) (λ info. IsAsked (Tells method (models_at before) (called_by call info)) before after (λ _. ⊤) r)) (sym is)
+    subst (λ (method : ReadMethod). IfSome (model_at (models_at before) call.model) (λ info. IsAsked (Tells method (models_at before) (called_by call info)) before after (TellsCause method (models_at before) (called_by call info)) r)) (sym is)
 
 -- a call by what one method makes is one by the method that it is
 pub makes_as : (before after : Standpoint) (call : Handed) (writes named : WriteMethod) → writes ≡ named → (r : Result Data Refusal)
-    → IfSome (model_at (models_at before) call.model) (λ info. IsCalled (Makes named (models_at before) (called_by call info)) before after (λ _. ⊤) r)
-    → IfSome (model_at (models_at before) call.model) (λ info. IsCalled (Makes writes (models_at before) (called_by call info)) before after (λ _. ⊤) r)
+    → IfSome (model_at (models_at before) call.model) (λ info. IsCalled (Makes named (models_at before) (called_by call info)) before after (MakesCause named (models_at before) (called_by call info)) r)
+    → IfSome (model_at (models_at before) call.model) (λ info. IsCalled (Makes writes (models_at before) (called_by call info)) before after (MakesCause writes (models_at before) (called_by call info)) r)
 makes_as before after call writes named is r =
-    subst (λ (method : WriteMethod). IfSome (model_at (models_at before) call.model) (λ info. IsCalled (Makes method (models_at before) (called_by call info)) before after (λ _. ⊤) r)) (sym is)
+    subst (λ (method : WriteMethod). IfSome (model_at (models_at before) call.model) (λ info. IsCalled (Makes method (models_at before) (called_by call info)) before after (MakesCause method (models_at before) (called_by call info)) r)) (sym is)

@@ -6,7 +6,7 @@ use Rattle.ob_http.specs.Reply.{reply_bytes}
 use Rattle.ob_http.specs.Written.{Wrote, WrotePart}
 use Rattle.ob_io.specs.Cause.{Rose}
 use Rattle.ob_rpc.specs.Envelope.{envelope_of}
-use Rattle.ob_rpc.specs.declared.methods.Served.TheVariants.{ExecuteKw}
+use Rattle.ob_rpc.specs.declared.methods.Served.TheVariants.{EveryMethod}
 use Rattle.ob_schema.specs.declared.info.ModelInfo.{ModelInfo}
 use Rattle.stockd.specs.Body.{AnswersOver, LeavesUnread, MayBeGiven, ServesBody}
 use Rattle.stockd.specs.Exchange.{HasState, Situation}
@@ -28,18 +28,18 @@ module _ {A E : Type 0} (old new : Situation) (body reply : List ℕ) (keep : Bo
 
   served_answered : ServesBody first.tables old.engine new.engine old.coming new.coming body reply → AnswersBody body keep outcome first old new
   served_answered serves =
-      let request = request_of models (envelope_of ExecuteKw body) in
+      let request = request_of models (envelope_of EveryMethod body) in
       let now : serves.now ≡ first.moments 0 = subst (λ (o : Option (ℕ → ℤ)). MayBeGiven o serves.now) state.moments serves.given in
       let served = subst (λ (n : ℤ). MayAnswer models first.tables n (Rose old.engine.faults new.engine.faults) request reply serves.serves.tables) now serves.serves.answer in
       record {
         reply = reply;
-        state = record { tables = serves.serves.tables; moments = moments_after (envelope_of ExecuteKw body) first.moments; faults = new.engine.faults };
+        state = record { tables = serves.serves.tables; moments = moments_after (envelope_of EveryMethod body) first.moments; faults = new.engine.faults };
         step = record {
           answer = subst (λ (n : ℕ). MayAnswer models first.tables (first.moments 0) (Rose n new.engine.faults) request reply serves.serves.tables) state.faults served;
           moment = inl refl;
           count = omega (arith, state.faults, count);
         };
-        has_state = record { tables = serves.serves.rests; moments = serves.taken ∙ ap (option_map (moments_after (envelope_of ExecuteKw body))) state.moments; faults = refl };
+        has_state = record { tables = serves.serves.rests; moments = serves.taken ∙ ap (option_map (moments_after (envelope_of EveryMethod body))) state.moments; faults = refl };
         wrote = wrote;
       }
 

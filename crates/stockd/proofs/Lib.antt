@@ -20,3 +20,4 @@ pub mod WrittenParts
 pub mod Others
 pub mod SixElements
 pub mod CallFound
+pub mod LoginFound

@@ -3,7 +3,7 @@ use Rattle.std.proofs.Common.{◌≡◌, ℕ, zero, suc, ℤ, List, [], ◌∷�
 use Rattle.ob_io.specs.Cause.{Rose}
 use Rattle.ob_schema.specs.Tables.{Tables}
 use Rattle.ob_rpc.specs.Envelope.{Envelope, Fault, envelope_of}
-use Rattle.ob_rpc.specs.declared.methods.Served.TheVariants.{ExecuteKw}
+use Rattle.ob_rpc.specs.declared.methods.Served.TheVariants.{EveryMethod}
 use Rattle.ob_schema.specs.declared.info.ModelInfo.{ModelInfo}
 use Rattle.stockd.specs.Machine.{State, MayAnswer, IsUnread, Step, Rests, Run, moments_after}
 use Rattle.stockd.specs.Request.{Request, request_of}
@@ -17,15 +17,15 @@ answer_since models old now request reply new since (inr (same, inl memory)) = i
 answer_since models old now request reply new since (inr (same, inr fails)) = inr (same, inr (since fails.0, fails.1))
 
 -- the moment of a step from where the machine rested is that of a step from before it on
-moment_since : (old past new : State) (body reply : List ℕ) → Rests old past → (new.moments ≡ moments_after (envelope_of ExecuteKw body) past.moments) ⊎ IsUnread past reply new
-    → (new.moments ≡ moments_after (envelope_of ExecuteKw body) old.moments) ⊎ IsUnread old reply new
-moment_since old past new body reply rests (inl taken) = inl (taken ∙ ap (moments_after (envelope_of ExecuteKw body)) rests.moments)
+moment_since : (old past new : State) (body reply : List ℕ) → Rests old past → (new.moments ≡ moments_after (envelope_of EveryMethod body) past.moments) ⊎ IsUnread past reply new
+    → (new.moments ≡ moments_after (envelope_of EveryMethod body) old.moments) ⊎ IsUnread old reply new
+moment_since old past new body reply rests (inl taken) = inl (taken ∙ ap (moments_after (envelope_of EveryMethod body)) rests.moments)
 moment_since old past new body reply rests (inr unread) = inr (record { told = unread.told; tables = unread.tables ∙ rests.tables; moments = unread.moments ∙ rests.moments })
 
 -- a step from where the machine rested
 step_since : (models : List ModelInfo) (old past new : State) (body reply : List ℕ) → Rests old past → Step models past body reply new → Step models old body reply new
 step_since models old past new body reply rests step =
-    let request = request_of models (envelope_of ExecuteKw body) in
+    let request = request_of models (envelope_of EveryMethod body) in
     let tables_now = subst (λ t. MayAnswer models t (past.moments 0) (Rose past.faults new.faults) request reply new.tables) rests.tables step.answer in
     let now = subst (λ (m : ℕ → ℤ). MayAnswer models old.tables (m 0) (Rose past.faults new.faults) request reply new.tables) rests.moments tables_now in
     record {
@@ -63,7 +63,7 @@ module _ (models : List ModelInfo) (old new : State) (body reply : List ℕ) (re
   IsStepBefore = (moments : ℕ → ℤ) × Step models (record old { moments = moments }) body reply (record new { moments = rest })
 
   -- a body that is read takes the same moment; one that is malformed is answered so at any
-  read_before : (read : Result Envelope Fault) → envelope_of ExecuteKw body ≡ read → Step models old body reply new → IsStepBefore
+  read_before : (read : Result Envelope Fault) → envelope_of EveryMethod body ≡ read → Step models old body reply new → IsStepBefore
   read_before (Ok envelope) is step =
       (moment_then (old.moments 0) rest, record { answer = step.answer; moment = inl (rw is refl); count = step.count })
   read_before (Err fault) is step =
@@ -74,8 +74,8 @@ module _ (models : List ModelInfo) (old new : State) (body reply : List ℕ) (re
   -- so may any body be, whatever moments are to come behind it
   step_before : Step models old body reply new → IsStepBefore
   step_before step = by step.moment where
-    by : (new.moments ≡ moments_after (envelope_of ExecuteKw body) old.moments) ⊎ IsUnread old reply new → IsStepBefore
-    by (inl taken) = read_before (envelope_of ExecuteKw body) refl step
+    by : (new.moments ≡ moments_after (envelope_of EveryMethod body) old.moments) ⊎ IsUnread old reply new → IsStepBefore
+    by (inl taken) = read_before (envelope_of EveryMethod body) refl step
     by (inr unread) = (
       rest,
       record {

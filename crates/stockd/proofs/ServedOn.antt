@@ -9,7 +9,7 @@ use Rattle.ob_cache.specs.Kept.{OthersStay}
 use Rattle.ob_cache.specs.Standing.{Holding, RestsAt}
 use Rattle.ob_io.specs.Cause.{Rose}
 use Rattle.ob_rpc.specs.Envelope.{envelope_of}
-use Rattle.ob_rpc.specs.declared.methods.Served.TheVariants.{ExecuteKw}
+use Rattle.ob_rpc.specs.declared.methods.Served.TheVariants.{EveryMethod}
 use Rattle.ob_schema.specs.Tables.{Tables}
 use Rattle.ob_schema.specs.declared.info.ModelInfo.{ModelInfo}
 use Rattle.stockd.specs.Body.{AnswersOver, LeavesUnread, MayBeGiven, ServesBody, TakesMoment}
@@ -74,7 +74,7 @@ record IsBeforeMoment (models : List ModelInfo) (first past : State) (bodies rep
   rest : ℕ → ℤ
   run : Run models (record first { moments = moments }) bodies replies (record past { moments = rest })
   next : now ≡ rest 0
-  gives : GivesMoments coming now_coming moments (moments_after (envelope_of ExecuteKw body) rest)
+  gives : GivesMoments coming now_coming moments (moments_after (envelope_of EveryMethod body) rest)
 
 before_moment : (models : List ModelInfo) (first past : State) (bodies replies : List (List ℕ)) (coming old new : Option (ℕ → ℤ)) (now : ℤ) (body : List ℕ) → Run models first bodies replies past
     → GivesMoments coming old first.moments past.moments → MayBeGiven old now → TakesMoment old new body → IsBeforeMoment models first past bodies replies coming new now body
@@ -86,7 +86,7 @@ before_moment models first past bodies replies (Some told) old new now body run 
   rest = past.moments;
   run = run;
   next = subst (λ (o : Option (ℕ → ℤ)). MayBeGiven o now) gives.1 given;
-  gives = (gives.0, taken ∙ ap (option_map (moments_after (envelope_of ExecuteKw body))) gives.1);
+  gives = (gives.0, taken ∙ ap (option_map (moments_after (envelope_of EveryMethod body))) gives.1);
 }
 
 module _ (old new : Engaged) (body reply : List ℕ) (answered : IsAnswered old new body reply) (before : Surroundings) (first : Tables) (bodies : List (List ℕ)) (h : HasServed before first bodies old) where
@@ -96,11 +96,11 @@ module _ (old new : Engaged) (body reply : List ℕ) (answered : IsAnswered old 
   served_stepped serves =
       let models = old.held.models in
       let from = before_moment models (state_at before first h.moments) (state_at old.now h.tables h.rest) bodies h.replies before.coming old.now.coming new.now.coming serves.now body h.run h.gives serves.given serves.taken in
-      let request = request_of models (envelope_of ExecuteKw body) in record {
+      let request = request_of models (envelope_of EveryMethod body) in record {
         tables = serves.serves.tables;
         moments = from.moments;
-        rest = moments_after (envelope_of ExecuteKw body) from.rest;
-        run = run_on models (state_at before first from.moments) (state_at old.now h.tables from.rest) (state_at new.now serves.serves.tables (moments_after (envelope_of ExecuteKw body) from.rest)) bodies h.replies body reply from.run
+        rest = moments_after (envelope_of EveryMethod body) from.rest;
+        run = run_on models (state_at before first from.moments) (state_at old.now h.tables from.rest) (state_at new.now serves.serves.tables (moments_after (envelope_of EveryMethod body) from.rest)) bodies h.replies body reply from.run
             (record {
               answer = subst (λ (now : ℤ). MayAnswer models h.tables now (Rose old.now.faults new.now.faults) request reply serves.serves.tables) from.next serves.serves.answer;
               moment = inl refl;

@@ -4,11 +4,12 @@ use Rattle.ob_cache.specs.Calls.{HasTables, KeeperRose, Standpoint, models_at}
 use Rattle.ob_cache.specs.Standing.{Holding, RestsAt}
 use Rattle.ob_io.specs.Store.{Store}
 use Rattle.ob_rpc.specs.Envelope.{envelope_of}
-use Rattle.ob_rpc.specs.declared.methods.Served.TheVariants.{ExecuteKw}
+use Rattle.ob_rpc.specs.declared.methods.Served.TheVariants.{EveryMethod}
 use Rattle.ob_schema.specs.Tables.{Tables}
 use Rattle.ob_schema.specs.declared.info.ModelInfo.{ModelInfo}
 use Rattle.stockd.specs.Request.{Request, request_of}
 use Rattle.stockd.specs.Machine.{MayAnswer, moments_after}
+use Rattle.stockd.specs.Reply.{RepliesTo}
 use Rattle.stockd.specs.Texts.{no_memory_text}
 
 -- The machine may give this reply, and go on from old to tables at which the engine then rests.
@@ -27,13 +28,13 @@ MayBeGiven coming now = IfSome coming (λ moments. now ≡ moments 0)
 
 -- what a clock told before a body it still tells, but for the moment that the body took
 abbrev pub TakesMoment : (before now : Option (ℕ → ℤ)) → (body : List ℕ) → Type 0
-TakesMoment before now body = now ≡ option_map (moments_after (envelope_of ExecuteKw body)) before
+TakesMoment before now body = now ≡ option_map (moments_after (envelope_of EveryMethod body)) before
 
 -- the request of a body was served, at a moment that the clock gave
 pub record ServesBody (old : Tables) (before after : Standpoint) (coming_before coming_now : Option (ℕ → ℤ)) (body reply : List ℕ) : Type 0 where
   pub now : ℤ
   pub given : MayBeGiven coming_before now
-  pub serves : Serves (models_at before) old now (KeeperRose before after) (request_of (models_at before) (envelope_of ExecuteKw body)) reply after.kept after.held
+  pub serves : Serves (models_at before) old now (KeeperRose before after) (request_of (models_at before) (envelope_of EveryMethod body)) reply after.kept after.held
   pub taken : TakesMoment coming_before coming_now body
 
 -- memory was wanting before the body was read: that is told, and nothing else happened
@@ -46,3 +47,13 @@ pub record LeavesUnread (old : Tables) (after : Standpoint) (coming_before comin
 abbrev pub AnswersOver : (before after : Standpoint) → (coming_before coming_now : Option (ℕ → ℤ)) → (body reply : List ℕ) → Type 0
 AnswersOver before after coming_before coming_now body reply =
     (tables : Tables) → HasTables before tables → ServesBody tables before after coming_before coming_now body reply ⊎ LeavesUnread tables after coming_before coming_now reply
+
+-- whatever the keeper tells, the reply to a request has its cause
+abbrev pub RepliesBy : (before after : Standpoint) → ℤ → Request → List ℕ → Type 0
+RepliesBy before after now request reply = RepliesTo (models_at before) (KeeperRose before after) now request reply
+
+-- and that to a body, at a moment that the clock may have given
+pub record RepliesOver (before after : Standpoint) (coming_before : Option (ℕ → ℤ)) (body reply : List ℕ) : Type 0 where
+  pub now : ℤ
+  pub given : MayBeGiven coming_before now
+  pub replies : RepliesBy before after now (request_of (models_at before) (envelope_of EveryMethod body)) reply

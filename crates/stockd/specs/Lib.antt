@@ -2,6 +2,7 @@ pub mod Lines
 pub mod LineSteps
 pub mod Request
 pub mod MethodCall
+pub mod Service
 pub mod Texts
 pub mod Machine
 pub mod Words

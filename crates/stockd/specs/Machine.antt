@@ -5,24 +5,26 @@ use Rattle.ob_base.specs.declared.refusal.Refusal.{Refusal}
 use Rattle.ob_call.specs.Called.{Called}
 use Rattle.ob_io.specs.Cause.{Rose}
 use Rattle.ob_io.specs.Moments.{later}
-use Rattle.ob_orm.specs.Create.{Creates}
-use Rattle.ob_orm.specs.FieldsGet.{GetsFields}
-use Rattle.ob_orm.specs.Unlink.{Unlinks}
-use Rattle.ob_orm.specs.Write.{Writes}
-use Rattle.ob_query.specs.Read.{Reads}
+use Rattle.ob_orm.specs.Create.{CreateCause, Creates}
+use Rattle.ob_orm.specs.FieldsGet.{GetsFields, GetsFieldsCause}
+use Rattle.ob_orm.specs.Unlink.{UnlinkCause, Unlinks}
+use Rattle.ob_orm.specs.Write.{WriteCause, Writes}
+use Rattle.ob_query.specs.Read.{ReadCause, Reads}
+use Rattle.ob_query.specs.Search.{IsMalformed, SearchCounts, SearchReads, Searches}
+use Rattle.ob_query.specs.SearchForms.{counted_of, objects_of, sought_of}
 use Rattle.ob_rpc.specs.Envelope.{Envelope, Fault, envelope_of}
-use Rattle.ob_rpc.specs.declared.methods.Served.TheVariants.{ExecuteKw}
+use Rattle.ob_rpc.specs.declared.methods.Served.TheVariants.{EveryMethod}
 use Rattle.ob_schema.specs.Models.{model_at}
 use Rattle.ob_schema.specs.Tables.{Tables}
 use Rattle.ob_schema.specs.declared.info.ModelInfo.{ModelInfo}
-use Rattle.stockd.specs.Request.{Call, Request, called, malformed, request_of}
+use Rattle.stockd.specs.Request.{Call, Request, called, malformed, request_of, told_of}
 use Rattle.stockd.specs.declared.request.Method.{Method}
 use Rattle.stockd.specs.declared.request.Method.TheVariants as method
 use Rattle.stockd.specs.declared.request.ReadMethod.{ReadMethod}
 use Rattle.stockd.specs.declared.request.ReadMethod.TheVariants as reading
 use Rattle.stockd.specs.declared.request.WriteMethod.{WriteMethod}
 use Rattle.stockd.specs.declared.request.WriteMethod.TheVariants as writing
-use Rattle.stockd.specs.Texts.{keeper_text, malformed_text, no_memory_text, outcome_text, told}
+use Rattle.stockd.specs.Texts.{keeper_text, malformed_text, no_memory_text, outcome_text, result_text, told}
 
 -- what a method of this model is handed at a moment
 abbrev pub called_at : ℤ → Call → ModelInfo → Called
@@ -31,6 +33,9 @@ called_at now call info = record { caller = call.caller; now = now; model = call
 -- what a method that reads tells of tables
 abbrev pub Tells : ReadMethod → List ModelInfo → Called → Tables → Result Data Refusal → Type 0
 Tells reading.Read = Reads
+Tells reading.Search = Searches
+Tells reading.SearchCount = SearchCounts
+Tells reading.SearchRead = SearchReads
 Tells reading.FieldsGet = GetsFields
 
 -- what a method that writes makes of tables
@@ -38,6 +43,25 @@ abbrev pub Makes : WriteMethod → List ModelInfo → Called → Tables → Resu
 Makes writing.Create = Creates
 Makes writing.Write = Writes
 Makes writing.Unlink = Unlinks
+
+-- when a method that reads may be refused, whatever the keeper tells
+abbrev pub TellsCause : ReadMethod → List ModelInfo → Called → Refusal → Type 0
+TellsCause reading.Read models c = ReadCause c
+TellsCause reading.Search models c = IsMalformed (sought_of models c)
+TellsCause reading.SearchCount models c = IsMalformed (counted_of models c)
+TellsCause reading.SearchRead models c = IsMalformed (objects_of models c)
+TellsCause reading.FieldsGet models c = GetsFieldsCause c
+
+-- when a method that writes may
+abbrev pub MakesCause : WriteMethod → List ModelInfo → Called → Refusal → Type 0
+MakesCause writing.Create = CreateCause
+MakesCause writing.Write = WriteCause
+MakesCause writing.Unlink = UnlinkCause
+
+-- when a method may
+abbrev pub MeansCause : Method → List ModelInfo → Called → Refusal → Type 0
+MeansCause (method.Reads reads) = TellsCause reads
+MeansCause (method.Writes writes) = MakesCause writes
 
 -- the outcome of a method, and the tables after it: one that reads leaves them
 abbrev pub Means : Method → List ModelInfo → Called → Tables → Result Data Refusal → Tables → Type 0
@@ -50,7 +74,8 @@ Calls models old now call outcome new = IsSomeAnd (model_at models call.model) (
 
 -- the defined answer to a request: its reply, and the tables after it
 abbrev pub Answers : List ModelInfo → Tables → ℤ → Request → List ℕ → Tables → Type 0
-Answers models old now (called id call) reply new = (outcome : Result Data Refusal) × Calls models old now call outcome new × (reply ≡ outcome_text models id (told outcome))
+Answers models old now (called id call) reply new = (outcome : Result Data Refusal) × Calls models old now call outcome new × (reply ≡ outcome_text models id (told call.layout outcome))
+Answers models old now (told_of id json) reply new = (reply ≡ result_text id json) × (new ≡ old)
 Answers models old now (malformed id place) reply new = (reply ≡ malformed_text models id place) × (new ≡ old)
 
 -- the reply to a call that the keeper failed
@@ -82,8 +107,8 @@ pub record IsUnread (old : State) (reply : List ℕ) (new : State) : Type 0 wher
 
 -- the machine may give this reply to the body, and go on so: a body that is read takes its moment
 pub record Step (models : List ModelInfo) (old : State) (body reply : List ℕ) (new : State) : Type 0 where
-  pub answer : MayAnswer models old.tables (old.moments 0) (Rose old.faults new.faults) (request_of models (envelope_of ExecuteKw body)) reply new.tables
-  pub moment : (new.moments ≡ moments_after (envelope_of ExecuteKw body) old.moments) ⊎ IsUnread old reply new
+  pub answer : MayAnswer models old.tables (old.moments 0) (Rose old.faults new.faults) (request_of models (envelope_of EveryMethod body)) reply new.tables
+  pub moment : (new.moments ≡ moments_after (envelope_of EveryMethod body) old.moments) ⊎ IsUnread old reply new
   pub count : old.faults ≤ new.faults
 
 -- nothing happened, but that the keeper's count may have risen

@@ -4,6 +4,7 @@ use Rattle.serde_json.specs.Data.{object, no_members}
 use Rattle.serde_json.specs.View.{view}
 use Rattle.ob_call.specs.declared.call.Call.{Call as Handed}
 use Rattle.stockd.specs.Request.{Call}
+use Rattle.stockd.specs.declared.request.Layout.{Layout}
 use Rattle.stockd.specs.declared.request.Method.{Method}
 use Rattle.stockd.specs.declared.request.MethodCall.{MethodCall}
 
@@ -15,11 +16,12 @@ call_view call = record {
   method = call.method;
   args = view call.args.now;
   kw = unwrap_or (option_map (λ kw. view kw.now) call.kw) (object no_members);
+  layout = call.layout;
 }
 
 -- a call of this method that is handed on, as the machine has it
-abbrev pub handed_view : Method → Handed → Call
-handed_view method call = record { caller = call.caller; model = call.model; method = method; args = view call.args.now; kw = view call.kw.now }
+abbrev pub handed_view : Layout → Method → Handed → Call
+handed_view layout method call = record { caller = call.caller; model = call.model; method = method; args = view call.args.now; kw = view call.kw.now; layout = layout }
 
 -- the call is the stated one, or the number of the wrong element is
 abbrev pub CallIs : Result MethodCall ℕ → Result Call ℕ → Type 0

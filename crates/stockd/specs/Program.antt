@@ -3,7 +3,7 @@ use Rattle.std.specs.Prelude.{◌≡◌, ℕ, ℤ, ◌≤◌, ◌⊎◌, ◌++�
 use Rattle.ob_cache.specs.Kept.{OthersStay}
 use Rattle.ob_io.specs.Cause.{Rose}
 use Rattle.ob_io.specs.Store.{Store}
-use Rattle.ob_load.specs.Loading.{IsLoaded}
+use Rattle.ob_load.specs.Loading.{HasRegistry}
 use Rattle.ob_load.specs.Texts.{AgreesWith, FileTexts, text_in}
 use Rattle.ob_schema.specs.Tables.{Tables}
 use Rattle.ob_schema.specs.declared.info.ModelInfo.{ModelInfo}
@@ -19,7 +19,7 @@ use Rattle.stockd.specs.Words.{Action, Command, audit, call, serve}
 
 -- these are the models of the modules that are asked for, in texts that the files tell, where they do
 abbrev pub AreLoadedBy : Command → Option FileTexts → List ModelInfo → Type 0
-AreLoadedBy command told models = (texts : FileTexts) × AgreesWith told texts × IsLoaded (text_in texts command.folder) command.names models
+AreLoadedBy command told models = (texts : FileTexts) × AgreesWith told texts × HasRegistry (text_in texts command.folder) command.names models
 
 -- nothing was read, written or taken from the clock, and what is kept stays
 pub record IsUntouched (left_before left_now : Option (List ℕ)) (before now : Surroundings) : Type 0 where

@@ -1,15 +1,18 @@
 -- The replies that the code makes.
-use Rattle.std.specs.Prelude.{◌≡◌, ℕ, List, ◌⊎◌, IfErr, Option, Result, ⊤}
+use Rattle.std.specs.Prelude.{◌≡◌, ℕ, ℤ, List, ◌⊎◌, IfErr, IsSomeAnd, Option, Result}
 use Rattle.serde_json.specs.Data.{Data}
 use Rattle.ob_base.specs.declared.refusal.Refusal.{Refusal}
 use Rattle.ob_cache.specs.Calls.{Refuses}
 use Rattle.ob_cache.specs.Standing.{Holding, RestsAt}
 use Rattle.ob_io.specs.Store.{Store}
+use Rattle.ob_schema.specs.Models.{model_at}
 use Rattle.ob_schema.specs.Tables.{Tables}
 use Rattle.ob_schema.specs.declared.info.ModelInfo.{ModelInfo}
+use Rattle.stockd.specs.Machine.{MeansCause, called_at}
+use Rattle.stockd.specs.Request.{Call, Request, called, malformed, told_of}
 use Rattle.stockd.specs.declared.answer.Reply.{Reply}
 use Rattle.stockd.specs.declared.answer.Reply.TheVariants.{Text, NoMemory}
-use Rattle.stockd.specs.Texts.{keeper_text, no_memory_text, outcome_text, result_text}
+use Rattle.stockd.specs.Texts.{keeper_text, malformed_text, no_memory_text, outcome_text, result_text, told}
 
 -- the text of a reply
 abbrev pub text_of : Reply → List ℕ
@@ -20,12 +23,26 @@ text_of NoMemory = no_memory_text
 abbrev pub MayTell : List ℕ → List ℕ → Type 0
 MayTell reply text = (reply ≡ text) ⊎ (reply ≡ no_memory_text)
 
--- Whatever the keeper tells, a reply tells of some outcome, which is a fault of the keeper only where its count rose.
-pub record TellsSome (models : List ModelInfo) (rose : Type 0) (reply : List ℕ) : Type 0 where
-  pub id : Data
+-- Whatever the keeper tells, the reply to a call tells of a result, or of a refusal by a cause that its method has; of a fault of the keeper only where its count rose.
+pub record RepliesToCall (models : List ModelInfo) (rose : Type 0) (now : ℤ) (id : Data) (call : Call) (reply : List ℕ) : Type 0 where
   pub outcome : Result Data Refusal
-  pub cause : IfErr outcome (Refuses rose (λ _. ⊤))
-  pub told : reply ≡ outcome_text models id outcome
+  pub cause : IfErr outcome (Refuses rose (λ why. IsSomeAnd (model_at models call.model) (λ info. MeansCause call.method models (called_at now call info) why)))
+  pub tells : MayTell reply (outcome_text models id (told call.layout outcome))
+
+-- the reply to a request that is no call: what is told whatever the rows, or the place that is wrong first
+abbrev pub TellsPlainly : List ModelInfo → Request → List ℕ → Type 0
+TellsPlainly models (told_of id json) reply = MayTell reply (result_text id json)
+TellsPlainly models (malformed id place) reply = MayTell reply (malformed_text models id place)
+TellsPlainly models _ reply = ⊥
+
+-- the reply to a request
+abbrev pub RepliesTo : List ModelInfo → Type 0 → ℤ → Request → List ℕ → Type 0
+RepliesTo models rose now (called id call) reply = RepliesToCall models rose now id call reply
+RepliesTo models rose now request reply = TellsPlainly models request reply
+
+-- the reply tells of the result, or of a fault of the keeper, whose count rose
+abbrev pub TellsKept : Type 0 → Data → Data → List ℕ → Type 0
+TellsKept rose id json reply = MayTell reply (result_text id json) ⊎ (rose × MayTell reply (keeper_text id))
 
 -- the next tables are kept and the result is told; or the old ones still are, for want of memory or a fault of the keeper
 abbrev pub Keeps : Type 0 → Data → Data → (old next : Tables) → Option Store → Holding → List ℕ → Type 0

@@ -1,5 +1,5 @@
 -- What a body asks for.
-use Rattle.std.specs.Prelude.{ℕ, ◌==◌, ◌&&◌, List, codes, Bool, false, if◌then◌else◌, Option, Some, None, option_and_then, Result, Ok, Err}
+use Rattle.std.specs.Prelude.{ℕ, ◌==◌, ◌&&◌, ◌||◌, List, bytes_eq, codes, Bool, false, is_some, if◌then◌else◌, Option, Some, None, option_and_then, Result, Ok, Err}
 use Rattle.std.specs.Option.{option_map_or}
 use Rattle.ob_base.specs.Chain.{◌>>=◌}
 use Rattle.ob_base.specs.declared.id.ModelNo.{ModelNo}
@@ -9,25 +9,29 @@ use Rattle.ob_rpc.specs.Envelope.{Envelope, Fault, element_place, is_text}
 use Rattle.ob_orm.specs.Creatable.{is_creatable, is_writable}
 use Rattle.ob_schema.specs.Models.{model_at, model_named}
 use Rattle.ob_schema.specs.declared.info.ModelInfo.{ModelInfo}
-use Rattle.serde_json.specs.Data.{Data, object, no_members, Items, no_items, item}
+use Rattle.serde_json.specs.Data.{Data, array, boolean, number, object, string, no_members, put, unsigned, Items, no_items, item}
 use Rattle.serde_json.specs.Events.{items_len}
 use Rattle.serde_json.specs.Find.{as_number, as_str, as_u64}
+use Rattle.stockd.specs.declared.request.Layout.{Layout}
+use Rattle.stockd.specs.declared.request.Layout.TheVariants as layout
 use Rattle.stockd.specs.declared.request.Method.{Method}
 use Rattle.stockd.specs.declared.request.Method.TheVariants as method
 use Rattle.stockd.specs.declared.request.ReadMethod.TheVariants as reading
 use Rattle.stockd.specs.declared.request.WriteMethod.TheVariants as writing
 
--- a method of a model, with who calls it, and its arguments by position and by name
+-- a method of a model, with who calls it, and its arguments by position and by name; and how the body gives these
 pub record Call : Type 0 where
   pub caller : RecId
   pub model : ModelNo
   pub method : Method
   pub args : Data
   pub kw : Data
+  pub layout : Layout
 
--- what a body asks for, with the id by which it is answered: a call, or nothing, since it is malformed at a place
+-- what a body asks for, with the id by which it is answered: a call, what is told whatever the rows, or nothing, since it is malformed at a place
 pub data Request : Type 0 where
   called : Data → Call → Request
+  told_of : Data → Data → Request
   malformed : Data → List PathStep → Request
 
 -- whether a JSON value is this integer
@@ -38,10 +42,13 @@ is_integer n d = option_map_or (λ m. m == n) (option_and_then as_u64 (as_number
 abbrev pub is_caller : (user key : Data) → Bool
 is_caller user key = is_integer 2 user && is_text (codes "admin") key
 
--- the method of a name that a model has: each can be read, has its fields told, and has rows deleted; rows are made of those of which a create makes any, and changed of those of which a write changes any
+-- the method of a name that a model has: each can be read, searched and counted, has its fields told, and has rows deleted; rows are made of those of which a create makes any, and changed of those of which a write changes any
 abbrev pub method_named : ModelInfo → Data → Option Method
 method_named info d =
     if is_text (codes "read") d then Some (method.Reads reading.Read)
+    else if is_text (codes "search") d then Some (method.Reads reading.Search)
+    else if is_text (codes "search_count") d then Some (method.Reads reading.SearchCount)
+    else if is_text (codes "search_read") d then Some (method.Reads reading.SearchRead)
     else if is_text (codes "fields_get") d then Some (method.Reads reading.FieldsGet)
     else if is_text (codes "create") d && is_creatable info then Some (method.Writes writing.Create)
     else if is_text (codes "write") d && is_writable info then Some (method.Writes writing.Write)
@@ -63,23 +70,64 @@ element n None = Err n
 element n (Some x) = Ok x
 
 -- the call of a caller's model and method, with the rest of the elements; the first that is wrong is told
-abbrev pub call_in : List ModelInfo → (model method args : Data) → Items → Result Call ℕ
-call_in models model method args rest =
+abbrev pub call_in : List ModelInfo → Layout → (model method args : Data) → Items → Result Call ℕ
+call_in models layout model method args rest =
     element 3 (option_and_then (model_named models) (as_str model)) >>= λ number. element 4 (method_of models number method)
-    >>= λ named. Ok (record { caller = record { 0 = 2 }; model = number; method = named; args = args; kw = named_args rest })
+    >>= λ named. Ok (record { caller = record { 0 = 2 }; model = number; method = named; args = args; kw = named_args rest; layout = layout })
 
 -- The call that the elements of an envelope make, or the number of the first that is wrong;
 -- where there are fewer than six, of the first that is missing.
-abbrev pub call_of : List ModelInfo → Items → Result Call ℕ
-call_of models (item db (item user (item key (item model (item method (item args rest)))))) = if is_text (codes "stock") db then (if is_caller user key then call_in models model method args rest else Err 1) else Err 0
-call_of models few = Err (items_len few)
+abbrev pub call_of : List ModelInfo → Layout → Items → Result Call ℕ
+call_of models layout (item db (item user (item key (item model (item method (item args rest)))))) = if is_text (codes "stock") db then (if is_caller user key then call_in models layout model method args rest else Err 1) else Err 0
+call_of models layout few = Err (items_len few)
+
+-- the elements of `execute` as those of `execute_kw`: what stands behind the first five is its list of arguments
+abbrev pub listed : Items → Items
+listed (item db (item user (item key (item model (item method rest))))) = item db (item user (item key (item model (item method (item (array rest) no_items)))))
+listed few = few
+
+-- what `version` tells
+abbrev pub version_json : Data
+version_json = object (put (codes "server_version") (string (codes "17.0")) (put (codes "server_serie") (string (codes "17.0")) (put (codes "protocol_version") (number (unsigned 1)) no_members)))
+
+-- what `login` and `authenticate` tell of a login and a key: the user's id, else false; so far there is user 2 with `admin` for both
+abbrev pub login_json : (login key : Data) → Data
+login_json login key = if is_text (codes "admin") login && is_text (codes "admin") key then number (unsigned 2) else boolean false
+
+-- whether a JSON value is a text
+abbrev pub is_any_text : Data → Bool
+is_any_text d = is_some (as_str d)
+
+-- What they tell of their elements, a database, a login, a key, and maybe one that is unread; or the number
+-- of the first that is wrong; where there are fewer than three, of the first that is missing.
+abbrev pub login_of : Items → Result Data ℕ
+login_of (item db (item login (item key rest))) =
+    if is_text (codes "stock") db then (if is_any_text login then (if is_any_text key then Ok (login_json login key) else Err 2) else Err 1) else Err 0
+login_of few = Err (items_len few)
 
 -- the request of an id, by the call that its elements make
 abbrev pub request_by : Data → Result Call ℕ → Request
 request_by id (Ok call) = called id call
 request_by id (Err n) = malformed id (element_place n)
 
+-- the request of an id, by what is told of its elements
+abbrev pub telling_by : Data → Result Data ℕ → Request
+telling_by id (Ok json) = told_of id json
+telling_by id (Err n) = malformed id (element_place n)
+
+-- `login` or `authenticate`
+abbrev pub is_login : List ℕ → Bool
+is_login method = bytes_eq method (codes "login") || bytes_eq method (codes "authenticate")
+
+-- the request of an id, by the method of a service and its elements
+abbrev pub request_with : List ModelInfo → Data → (method : List ℕ) → Items → Request
+request_with models id method elements =
+    if bytes_eq method (codes "version") then told_of id version_json
+    else if is_login method then telling_by id (login_of elements)
+    else if bytes_eq method (codes "execute") then request_by id (call_of models layout.Spread (listed elements))
+    else request_by id (call_of models layout.Listed elements)
+
 -- the request of a body, by its envelope
 abbrev pub request_of : List ModelInfo → Result Envelope Fault → Request
-request_of models (Ok envelope) = request_by envelope.id (call_of models envelope.args)
+request_of models (Ok envelope) = request_with models envelope.id envelope.method envelope.args
 request_of models (Err fault) = malformed fault.id fault.place

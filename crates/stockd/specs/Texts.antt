@@ -1,5 +1,5 @@
 -- The text of each reply.
-use Rattle.std.specs.Prelude.{ℕ, List, [], ◌∷◌, ◌++◌, codes, bytes_eq, if◌then◌else◌, Result, Ok, Err}
+use Rattle.std.specs.Prelude.{ℕ, ◌+◌, ◌-◌, ◌^◌, min, List, [], ◌∷◌, ◌++◌, codes, bytes_eq, if◌then◌else◌, Result, Ok, Err}
 use Rattle.serde_json.specs.Data.{Data, null}
 use Rattle.ob_base.specs.declared.place.PathStep.{PathStep}
 use Rattle.ob_base.specs.declared.place.PathStep.TheVariants.{Key, Item}
@@ -9,27 +9,43 @@ use Rattle.ob_rpc.specs.Envelope.{element_place}
 use Rattle.ob_rpc.specs.Reply.{Reply, result, error, reply_form}
 use Rattle.ob_orm.specs.RefusalText.{refusal_name, refusal_message}
 use Rattle.ob_schema.specs.declared.info.ModelInfo.{ModelInfo}
+use Rattle.stockd.specs.declared.request.Layout.{Layout}
+use Rattle.stockd.specs.declared.request.Layout.TheVariants as layout
 
 -- the reply that tells of an outcome
 abbrev pub reply_of : List ModelInfo → Result Data Refusal → Reply
 reply_of models (Ok json) = result json
 reply_of models (Err why) = error (refusal_name why) (refusal_message models why)
 
--- a place among the arguments of a call, as a place of the body: those by position are its element 5, those by name its element 6
-abbrev pub body_place : List PathStep → List PathStep
-body_place [] = []
-body_place (Item n ∷ steps) = Item n ∷ steps
-body_place (Key name ∷ steps) = if bytes_eq name (codes "kw") then element_place 6 ++ steps else element_place 5 ++ steps
+-- the number of the element that is an argument by itself: the first is element 5; no element has a number past 2^64 - 1
+abbrev pub spread_number : ℕ → ℕ
+spread_number n = min (n + 5) (2 ^ 64 - 1)
+
+-- a place among arguments that are elements by themselves, as a place of the body
+abbrev pub spread_place : List PathStep → List PathStep
+spread_place (Item n ∷ steps) = element_place (spread_number n) ++ steps
+spread_place steps = element_place 5 ++ steps
+
+-- a place below the arguments, by position or by name, as a place of the body: in a list and an object they are the elements 5 and 6
+abbrev pub argument_place : Layout → (name : List ℕ) → List PathStep → List PathStep
+argument_place layout.Listed name steps = if bytes_eq name (codes "kw") then element_place 6 ++ steps else element_place 5 ++ steps
+argument_place layout.Spread name steps = spread_place steps
+
+-- a place among the arguments of a call, as a place of the body
+abbrev pub body_place : Layout → List PathStep → List PathStep
+body_place layout [] = []
+body_place layout (Item n ∷ steps) = Item n ∷ steps
+body_place layout (Key name ∷ steps) = argument_place layout name steps
 
 -- a refusal of a call, its place told as one of the body
-abbrev pub told_refusal : Refusal → Refusal
-told_refusal (refusal.Request place) = refusal.Request (body_place place)
-told_refusal why = why
+abbrev pub told_refusal : Layout → Refusal → Refusal
+told_refusal layout (refusal.Request place) = refusal.Request (body_place layout place)
+told_refusal layout why = why
 
 -- the outcome of a call, a place in it told as one of the body
-abbrev pub told : Result Data Refusal → Result Data Refusal
-told (Ok json) = Ok json
-told (Err why) = Err (told_refusal why)
+abbrev pub told : Layout → Result Data Refusal → Result Data Refusal
+told layout (Ok json) = Ok json
+told layout (Err why) = Err (told_refusal layout why)
 
 -- the id that a refusal is told by: that of the request, but none where memory is wanting
 abbrev pub refused_id : Data → Refusal → Data

@@ -1,11 +1,11 @@
 //! The reply to one body. A reply's bytes are made before its changes are committed,
 //! so that want of memory for them comes before anything is kept.
 
-ghost use Rattle.std.specs.Prelude.{◌≡◌, ◌≤◌, ◌⊎◌, ℕ, ℤ, IfOk, IfSome, Some, Err, false, option_map, ⊤};
+ghost use Rattle.std.specs.Prelude.{◌≡◌, ◌≤◌, ◌⊎◌, ℕ, ℤ, IfOk, IfSome, Some, Err, false, option_map};
 ghost use Rattle.serde_json.specs.View.{view, items_view};
 ghost use Rattle.serde_json.specs.Written.{has_float};
 ghost use Rattle.ob_base.specs.Times.{IsMoment};
-ghost use Rattle.ob_cache.specs.Calls.{IsAsked, IsCalled, IsResting, KeeperRose, models_at, settled_over, standpoint};
+ghost use Rattle.ob_cache.specs.Calls.{IsAsked, IsCalled, IsResting, models_at, settled_over, standpoint};
 ghost use Rattle.ob_cache.specs.Kept.{OthersStay};
 ghost use Rattle.ob_cache.specs.Standing.{IsAtRest, NextIdsUpTo, RestsAt, Stands, Stays, max_next_id};
 ghost use Rattle.ob_cache.specs.declared.stages.Phase.TheVariants as phase;
@@ -13,25 +13,26 @@ ghost use Rattle.ob_call.specs.Called.{called_by, result_view};
 ghost use Rattle.ob_io.specs.Cause.{Rose};
 ghost use Rattle.ob_orm.specs.RefusalText.{refusal_message, refusal_name};
 ghost use Rattle.ob_rpc.specs.Envelope.{element_place, envelope_of};
-ghost use Rattle.ob_rpc.specs.declared.methods.Served.TheVariants.{ExecuteKw};
+ghost use Rattle.ob_rpc.specs.declared.methods.Served.TheVariants.{EveryMethod};
 ghost use Rattle.ob_rpc.specs.Reply.{error, reply_form, reply_of, OutcomeHasNoFloat};
 ghost use Rattle.ob_schema.specs.Models.{HasModel, model_at};
 ghost use Rattle.ob_schema.specs.Tables.{Tables};
-ghost use Rattle.stockd.specs.Body.{AnswersOver, ServesOver};
-ghost use Rattle.stockd.specs.Machine.{Makes, Tells, moments_after};
+ghost use Rattle.stockd.specs.Body.{AnswersOver, RepliesBy, RepliesOver, ServesOver};
+ghost use Rattle.stockd.specs.Machine.{Makes, MakesCause, Tells, TellsCause, moments_after};
 ghost use Rattle.stockd.specs.MethodCall.{call_view, handed_view};
-ghost use Rattle.stockd.specs.Reply.{Keeps, MayTell, TellsSome, text_of};
-ghost use Rattle.stockd.specs.Request.{call_of, called, request_by, request_of};
-ghost use Rattle.stockd.specs.Texts.{malformed_text, no_memory_text, outcome_text, told};
+ghost use Rattle.stockd.specs.Reply.{Keeps, MayTell, TellsKept, TellsPlainly, text_of};
+ghost use Rattle.stockd.specs.Request.{call_of, called, listed, login_of, request_by, request_of, request_with, telling_by, version_json};
+ghost use Rattle.stockd.specs.Texts.{malformed_text, no_memory_text, outcome_text, result_text, told};
 
 use crate::places::{body_place, element_place};
-use crate::request::{Method, MethodCall, ReadMethod, WriteMethod, call_of};
-use ob_base::{Ledger, NoMemory, Refusal, Steps, Word};
+use crate::request::{Layout, Method, MethodCall, ReadMethod, WriteMethod, call_of};
+use crate::service::{is_login, listed, login_of, version_json};
+use ob_base::{Ledger, NoMemory, Refusal, Sequence, Steps, Word};
 use ob_cache::Engine;
 use ob_call::Call;
 use ob_io::{Clock, KeepFault, Keeper};
 use ob_orm::{create, fields_get, refusal_text, unlink, write};
-use ob_query::read;
+use ob_query::{read, search, search_count, search_read};
 use ob_rpc::{EnvFault, Envelope, Json, Outcome, Served, envelope, no_memory_reply, reply_text};
 use ob_schema::Schema;
 use serde_json::Map;
@@ -69,20 +70,21 @@ pub fn answer<K: Keeper, C: Clock, L: Ledger>(
     // Over a keeper that tells its rows it is a step of the machine, at the moment that the clock gave.
     ensures served { AnswersOver (standpoint K.Keeper engine.old) (standpoint K.Keeper engine.new) (C.coming clock.old) (C.coming clock.new) body.now (text_of result) }
     // A request takes one moment. Where memory is wanting to read the body, none is taken.
-    ensures moments { (C.coming clock.new ≡ option_map (moments_after (envelope_of ExecuteKw body.now)) (C.coming clock.old))
+    ensures moments { (C.coming clock.new ≡ option_map (moments_after (envelope_of EveryMethod body.now)) (C.coming clock.old))
         ⊎ ((text_of result ≡ no_memory_text) × (C.coming clock.new ≡ C.coming clock.old)) }
-    // Whatever the keeper tells, a fault of the keeper is told only where its count rose.
-    ensures causes { TellsSome (models_at (standpoint K.Keeper engine.old)) (KeeperRose (standpoint K.Keeper engine.old) (standpoint K.Keeper engine.new)) (text_of result) }
+    // Whatever the keeper tells, each refusal has its cause: a malformed body the first place that is wrong, a
+    // call one that its method has; a fault of the keeper is told only where its count rose.
+    ensures causes { RepliesOver (standpoint K.Keeper engine.old) (standpoint K.Keeper engine.new) (C.coming clock.old) body.now (text_of result) }
     // Rows of other models stay.
     ensures others { OthersStay engine.old.held.models (K.kept engine.old.keeper.now) (K.kept engine.new.keeper.now) }
     ensures rests { IsAtRest engine.old.held.models engine.new.held }
     ensures lender { engine.new.keeper.ghost_name ≡ engine.old.keeper.ghost_name }
     ensures count { K.faults engine.old.keeper.now ≤ K.faults engine.new.keeper.now }
 {
-    match envelope(alloc, Served::ExecuteKw, body) {
+    match envelope(alloc, Served::EveryMethod, body) {
         Ok(envelope) => {
             let now = clock.now();
-            serve(alloc, engine, now, steps, &envelope)
+            serve(alloc, engine, now, steps, envelope)
         }
         Err(EnvFault::At(place, id)) => refused(
             alloc,
@@ -94,28 +96,113 @@ pub fn answer<K: Keeper, C: Clock, L: Ledger>(
     }
 }
 
-/// Answers the request of an envelope at its moment.
+/// Answers the request of an envelope at its moment. The methods of all services have names of
+/// their own, so the service needn't be asked.
 fn serve<K: Keeper, L: Ledger>(
     alloc: Global,
     engine: &mut Engine<'_, K>,
     now: i64,
     steps: &mut Steps<L>,
-    envelope: &Envelope,
+    envelope: Envelope,
 ) -> Reply
     requires rest { IsResting (standpoint K.Keeper engine.old) }
     requires moment { IsMoment now }
-    requires id { has_float (view envelope.now.id) ≡ false }
+    requires id { has_float (view envelope.id) ≡ false }
     ensures served { ServesOver (standpoint K.Keeper engine.old) (standpoint K.Keeper engine.new) now
-        (request_by (view envelope.now.id) (call_of (models_at (standpoint K.Keeper engine.old)) (items_view envelope.now.args))) (text_of result) }
-    ensures causes { TellsSome (models_at (standpoint K.Keeper engine.old)) (KeeperRose (standpoint K.Keeper engine.old) (standpoint K.Keeper engine.new)) (text_of result) }
+        (request_with (models_at (standpoint K.Keeper engine.old)) (view envelope.id) envelope.method (items_view envelope.args)) (text_of result) }
+    ensures causes { RepliesBy (standpoint K.Keeper engine.old) (standpoint K.Keeper engine.new) now
+        (request_with (models_at (standpoint K.Keeper engine.old)) (view envelope.id) envelope.method (items_view envelope.args)) (text_of result) }
     ensures others { OthersStay engine.old.held.models (K.kept engine.old.keeper.now) (K.kept engine.new.keeper.now) }
     ensures rests { IsAtRest engine.old.held.models engine.new.held }
     ensures lender { engine.new.keeper.ghost_name ≡ engine.old.keeper.ghost_name }
     ensures count { K.faults engine.old.keeper.now ≤ K.faults engine.new.keeper.now }
 {
-    match call_of(engine.schema(), envelope.args.as_slice()) {
-        Ok(call) => serve_call(alloc, engine, now, steps, &envelope.id, &call),
-        Err(number) => element_refused(alloc, engine.schema(), &envelope.id, number),
+    let Envelope {
+        id,
+        method,
+        args,
+        ..
+    } = envelope;
+    if method.as_str() == "version" {
+        return version_told(alloc, &id);
+    }
+    if is_login(method.as_str()) {
+        return login_told(alloc, engine.schema(), &id, args.as_slice());
+    }
+    if method.as_str() == "execute" {
+        return serve_spread(alloc, engine, now, steps, &id, args);
+    }
+    serve_elements(
+        alloc,
+        engine,
+        now,
+        steps,
+        &id,
+        Layout::Listed,
+        args.as_slice(),
+    )
+}
+
+/// Answers the call of `execute` at its moment, whose arguments are elements by themselves.
+fn serve_spread<K: Keeper, L: Ledger>(
+    alloc: Global,
+    engine: &mut Engine<'_, K>,
+    now: i64,
+    steps: &mut Steps<L>,
+    id: &Json,
+    elements: Sequence<Json>,
+) -> Reply
+    requires rest { IsResting (standpoint K.Keeper engine.old) }
+    requires moment { IsMoment now }
+    requires id { has_float (view id.now) ≡ false }
+    ensures served { ServesOver (standpoint K.Keeper engine.old) (standpoint K.Keeper engine.new) now
+        (request_by (view id.now) (call_of (models_at (standpoint K.Keeper engine.old)) Layout.Spread (listed (items_view elements)))) (text_of result) }
+    ensures causes { RepliesBy (standpoint K.Keeper engine.old) (standpoint K.Keeper engine.new) now
+        (request_by (view id.now) (call_of (models_at (standpoint K.Keeper engine.old)) Layout.Spread (listed (items_view elements)))) (text_of result) }
+    ensures others { OthersStay engine.old.held.models (K.kept engine.old.keeper.now) (K.kept engine.new.keeper.now) }
+    ensures rests { IsAtRest engine.old.held.models engine.new.held }
+    ensures lender { engine.new.keeper.ghost_name ≡ engine.old.keeper.ghost_name }
+    ensures count { K.faults engine.old.keeper.now ≤ K.faults engine.new.keeper.now }
+{
+    match listed(elements) {
+        Ok(elements) => serve_elements(
+            alloc,
+            engine,
+            now,
+            steps,
+            id,
+            Layout::Spread,
+            elements.as_slice(),
+        ),
+        Err(NoMemory) => Reply::NoMemory,
+    }
+}
+
+/// Answers the call that elements make at its moment.
+fn serve_elements<K: Keeper, L: Ledger>(
+    alloc: Global,
+    engine: &mut Engine<'_, K>,
+    now: i64,
+    steps: &mut Steps<L>,
+    id: &Json,
+    layout: Layout,
+    elements: &[Json],
+) -> Reply
+    requires rest { IsResting (standpoint K.Keeper engine.old) }
+    requires moment { IsMoment now }
+    requires id { has_float (view id.now) ≡ false }
+    ensures served { ServesOver (standpoint K.Keeper engine.old) (standpoint K.Keeper engine.new) now
+        (request_by (view id.now) (call_of (models_at (standpoint K.Keeper engine.old)) layout (items_view elements.now))) (text_of result) }
+    ensures causes { RepliesBy (standpoint K.Keeper engine.old) (standpoint K.Keeper engine.new) now
+        (request_by (view id.now) (call_of (models_at (standpoint K.Keeper engine.old)) layout (items_view elements.now))) (text_of result) }
+    ensures others { OthersStay engine.old.held.models (K.kept engine.old.keeper.now) (K.kept engine.new.keeper.now) }
+    ensures rests { IsAtRest engine.old.held.models engine.new.held }
+    ensures lender { engine.new.keeper.ghost_name ≡ engine.old.keeper.ghost_name }
+    ensures count { K.faults engine.old.keeper.now ≤ K.faults engine.new.keeper.now }
+{
+    match call_of(engine.schema(), layout, elements) {
+        Ok(call) => serve_call(alloc, engine, now, steps, id, &call),
+        Err(number) => element_refused(alloc, engine.schema(), id, number),
     }
 }
 
@@ -133,7 +220,7 @@ fn serve_call<K: Keeper, L: Ledger>(
     requires model { HasModel (models_at (standpoint K.Keeper engine.old)) call.now.model }
     requires id { has_float (view id.now) ≡ false }
     ensures served { ServesOver (standpoint K.Keeper engine.old) (standpoint K.Keeper engine.new) now (called (view id.now) (call_view call.now)) (text_of result) }
-    ensures causes { TellsSome (models_at (standpoint K.Keeper engine.old)) (KeeperRose (standpoint K.Keeper engine.old) (standpoint K.Keeper engine.new)) (text_of result) }
+    ensures causes { RepliesBy (standpoint K.Keeper engine.old) (standpoint K.Keeper engine.new) now (called (view id.now) (call_view call.now)) (text_of result) }
     ensures others { OthersStay engine.old.held.models (K.kept engine.old.keeper.now) (K.kept engine.new.keeper.now) }
     ensures rests { IsAtRest engine.old.held.models engine.new.held }
     ensures lender { engine.new.keeper.ghost_name ≡ engine.old.keeper.ghost_name }
@@ -148,8 +235,12 @@ fn serve_call<K: Keeper, L: Ledger>(
         kw: call.kw.unwrap_or(&none),
     };
     match call.method {
-        Method::Reads(method) => serve_reading(alloc, engine, steps, id, method, &handed),
-        Method::Writes(method) => serve_writing(alloc, engine, steps, id, method, &handed),
+        Method::Reads(method) => {
+            serve_reading(alloc, engine, steps, id, method, call.layout, &handed)
+        }
+        Method::Writes(method) => {
+            serve_writing(alloc, engine, steps, id, method, call.layout, &handed)
+        }
     }
 }
 
@@ -160,6 +251,7 @@ fn serve_reading<K: Keeper, L: Ledger>(
     steps: &mut Steps<L>,
     id: &Json,
     method: ReadMethod,
+    layout: Layout,
     call: &Call<'_>,
 ) -> Reply
     requires rest { IsResting (standpoint K.Keeper engine.old) }
@@ -167,8 +259,9 @@ fn serve_reading<K: Keeper, L: Ledger>(
     requires model { HasModel (models_at (standpoint K.Keeper engine.old)) call.now.model }
     requires id { has_float (view id.now) ≡ false }
     ensures served { ServesOver (standpoint K.Keeper engine.old) (standpoint K.Keeper engine.new) call.entry.now.now
-        (called (view id.now) (handed_view (Method.Reads method) call.entry.now)) (text_of result) }
-    ensures causes { TellsSome (models_at (standpoint K.Keeper engine.old)) (KeeperRose (standpoint K.Keeper engine.old) (standpoint K.Keeper engine.new)) (text_of result) }
+        (called (view id.now) (handed_view layout (Method.Reads method) call.entry.now)) (text_of result) }
+    ensures causes { RepliesBy (standpoint K.Keeper engine.old) (standpoint K.Keeper engine.new) call.entry.now.now
+        (called (view id.now) (handed_view layout (Method.Reads method) call.entry.now)) (text_of result) }
     ensures others { OthersStay engine.old.held.models (K.kept engine.old.keeper.now) (K.kept engine.new.keeper.now) }
     ensures rests { IsAtRest engine.old.held.models engine.new.held }
     ensures lender { engine.new.keeper.ghost_name ≡ engine.old.keeper.ghost_name }
@@ -176,7 +269,7 @@ fn serve_reading<K: Keeper, L: Ledger>(
 {
     match tell(alloc, engine, steps, method, call) {
         Ok(json) => told(alloc, id, &Outcome::Result(json)),
-        Err(refusal) => call_refused(alloc, engine.schema(), id, refusal),
+        Err(refusal) => call_refused(alloc, engine.schema(), id, layout, refusal),
     }
 }
 
@@ -187,6 +280,7 @@ fn serve_writing<K: Keeper, L: Ledger>(
     steps: &mut Steps<L>,
     id: &Json,
     method: WriteMethod,
+    layout: Layout,
     call: &Call<'_>,
 ) -> Reply
     requires rest { IsResting (standpoint K.Keeper engine.old) }
@@ -194,8 +288,9 @@ fn serve_writing<K: Keeper, L: Ledger>(
     requires model { HasModel (models_at (standpoint K.Keeper engine.old)) call.now.model }
     requires id { has_float (view id.now) ≡ false }
     ensures served { ServesOver (standpoint K.Keeper engine.old) (standpoint K.Keeper engine.new) call.entry.now.now
-        (called (view id.now) (handed_view (Method.Writes method) call.entry.now)) (text_of result) }
-    ensures causes { TellsSome (models_at (standpoint K.Keeper engine.old)) (KeeperRose (standpoint K.Keeper engine.old) (standpoint K.Keeper engine.new)) (text_of result) }
+        (called (view id.now) (handed_view layout (Method.Writes method) call.entry.now)) (text_of result) }
+    ensures causes { RepliesBy (standpoint K.Keeper engine.old) (standpoint K.Keeper engine.new) call.entry.now.now
+        (called (view id.now) (handed_view layout (Method.Writes method) call.entry.now)) (text_of result) }
     ensures others { OthersStay engine.old.held.models (K.kept engine.old.keeper.now) (K.kept engine.new.keeper.now) }
     ensures rests { IsAtRest engine.old.held.models engine.new.held }
     ensures lender { engine.new.keeper.ghost_name ≡ engine.old.keeper.ghost_name }
@@ -203,7 +298,7 @@ fn serve_writing<K: Keeper, L: Ledger>(
 {
     match make(alloc, engine, steps, method, call) {
         Ok(json) => keep(alloc, engine, id, json),
-        Err(refusal) => call_refused(alloc, engine.schema(), id, refusal),
+        Err(refusal) => call_refused(alloc, engine.schema(), id, layout, refusal),
     }
 }
 
@@ -218,7 +313,8 @@ fn tell<K: Keeper, L: Ledger>(
     requires model { HasModel (models_at (standpoint K.Keeper engine.old)) call.now.model }
     requires rest { IsResting (standpoint K.Keeper engine.old) }
     ensures call { IfSome (model_at (models_at (standpoint K.Keeper engine.old)) call.entry.now.model) (λ info.
-        IsAsked (Tells method (models_at (standpoint K.Keeper engine.old)) (called_by call.entry.now info)) (standpoint K.Keeper engine.old) (standpoint K.Keeper engine.new) (λ _. ⊤) (result_view result)) }
+        IsAsked (Tells method (models_at (standpoint K.Keeper engine.old)) (called_by call.entry.now info)) (standpoint K.Keeper engine.old) (standpoint K.Keeper engine.new)
+        (TellsCause method (models_at (standpoint K.Keeper engine.old)) (called_by call.entry.now info)) (result_view result)) }
     ensures plain { IfOk result (λ json. has_float (view json) ≡ false) }
     ensures same { Stays (K.kept engine.old.keeper.now) engine.old.held (K.kept engine.new.keeper.now) engine.new.held }
     ensures count { K.faults engine.old.keeper.now ≤ K.faults engine.new.keeper.now }
@@ -226,6 +322,9 @@ fn tell<K: Keeper, L: Ledger>(
 {
     match method {
         ReadMethod::Read => read(alloc, engine, call, steps),
+        ReadMethod::Search => search(alloc, engine, call, steps),
+        ReadMethod::SearchCount => search_count(alloc, engine, call, steps),
+        ReadMethod::SearchRead => search_read(alloc, engine, call, steps),
         ReadMethod::FieldsGet => fields_get(alloc, engine, call, steps),
     }
 }
@@ -242,7 +341,8 @@ fn make<K: Keeper, L: Ledger>(
     requires moment { IsMoment call.now.now }
     requires rest { IsResting (standpoint K.Keeper engine.old) }
     ensures call { IfSome (model_at (models_at (standpoint K.Keeper engine.old)) call.entry.now.model) (λ info.
-        IsCalled (Makes method (models_at (standpoint K.Keeper engine.old)) (called_by call.entry.now info)) (standpoint K.Keeper engine.old) (standpoint K.Keeper engine.new) (λ _. ⊤) (result_view result)) }
+        IsCalled (Makes method (models_at (standpoint K.Keeper engine.old)) (called_by call.entry.now info)) (standpoint K.Keeper engine.old) (standpoint K.Keeper engine.new)
+        (MakesCause method (models_at (standpoint K.Keeper engine.old)) (called_by call.entry.now info)) (result_view result)) }
     ensures plain { IfOk result (λ json. has_float (view json) ≡ false) }
     ensures models { engine.new.held.models ≡ engine.old.held.models }
     ensures phase { engine.new.held.phase ≡ phase.Settled }
@@ -269,7 +369,7 @@ fn keep<K: Keeper>(alloc: Global, engine: &mut Engine<'_, K>, id: &Json, json: J
     ensures rests { IsAtRest engine.old.held.models engine.new.held }
     ensures lender { engine.new.keeper.ghost_name ≡ engine.old.keeper.ghost_name }
     ensures count { K.faults engine.old.keeper.now ≤ K.faults engine.new.keeper.now }
-    ensures causes { TellsSome (models_at (standpoint K.Keeper engine.old)) (KeeperRose (standpoint K.Keeper engine.old) (standpoint K.Keeper engine.new)) (text_of result) }
+    ensures causes { TellsKept (Rose (K.faults engine.old.keeper.now) (K.faults engine.new.keeper.now)) (view id.now) (view json) (text_of result) }
     ensures others { OthersStay engine.old.held.models (K.kept engine.old.keeper.now) (K.kept engine.new.keeper.now) }
 {
     let Ok(text) = reply_text(alloc, id, &Outcome::Result(json)) else {
@@ -286,6 +386,28 @@ fn keep<K: Keeper>(alloc: Global, engine: &mut Engine<'_, K>, id: &Json, json: J
     }
 }
 
+/// The reply that tells what `login` or `authenticate` find, or which element is wrong.
+fn login_told(alloc: Global, schema: &Schema, id: &Json, elements: &[Json]) -> Reply
+    requires { has_float (view id.now) ≡ false }
+    ensures { TellsPlainly schema.now (telling_by (view id.now) (login_of (items_view elements.now))) (text_of result) }
+{
+    match login_of(elements) {
+        Ok(json) => told(alloc, id, &Outcome::Result(json)),
+        Err(number) => element_refused(alloc, schema, id, number),
+    }
+}
+
+/// The reply that tells what the server is.
+fn version_told(alloc: Global, id: &Json) -> Reply
+    requires { has_float (view id.now) ≡ false }
+    ensures { MayTell (text_of result) (result_text (view id.now) version_json) }
+{
+    match version_json(alloc) {
+        Ok(json) => told(alloc, id, &Outcome::Result(json)),
+        Err(NoMemory) => Reply::NoMemory,
+    }
+}
+
 /// The reply to a request whose element of this number is wrong.
 fn element_refused(alloc: Global, schema: &Schema, id: &Json, number: u64) -> Reply
     requires { has_float (view id.now) ≡ false }
@@ -298,12 +420,18 @@ fn element_refused(alloc: Global, schema: &Schema, id: &Json, number: u64) -> Re
 }
 
 /// The reply to a call that is refused; a place among its arguments is told as one of the body.
-fn call_refused(alloc: Global, schema: &Schema, id: &Json, refusal: Refusal) -> Reply
+fn call_refused(
+    alloc: Global,
+    schema: &Schema,
+    id: &Json,
+    layout: Layout,
+    refusal: Refusal,
+) -> Reply
     requires { has_float (view id.now) ≡ false }
-    ensures { MayTell (text_of result) (outcome_text schema.now (view id.now) (told (Err refusal))) }
+    ensures { MayTell (text_of result) (outcome_text schema.now (view id.now) (told layout (Err refusal))) }
 {
     match refusal {
-        Refusal::Request(place) => match body_place(alloc, &place) {
+        Refusal::Request(place) => match body_place(alloc, layout, &place) {
             Ok(place) => refused(alloc, schema, id, &Refusal::Request(place)),
             Err(NoMemory) => Reply::NoMemory,
         },

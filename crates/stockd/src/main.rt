@@ -21,6 +21,7 @@ mod output;
 mod places;
 mod request;
 mod run;
+mod service;
 mod serving;
 mod session;
 mod start;

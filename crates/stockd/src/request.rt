@@ -21,6 +21,9 @@ const CALLER: RecId = RecId(2);
 #[derive(Clone, Copy, Debug, PartialEq, Eq)]
 pub(crate) enum ReadMethod {
     Read,
+    Search,
+    SearchCount,
+    SearchRead,
     FieldsGet,
 }
 
@@ -39,6 +42,15 @@ pub(crate) enum Method {
     Writes(WriteMethod),
 }
 
+/// How a body gives the arguments of a call.
+#[derive(Clone, Copy, Debug, PartialEq, Eq)]
+pub(crate) enum Layout {
+    /// In a list and an object, the elements 5 and 6 (`execute_kw`).
+    Listed,
+    /// Each as an element by itself, from element 5 on (`execute`).
+    Spread,
+}
+
 /// A call of a method, with its arguments by position and, where they are there, by name.
 #[derive(Clone, Copy)]
 pub(crate) struct MethodCall<'a> {
@@ -47,12 +59,17 @@ pub(crate) struct MethodCall<'a> {
     pub(crate) method: Method,
     pub(crate) args: &'a Json,
     pub(crate) kw: Option<&'a Json>,
+    pub(crate) layout: Layout,
 }
 
 /// The call that elements make: database, user, key, model, method, arguments, and maybe
 /// arguments by name. Or the number of the first that is wrong, or that is missing.
-pub(crate) fn call_of<'a>(schema: &Schema, elements: &'a [Json]) -> Result<MethodCall<'a>, u64>
-    ensures found { CallIs result (call_of schema.now (items_view elements.now)) }
+pub(crate) fn call_of<'a>(
+    schema: &Schema,
+    layout: Layout,
+    elements: &'a [Json],
+) -> Result<MethodCall<'a>, u64>
+    ensures found { CallIs result (call_of schema.now layout (items_view elements.now)) }
     ensures model { IfOk result (λ call. HasModel schema.now call.model) }
 {
     let [db, user, key, model, method, args, named @ ..] = elements else {
@@ -76,6 +93,7 @@ pub(crate) fn call_of<'a>(schema: &Schema, elements: &'a [Json]) -> Result<Metho
         method,
         args,
         kw: named.first(),
+        layout,
     })
 }
 
@@ -101,6 +119,12 @@ fn method_named(schema: &Schema, model: ModelNo, method: &Json) -> Option<Method
 {
     if is_text(method, "read") {
         Some(Method::Reads(ReadMethod::Read))
+    } else if is_text(method, "search") {
+        Some(Method::Reads(ReadMethod::Search))
+    } else if is_text(method, "search_count") {
+        Some(Method::Reads(ReadMethod::SearchCount))
+    } else if is_text(method, "search_read") {
+        Some(Method::Reads(ReadMethod::SearchRead))
     } else if is_text(method, "fields_get") {
         Some(Method::Reads(ReadMethod::FieldsGet))
     } else if is_text(method, "create") && is_creatable(schema, model) {
@@ -115,7 +139,7 @@ fn method_named(schema: &Schema, model: ModelNo, method: &Json) -> Option<Method
 }
 
 /// Whether the value is this text.
-fn is_text(value: &Json, text: &str) -> bool
+pub(crate) fn is_text(value: &Json, text: &str) -> bool
     ensures { result ≡ is_text text.now (view value.now) }
 {
     match value.as_str() {

@@ -2,14 +2,20 @@
 //! the rules of docs/CALL.md, and the bytes of rows from those of docs/VALUES.md. Here are
 //! the worked requests; `causes` has each status, refusal and failing call, `opened` stores
 //! with rows, `audited` audits, `loaded` modules and words, `places` where a request is malformed,
-//! `relations` models with relations and conditions, `writes` how rows are changed, `fields` what fields a model has, and `arguments` how optional
-//! arguments are given. `case` reads the pages, whose lines
-//! docs/CASES.md explains, with `modules` for their texts and `kept` for the store.
+//! `relations` models with relations and conditions, `creates` rows of a list of objects, `writes` how
+//! rows are changed, `domains` which rows a domain finds, `searches` which of them are told and in
+//! which order, `search_places` where either is malformed, `fields` what fields a model has, `arguments` how optional arguments are
+//! given, `services` who may log in and `execute`, and `connections` what is served over HTTP.
+//! `case` reads the pages, whose lines docs/CASES.md explains, with `modules` for their texts,
+//! `kept` for the store and `traffic` for the connections.
 
 mod arguments;
 mod audited;
 mod case;
 mod causes;
+mod connections;
+mod creates;
+mod domains;
 mod fields;
 mod kept;
 mod loaded;
@@ -18,6 +24,10 @@ mod opened;
 mod pieces;
 mod places;
 mod relations;
+mod search_places;
+mod searches;
+mod services;
+mod traffic;
 mod writes;
 
 use case::play;

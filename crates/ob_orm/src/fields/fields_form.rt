@@ -8,9 +8,10 @@ ghost use Rattle.ob_call.specs.Forms.{fields_at};
 ghost use Rattle.ob_orm.specs.FieldsGet.{fields_get_expects};
 ghost use Rattle.ob_orm.specs.FieldsGetSteps.{fields_form_fault};
 
-use ob_base::ModelNo;
+use ob_base::{ModelNo, NoMemory};
 use ob_call::{Below, FieldNames, Form, Json, Parameter, Texts};
 use ob_schema::Schema;
+use std::alloc::Global;
 
 /// The form of an argument of a fields_get.
 #[derive(Clone, Copy)]
@@ -24,10 +25,10 @@ impl Form for FieldsForm<'_> {
 
     ghost fault = { λ form json. fields_form_fault form json };
 
-    fn fault<'j>(&self, json: &'j Json) -> Option<Below<'j>> {
+    fn fault<'j>(&self, alloc: Global, json: &'j Json) -> Result<Option<Below<'j>>, NoMemory> {
         match self {
-            FieldsForm::Names(names) => names.fault(json),
-            FieldsForm::Texts => Texts.fault(json),
+            FieldsForm::Names(names) => names.fault(alloc, json),
+            FieldsForm::Texts => Texts.fault(alloc, json),
         }
     }
 }

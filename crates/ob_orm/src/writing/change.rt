@@ -15,7 +15,7 @@ ghost use Rattle.ob_tables.specs.Fitting.{AreFitIn};
 
 use crate::row_values::given_values;
 use crate::values::Values;
-use ob_base::{FieldNo, ModelNo, Refusal, Sequence, Value};
+use ob_base::{FieldNo, ModelNo, NoMemory, Refusal, Sequence, Value};
 use ob_call::{Below, Call, Form, Ids, Json, Parameter, arguments_of, named_ids};
 use ob_schema::Schema;
 use std::alloc::Global;
@@ -39,10 +39,10 @@ impl Form for WriteForm<'_> {
 
     ghost fault = { λ form json. write_fault form json };
 
-    fn fault<'j>(&self, json: &'j Json) -> Option<Below<'j>> {
+    fn fault<'j>(&self, alloc: Global, json: &'j Json) -> Result<Option<Below<'j>>, NoMemory> {
         match self {
-            WriteForm::Ids => Ids.fault(json),
-            WriteForm::Values(values) => values.fault(json),
+            WriteForm::Ids => Ids.fault(alloc, json),
+            WriteForm::Values(values) => values.fault(alloc, json),
         }
     }
 }

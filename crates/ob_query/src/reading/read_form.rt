@@ -8,9 +8,10 @@ ghost use Rattle.ob_call.specs.Forms.{fields_at};
 ghost use Rattle.ob_query.specs.Read.{read_expects};
 ghost use Rattle.ob_query.specs.ReadForm.{read_fault};
 
-use ob_base::ModelNo;
+use ob_base::{ModelNo, NoMemory};
 use ob_call::{Below, FieldNames, Form, Ids, Json, Parameter, Unread};
 use ob_schema::Schema;
+use std::alloc::Global;
 
 /// The form of an argument of a read.
 #[derive(Clone, Copy)]
@@ -25,11 +26,11 @@ impl Form for ReadForm<'_> {
 
     ghost fault = { λ form json. read_fault form json };
 
-    fn fault<'j>(&self, json: &'j Json) -> Option<Below<'j>> {
+    fn fault<'j>(&self, alloc: Global, json: &'j Json) -> Result<Option<Below<'j>>, NoMemory> {
         match self {
-            ReadForm::Ids => Ids.fault(json),
-            ReadForm::Fields(names) => names.fault(json),
-            ReadForm::Unread => Unread.fault(json),
+            ReadForm::Ids => Ids.fault(alloc, json),
+            ReadForm::Fields(names) => names.fault(alloc, json),
+            ReadForm::Unread => Unread.fault(alloc, json),
         }
     }
 }

@@ -5,8 +5,9 @@
 use super::kept::{hold, put_bytes, put_kept};
 use super::modules::{Texts, module_names};
 use super::pieces::Pieces;
+use super::traffic::Traffic;
 use crate::run::run;
-use ob_io::{MemClock, MemFiles, MemKeeper, MemSink, MemSource, SureDoor};
+use ob_io::{MemClock, MemDoor, MemFiles, MemKeeper, MemSink, MemSource};
 use ob_load::load;
 use ob_schema::Schema;
 use std::alloc::Global;
@@ -26,6 +27,7 @@ struct Case<'a> {
     source_fails: &'a str,
     sink_fails: &'a str,
     input: Pieces,
+    traffic: Traffic<'a>,
     /// How many requests the next run has so far.
     requests: u64,
     /// What the next run must write.
@@ -45,6 +47,7 @@ struct Objects {
     files: MemFiles,
     source: MemSource,
     sink: MemSink,
+    door: MemDoor,
 }
 
 /// Plays the cases of a page, and stops the test where one differs.
@@ -103,6 +106,7 @@ impl<'a> Case<'a> {
             source_fails: "",
             sink_fails: "",
             input: Pieces::new(alloc),
+            traffic: Traffic::new(alloc),
             requests: 0,
             wanted: Pieces::new(alloc),
             is_open: true,
@@ -162,9 +166,13 @@ impl<'a> Case<'a> {
             ("fail", "files") => self.texts.fails = second,
             ("fail", "source") => self.source_fails = second,
             ("fail", "sink") => self.sink_fails = second,
+            ("fail", "door") => self.traffic.fails = second,
             // These were read when the case began.
             ("fail", "keeper") if second == self.keeper_fails => {}
-            _ => return None,
+            _ => {
+                self.is_open = true;
+                return self.traffic.take(word, rest);
+            }
         }
         Some(())
     }
@@ -254,10 +262,13 @@ impl<'a> Case<'a> {
     fn run(&mut self, status: &str) -> Option<()> {
         let mut objects = self.objects()?;
         let wanted = self.wanted.take()?;
+        let answers = self.traffic.wanted()?;
         self.requests = 0;
         self.is_open = false;
         let ended = self.status_over(&mut objects)?;
         self.compare("output", wanted.as_slice(), objects.sink.written());
+        let written = self.traffic.written(&objects.door);
+        self.compare("connections", answers.as_slice(), written.as_slice());
         let mut digits = itoa::Buffer::new();
         self.compare("status", status.as_bytes(), digits.format(ended).as_bytes());
         Some(())
@@ -270,6 +281,7 @@ impl<'a> Case<'a> {
             files: self.texts.files()?,
             source: self.source()?,
             sink: self.sink()?,
+            door: self.traffic.door(self.cut)?,
         })
     }
 
@@ -287,7 +299,6 @@ impl<'a> Case<'a> {
 
     /// The status of a run over these objects.
     fn status_over(&mut self, objects: &mut Objects) -> Option<u8> {
-        let mut door = SureDoor::new(self.alloc, Vec::new(self.alloc), 1, 0).ok()?;
         let mut clock = MemClock::new(i64::from(self.start), self.step).ok()?;
         Some(run(
             self.alloc,
@@ -296,7 +307,7 @@ impl<'a> Case<'a> {
             &mut self.keeper,
             &mut objects.source,
             &mut objects.sink,
-            &mut door,
+            &mut objects.door,
             &mut clock,
         ))
     }

@@ -52,9 +52,9 @@ status 0
 ! Request malformed at params
 > {"method":"call","params":{}}
 !null Request malformed at params.service
-> {"id":6,"method":"call","params":{"service":"common","method":"execute"}}
+> {"id":6,"method":"call","params":{"service":"db","method":"execute"}}
 ! Request malformed at params.service
-> {"id":-3,"method":"call","params":{"service":"object","method":"execute"}}
+> {"id":-3,"method":"call","params":{"service":"common","method":"execute"}}
 !-3 Request malformed at params.method
 > {"id":8,"method":"call","params":{"service":"object","method":"execute_kw"}}
 ! Request malformed at params.args
@@ -103,7 +103,7 @@ status 0
 ! Request malformed at params.args.3
 > {"id":2,"method":"call","params":{"service":"object","method":"execute_kw","args":["stock",2,"admin",5,5,0]}}
 ! Request malformed at params.args.3
-2 demo.line search 0,0
+2 demo.line copy 0,0
 ! Request malformed at params.args.4
 2 demo.line create {},0
 ! Request malformed at params.args.5
@@ -146,7 +146,7 @@ status 0
 kept demo.line ids
 
 == the forms of the arguments, and how they are given
-2 demo.line create [[{}]]
+2 demo.line create ["bolt"]
 ! Request malformed at params.args.5.0
 2 demo.line create [null]
 ! Request malformed at params.args.5.0

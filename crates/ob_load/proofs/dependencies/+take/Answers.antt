@@ -1,5 +1,5 @@
 -- A module that is taken stays; another comes behind those on which it depends.
-use Rattle.std.proofs.Common.{◌≡◌, ◌-◌, ◌<◌, ◌≤◌, ◌∷◌, [], false, true, List, ℕ, Contains, length, map, take, sym, ap, subst, ◌∙◌, arith}
+use Rattle.std.proofs.Common.{◌≡◌, ◌<◌, ◌≤◌, ◌∷◌, [], List, ℕ, Contains, length, map, take, sym, ap, subst, ◌∙◌, arith}
 use Rattle.std.specs.Prelude.{nat_eq}
 use Rattle.std.specs.List.{IsAnyAnswer}
 use Rattle.std.proofs.lemmas.Bool.{false≢true}

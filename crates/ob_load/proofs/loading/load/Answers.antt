@@ -1,15 +1,20 @@
 -- What stands first against the modules is told; with nothing their models make the registry.
-use Rattle.std.proofs.Common.{◌≡◌, ◌≢◌, Err, sym, ap, ◌∙◌, arith}
+use Rattle.std.proofs.Common.{◌≡◌, ◌≢◌, List, None, Err, sym, ap, subst, ◌∙◌, arith}
 use Rattle.std.proofs.lemmas.Option.{slice_get_within}
-use Rattle.std.proofs.lemmas.Result.{err_from_is_err_and}
+use Rattle.std.proofs.lemmas.Result.{IfOk-weaker, err_from_is_err_and}
 use Rattle.ob_io.specs.Cause.{Rose}
 use Rattle.ob_definition.specs.declared.fault.SchemaFault.TheVariants as schema
 use Rattle.ob_load.specs.declared.fault.LoadFault.TheVariants as load
+use Rattle.ob_load.specs.Access.{declared_policy}
+use Rattle.ob_load.specs.AccessFaults.{access_fault}
 use Rattle.ob_load.specs.Loading.{all_models}
+use Rattle.ob_load.specs.Reading.{Module}
+use Rattle.ob_load.specs.declared.loading.Loaded.{Loaded}
 use Rattle.ob_load.specs.Rooms.{modules_in, numbered}
-use Rattle.ob_load.proofs.Loads.{cycle-refused, loaded-from, models-there, models-told, reading-told}
-use Rattle.ob_load.proofs.Told.{err_is}
+use Rattle.ob_load.proofs.Loads.{access-told, cycle-refused, loaded-by, models-there, models-told, reading-told}
+use Rattle.ob_load.proofs.Told.{err_is, no-file, told-of-text}
 use Rattle.ob_load.proofs.loading.load.Goals as goal
+use Rattle.ob_schema.specs.Models.{IsRegistry}
 
 pub returns-in_err-modules-clause-fault : goal.returns-in_err-modules-clause-fault
 returns-in_err-modules-clause-fault g c = λ faulty same.
@@ -28,15 +33,50 @@ returns-in-Some-clause-fault g c = λ faulty same.
     cycle-refused (g.F.Files.texts c.args.files.now) c.args.folder.now c.args.names.now (modules_in c.in_ok-modules.modules) c.in_ok-modules.ensures.read
     c.in-Some.number c.name.result.now c.refused.result faulty found c.name.ensures c.refused.ensures.fault (err_is c.refused.result (load.Module faulty) same)
 
+pub with_policy-requires : goal.with_policy-requires
+with_policy-requires g c =
+    let order = c.in_ok-taken.ensures in
+    (order.0, rw c.deref-in-Ok.ensures.value order.1)
+
 pub returns-in-Ok-clause-loaded : goal.returns-in-Ok-clause-loaded
 returns-in-Ok-clause-loaded g c =
     let modules = modules_in c.in_ok-modules.modules in
     let acyclic = rw c.in_default.is at c.in_ok-number.ensures.none in
     let order = c.in_ok-taken.ensures in
     let are : numbered modules c.deref.result.now order.0 = rw c.deref.ensures.value order.1 in
+    let own : numbered modules c.deref-in-Ok.result.now order.0 = rw c.deref-in-Ok.ensures.value order.1 in
     let all : c.as_slice.result.now ≡ all_models order.0 = c.as_slice.ensures ∙ c.in_ok-models.ensures order.0 are in
-    loaded-from (g.F.Files.texts c.args.files.now) c.args.folder.now c.args.names.now modules c.in_ok-modules.ensures.read acyclic order.0 order.2 c.as_slice.result.now all c.in-Ok.schema
-    c.in-Ok.ensures.built c.in-Ok.ensures.faultless
+    loaded-by (g.F.Files.texts c.args.files.now) c.args.folder.now c.args.names.now modules c.in_ok-modules.ensures.read acyclic order.0 order.2 c.as_slice.result.now all c.in-Ok.schema c.with_policy.result
+    c.in-Ok.ensures.built c.in-Ok.ensures.faultless c.with_policy.ensures.same
+    (IfOk-weaker c.with_policy.result (λ l. (taken : List Module) → numbered modules c.deref-in-Ok.result.now taken → access_fault c.in-Ok.schema taken ≡ None) (λ l. access_fault c.in-Ok.schema order.0 ≡ None)
+    (λ l f. f order.0 own) c.with_policy.ensures.fits)
+    (IfOk-weaker c.with_policy.result (λ (l : Loaded). (taken : List Module) → numbered modules c.deref-in-Ok.result.now taken → l.policy ≡ declared_policy c.in-Ok.schema taken)
+    (λ (l : Loaded). l.policy ≡ declared_policy c.in-Ok.schema order.0) (λ l f. f order.0 own) c.with_policy.ensures.declared)
+
+pub returns-in-Ok-clause-fault : goal.returns-in-Ok-clause-fault
+returns-in-Ok-clause-fault g c = λ faulty same.
+    let modules = modules_in c.in_ok-modules.modules in
+    let acyclic = rw c.in_default.is at c.in_ok-number.ensures.none in
+    let order = c.in_ok-taken.ensures in
+    let are : numbered modules c.deref.result.now order.0 = rw c.deref.ensures.value order.1 in
+    let own : numbered modules c.deref-in-Ok.result.now order.0 = rw c.deref-in-Ok.ensures.value order.1 in
+    let all : c.as_slice.result.now ≡ all_models order.0 = c.as_slice.ensures ∙ c.in_ok-models.ensures order.0 are in
+    access-told (g.F.Files.texts c.args.files.now) c.args.folder.now c.args.names.now modules c.in_ok-modules.ensures.read acyclic order.0 order.2 c.as_slice.result.now all c.in-Ok.schema faulty
+    c.in-Ok.ensures.built c.in-Ok.ensures.faultless (c.with_policy.ensures.fault order.0 own faulty same)
+
+pub returns-in-Ok-clause-absent : goal.returns-in-Ok-clause-absent
+returns-in-Ok-clause-absent g c =
+    told-of-text (g.F.Files.texts c.args.files.now) (Rose (g.F.Files.faults c.args.files.now) (g.F.Files.faults c.read_modules.new.files)) c.with_policy.result c.with_policy.ensures.read
+
+pub returns-in-Ok-clause-sound : goal.returns-in-Ok-clause-sound
+returns-in-Ok-clause-sound g c =
+    IfOk-weaker c.with_policy.result (λ (l : Loaded). l.schema ≡ c.in-Ok.schema) (λ (l : Loaded). IsRegistry l.schema) (λ l same. subst IsRegistry (sym same) c.in-Ok.ensures.sound) c.with_policy.ensures.same
+
+pub returns-in-Ok-clause-cause : goal.returns-in-Ok-clause-cause
+returns-in-Ok-clause-cause g c = record {
+  no_fall = c.read_modules.ensures.cause.no_fall;
+  cause = λ failed. absurd (no-file c.with_policy.result c.with_policy.ensures.read failed);
+}
 
 pub returns-clause-fault : goal.returns-clause-fault
 returns-clause-fault g c = λ faulty same.

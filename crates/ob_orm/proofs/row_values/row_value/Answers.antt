@@ -3,7 +3,7 @@ use Rattle.std.proofs.lemmas.Result.{err_from_is_err_and}
 use Rattle.serde_json.specs.View.{members_view}
 use Rattle.ob_definition.specs.Types.{is_list}
 use Rattle.ob_schema.specs.Models.{field_at}
-use Rattle.ob_call.specs.Places.{spot_place}
+use Rattle.ob_orm.specs.ObjectSteps.{object_place}
 use Rattle.ob_orm.proofs.CreateFields.{tell}
 use Rattle.ob_orm.proofs.RowValue.{default_holds, new_default, new_given}
 use Rattle.ob_orm.proofs.row_values.row_value.Goals as goal
@@ -16,7 +16,7 @@ pub returns-in_ok-value-in-Some-clause-value : goal.returns-in_ok-value-in-Some-
 returns-in_ok-value-in-Some-clause-value c =
     let row = c.args.row.now in
     new_given (field_at c.args.schema.now c.args.model c.args.number) c.info-field.result.now row.made row.now
-    (spot_place row.spot) (members_view row.members.now.entries) c.as_str-name.result.now c.in-Some.json (Ok c.in_ok-value-in-Some.value) c.info-field.ensures c.as_str-name.ensures
+    (object_place row.object) (members_view row.members.now.entries) c.as_str-name.result.now c.in-Some.json (Ok c.in_ok-value-in-Some.value) c.info-field.ensures c.as_str-name.ensures
     (sym c.is_stamp.ensures ∙ c.if-is_stamp.false) c.in-Some.ensures.given c.in_ok-value-in-Some.ensures.value
 
 pub returns-in_err-value-in-Some-clause-value : goal.returns-in_err-value-in-Some-clause-value
@@ -24,13 +24,13 @@ returns-in_err-value-in-Some-clause-value c =
     let p = err_from_is_err_and c.from_residual.result c.from_residual.ensures.1 in
     let row = c.args.row.now in
     rw (p.1, p.2) (new_given (field_at c.args.schema.now c.args.model c.args.number) c.info-field.result.now row.made row.now
-    (spot_place row.spot) (members_view row.members.now.entries) c.as_str-name.result.now c.in-Some.json (Err c.in_err-value-in-Some.field-0.0) c.info-field.ensures c.as_str-name.ensures
+    (object_place row.object) (members_view row.members.now.entries) c.as_str-name.result.now c.in-Some.json (Err c.in_err-value-in-Some.field-0.0) c.info-field.ensures c.as_str-name.ensures
     (sym c.is_stamp.ensures ∙ c.if-is_stamp.false) c.in-Some.ensures.given c.in_err-value-in-Some.ensures.value)
 
 pub returns-in-Ok-clause-value : goal.returns-in-Ok-clause-value
 returns-in-Ok-clause-value c =
     let row = c.args.row.now in
-    new_default (field_at c.args.schema.now c.args.model c.args.number) c.info-field.result.now row.made row.now (spot_place row.spot) (members_view row.members.now.entries) c.as_str-name.result.now c.in-Ok.value
+    new_default (field_at c.args.schema.now c.args.model c.args.number) c.info-field.result.now row.made row.now (object_place row.object) (members_view row.members.now.entries) c.as_str-name.result.now c.in-Ok.value
     c.info-field.ensures c.as_str-name.ensures (sym c.is_stamp.ensures ∙ c.if-is_stamp.false) c.in-None.ensures.given c.in-Ok.ensures
 
 pub returns-in-Ok-clause-holds : goal.returns-in-Ok-clause-holds

@@ -1,58 +1,19 @@
-use Rattle.std.proofs.Common.{◌≡◌, ◌+◌, ◌++◌, ◌∷◌, [], Ok, Some, None, get_or, take, arith, rules}
-use Rattle.std.proofs.lemmas.List.{take_more, take_all}
-use Rattle.ob_io.specs.Cause.{Rose}
+use Rattle.ob_cache.specs.Calls.{KeeperRose, models_at, standpoint}
+use Rattle.ob_query.proofs.ReadSteps.{answers_gap, answers_rows}
+use Rattle.ob_schema.specs.Models.{model_at}
 use Rattle.serde_json.proofs.Views.{view-Array}
-use Rattle.ob_cache.proofs.CallerLemmas.{stays-then}
-use Rattle.ob_call.proofs.CallerLemmas.{least_of}
-use Rattle.ob_query.proofs.ReadSteps.{IsFetching-row, IsFetching-gap, answers_rows}
 use Rattle.ob_query.proofs.reading.objects_of.Goals as goal
-use Rattle.ob_query.proofs.reading.objects_of.Goals.{in-Some+in_ok-map_err-in-Some, in-None}
 
-pub returns-in_err-object-clause-same : goal.returns-in_err-object-clause-same
-returns-in_err-object-clause-same g c =
-    let kept = g.K.Keeper.kept in
-    stays-then (kept c.args.engine.now.keeper.now) (kept c.loop-id.engine.keeper.now) (kept c.row_object.new.engine.keeper.now) c.args.engine.now.held c.loop-id.engine.held c.row_object.new.engine.held
-    c.loop-id.invariant.0.same c.row_object.ensures.same
+pub returns-in-Some-clause-told : goal.returns-in-Some-clause-told
+returns-in-Some-clause-told g c = λ tables rests.
+    let before = standpoint g.K.Keeper c.args.engine.now in
+    let told = rw c.in-Some.is at c.in_ok-rows.ensures.told in
+    answers_gap (models_at before) tables c.args.model c.args.fields.now c.args.ids.now c.in_ok-rows.rows.objects.items (model_at (models_at before) c.args.model)
+    (KeeperRose before (standpoint g.K.Keeper c.fetched_rows.new.engine)) c.in-Some.id (told tables rests)
 
-pub returns-in_err-map_err-in-Some-clause-same : goal.returns-in_err-map_err-in-Some-clause-same
-returns-in_err-map_err-in-Some-clause-same g c =
-    let kept = g.K.Keeper.kept in
-    stays-then (kept c.args.engine.now.keeper.now) (kept c.loop-id.engine.keeper.now) (kept c.row_object.new.engine.keeper.now) c.args.engine.now.held c.loop-id.engine.held c.row_object.new.engine.held
-    c.loop-id.invariant.0.same c.row_object.ensures.same
-
-pub loop-id-preserved : goal.loop-id-preserved
-loop-id-preserved g c =
-    let kept = g.K.Keeper.kept in let old = c.args.engine.now in let mid = c.loop-id.engine in let next = c.row_object.new.engine in
-    let ids = c.args.ids.now in let i = c.loop-id.id-index in let id = get_or ids i 0 in
-    let more : take (i + 1) ids ≡ take i ids ++ id ∷ [] = take_more ids i 0 c.loop-id-test.true in
-    elim c.match-branch-2.branch [
-      | in-Some+in_ok-map_err-in-Some w ↦ (
-          let made : c.row_object.result ≡ Ok (Some w.in-Some.object) = grind arith in
-          let found = rw made at c.row_object.ensures.told in
-          let plain = rw made at c.row_object.ensures.plain in
-          let pushed : c.match-branch-2.objects.items ≡ c.loop-id.objects.items ++ w.in-Some.object ∷ [] = grind arith in (
-            rw (more, pushed, w.missing-is)
-                (IsFetching-row (kept old.keeper.now) old.held (kept mid.keeper.now) mid.held c.args.model c.args.fields.now (kept next.keeper.now) next.held
-                (take i ids) c.loop-id.objects.items c.loop-id.missing id w.in-Some.object found plain c.row_object.ensures.same c.loop-id.invariant.0),
-            search rules,
-            search rules,
-          ))
-      | in-None w ↦ (
-          let made : c.row_object.result ≡ Ok None = grind arith in
-          let found = rw made at c.row_object.ensures.told in
-          let lesser : c.match-branch-2.missing ≡ Some (least_of c.loop-id.missing id) = grind arith in (
-            rw (more, lesser, w.objects-is)
-                (IsFetching-gap (kept old.keeper.now) old.held (kept mid.keeper.now) mid.held c.args.model c.args.fields.now (kept next.keeper.now) next.held
-                (take i ids) c.loop-id.objects.items c.loop-id.missing id found c.row_object.ensures.same c.loop-id.invariant.0),
-            search rules,
-            search rules,
-          ))
-    ]
-
-pub returns-in-None-missing-clause-told : goal.returns-in-None-missing-clause-told
-returns-in-None-missing-clause-told g c =
-    let ids = c.args.ids.now in let old = c.args.engine.now in let now = c.loop-id.engine in
-    let whole : take c.loop-id.id-index ids ≡ ids = take_all c.loop-id.id-index ids c.loop-id-test.false in
-    let fetched = rw (whole, c.in-None-missing.is) at c.loop-id.invariant.0 in
-    answers_rows (g.K.Keeper.kept old.keeper.now) old.held (g.K.Keeper.kept now.keeper.now) now.held c.args.model c.args.fields.now (Rose (g.K.Keeper.faults old.keeper.now)
-    (g.K.Keeper.faults now.keeper.now)) ids c.loop-id.objects.items _ (view-Array c.loop-id.objects) fetched
+pub returns-in-None-clause-told : goal.returns-in-None-clause-told
+returns-in-None-clause-told g c = λ tables rests.
+    let before = standpoint g.K.Keeper c.args.engine.now in
+    let told = rw c.in-None.is at c.in_ok-rows.ensures.told in
+    answers_rows (models_at before) tables c.args.model c.args.fields.now c.args.ids.now c.in_ok-rows.rows.objects.items (model_at (models_at before) c.args.model)
+    _ (view-Array c.in_ok-rows.rows.objects) (told tables rests)

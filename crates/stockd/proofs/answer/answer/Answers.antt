@@ -3,10 +3,12 @@ use Rattle.std.proofs.lemmas.Int.{to_z-of_z}
 use mir.Syntax.{w64}
 use mir.Val.{SFits}
 use Rattle.ob_base.specs.declared.refusal.Refusal.TheVariants as refusal
+use Rattle.ob_rpc.specs.Envelope.{envelope_of}
 use Rattle.ob_rpc.specs.Seen.{seen}
-use Rattle.serde_json.specs.Data.{null}
+use Rattle.ob_rpc.specs.declared.methods.Served.TheVariants.{EveryMethod}
 use Rattle.serde_json.specs.View.{view}
-use Rattle.stockd.proofs.AnswerLaws.{body_serves, fault_serves, given_as, given_moment, none_taken, one_taken, tells_by, tells_no_memory, tells_some}
+use Rattle.stockd.specs.Request.{request_of}
+use Rattle.stockd.proofs.AnswerLaws.{body_replies, body_serves, fault_replies, fault_serves, given_as, given_moment, none_taken, one_taken, replies_no_memory, tells_by}
 use Rattle.stockd.proofs.answer.answer.Goals as goal
 
 pub returns-in-Ok-clause-served : goal.returns-in-Ok-clause-served
@@ -35,11 +37,29 @@ returns-in-Err-At-clause-served g c = λ tables rests.
 pub returns-in-Err-NoMemory-clause-served : goal.returns-in-Err-NoMemory-clause-served
 returns-in-Err-NoMemory-clause-served g c = λ tables rests. inr (record { told = refl; rests = rests; coming = refl })
 
+pub returns-in-Ok-clause-causes : goal.returns-in-Ok-clause-causes
+returns-in-Ok-clause-causes g c =
+    let fits : SFits w64 c.now-now.result = search rules in
+    record {
+      now = _;
+      given = given_as _ _ _ (to_z-of_z _ _ fits) c.now-now.ensures.told;
+      replies = body_replies c.args.engine.now.held.models _ _ _ c.args.body.now _ (seen c.in-Ok.envelope) refl c.in-Ok.ensures.ok c.serve.ensures.causes;
+    }
+
 pub returns-in-Err-At-clause-causes : goal.returns-in-Err-At-clause-causes
 returns-in-Err-At-clause-causes g c =
     let models = c.args.engine.now.held.models in
-    let why = Err (refusal.Request c.in-Err-At.place) in
-    tells_some models _ (view c.in-Err-At.id) why _ tt (tells_by models c.schema.result.now _ why _ c.schema.ensures c.refused.ensures)
+    let moment = given_moment (g.C.Clock.coming c.args.clock.now) in
+    record {
+      now = moment.0;
+      given = moment.1;
+      replies = fault_replies models _ moment.0 c.args.body.now _ (record { place = c.in-Err-At.place; id = view c.in-Err-At.id })
+          (rw c.in-Err-At.field-0-is at c.in-Err-At.ensures.fault)
+          (tells_by models c.schema.result.now _ (Err (refusal.Request c.in-Err-At.place)) _ c.schema.ensures c.refused.ensures);
+    }
 
 pub returns-in-Err-NoMemory-clause-causes : goal.returns-in-Err-NoMemory-clause-causes
-returns-in-Err-NoMemory-clause-causes g c = tells_no_memory c.args.engine.now.held.models _ null
+returns-in-Err-NoMemory-clause-causes g c =
+    let models = c.args.engine.now.held.models in
+    let moment = given_moment (g.C.Clock.coming c.args.clock.now) in
+    record { now = moment.0; given = moment.1; replies = replies_no_memory models _ moment.0 (request_of models (envelope_of EveryMethod c.args.body.now)) }

@@ -1,12 +1,6 @@
-use Rattle.std.specs.Prelude.{⊤}
-use Rattle.ob_cache.proofs.CallerLemmas.{called-anyhow}
-use Rattle.ob_cache.specs.Calls.{IsCalled, models_at, standpoint}
-use Rattle.ob_call.specs.Called.{called_by, result_view}
-use Rattle.ob_orm.specs.Create.{CreateCause, Creates}
-use Rattle.ob_orm.specs.Unlink.{UnlinkCause, Unlinks}
-use Rattle.ob_orm.specs.Write.{WriteCause, Writes}
-use Rattle.ob_schema.specs.Models.{model_at}
-use Rattle.stockd.proofs.AnswerLaws.{known, known_model, makes_as, of_each}
+use Rattle.ob_cache.specs.Calls.{standpoint}
+use Rattle.ob_call.specs.Called.{result_view}
+use Rattle.stockd.proofs.AnswerLaws.{known, known_model, makes_as}
 use Rattle.stockd.specs.declared.request.WriteMethod.TheVariants as writing
 use Rattle.stockd.proofs.answer.make.Goals as goal
 
@@ -14,13 +8,9 @@ pub returns-in-Create-clause-call : goal.returns-in-Create-clause-call
 returns-in-Create-clause-call g c =
     let before = standpoint g.K.Keeper c.args.engine.now in
     let after = standpoint g.K.Keeper c.create.new.engine in
-    let models = models_at before in
     let call = c.args.call.now in
     let result = result_view c.create.result in
-    makes_as before after call c.args.method writing.Create c.in-Create.is result
-    (of_each (model_at models call.model) (λ info. IsCalled (Creates models (called_by call info)) before after (CreateCause models (called_by call info)) result)
-    (λ info. IsCalled (Creates models (called_by call info)) before after (λ _. ⊤) result)
-    (λ info. called-anyhow (Creates models (called_by call info)) before after (CreateCause models (called_by call info)) result) c.create.ensures.call)
+    makes_as before after call c.args.method writing.Create c.in-Create.is result c.create.ensures.call
 
 pub returns-in-Create-clause-models : goal.returns-in-Create-clause-models
 returns-in-Create-clause-models g c = let (info, is) = known_model _ c.requires.model in (known _ info _ is c.create.ensures.call).rests.models_are
@@ -41,13 +31,9 @@ pub returns-in-Write-clause-call : goal.returns-in-Write-clause-call
 returns-in-Write-clause-call g c =
     let before = standpoint g.K.Keeper c.args.engine.now in
     let after = standpoint g.K.Keeper c.write.new.engine in
-    let models = models_at before in
     let call = c.args.call.now in
     let result = result_view c.write.result in
-    makes_as before after call c.args.method writing.Write c.in-Write.is result
-    (of_each (model_at models call.model) (λ info. IsCalled (Writes models (called_by call info)) before after (WriteCause models (called_by call info)) result)
-    (λ info. IsCalled (Writes models (called_by call info)) before after (λ _. ⊤) result)
-    (λ info. called-anyhow (Writes models (called_by call info)) before after (WriteCause models (called_by call info)) result) c.write.ensures.call)
+    makes_as before after call c.args.method writing.Write c.in-Write.is result c.write.ensures.call
 
 pub returns-in-Write-clause-models : goal.returns-in-Write-clause-models
 returns-in-Write-clause-models g c = let (info, is) = known_model _ c.requires.model in (known _ info _ is c.write.ensures.call).rests.models_are
@@ -68,13 +54,9 @@ pub returns-in-Unlink-clause-call : goal.returns-in-Unlink-clause-call
 returns-in-Unlink-clause-call g c =
     let before = standpoint g.K.Keeper c.args.engine.now in
     let after = standpoint g.K.Keeper c.unlink.new.engine in
-    let models = models_at before in
     let call = c.args.call.now in
     let result = result_view c.unlink.result in
-    makes_as before after call c.args.method writing.Unlink c.in-Unlink.is result
-    (of_each (model_at models call.model) (λ info. IsCalled (Unlinks models (called_by call info)) before after (UnlinkCause models (called_by call info)) result)
-    (λ info. IsCalled (Unlinks models (called_by call info)) before after (λ _. ⊤) result)
-    (λ info. called-anyhow (Unlinks models (called_by call info)) before after (UnlinkCause models (called_by call info)) result) c.unlink.ensures.call)
+    makes_as before after call c.args.method writing.Unlink c.in-Unlink.is result c.unlink.ensures.call
 
 pub returns-in-Unlink-clause-models : goal.returns-in-Unlink-clause-models
 returns-in-Unlink-clause-models g c = let (info, is) = known_model _ c.requires.model in (known _ info _ is c.unlink.ensures.call).rests.models_are

@@ -1,28 +1,53 @@
-use Rattle.std.proofs.Common.{◌≡◌, Ok, Err, ap, sym}
+use Rattle.std.proofs.Common.{◌≡◌, codes, false, rules, sym, true}
 use Rattle.std.proofs.lemmas.Int.{to_z-of_z}
-use Rattle.serde_json.specs.View.{view, items_view}
-use Rattle.ob_base.specs.declared.refusal.Refusal.TheVariants as refusal
-use Rattle.ob_rpc.specs.Envelope.{element_place}
-use Rattle.stockd.specs.MethodCall.{call_view}
-use Rattle.stockd.specs.Request.{call_of, request_by}
-use Rattle.stockd.proofs.AnswerLaws.{element_serves, serves_same, tells_by, tells_some}
+use Rattle.std.specs.Prelude.{bytes_eq}
+use Rattle.serde_json.specs.View.{items_view, view}
+use Rattle.stockd.specs.Request.{is_login, login_of, telling_by, told_of, version_json}
+use Rattle.stockd.proofs.AnswerLaws.{asks_listed, asks_login, asks_spread, asks_version, plainly_serves, replies_same, serves_same}
 use Rattle.stockd.proofs.answer.serve.Goals as goal
 
-pub returns-in-Ok-clause-served : goal.returns-in-Ok-clause-served
-returns-in-Ok-clause-served g c =
+pub returns-then-eq-clause-served : goal.returns-then-eq-clause-served
+returns-then-eq-clause-served g c = λ tables rests.
     let models = c.args.engine.now.held.models in
-    let found : call_of models (items_view c.args.envelope.now.args) ≡ Ok (call_view c.in-Ok.call) = rw (← c.as_slice.ensures, ← c.schema.ensures) c.in-Ok.ensures.found in
-    serves_same _ _ _ _ _ _ _ (to_z-of_z _ _ c.ranges.now) (sym (ap (request_by (view c.args.envelope.now.id)) found)) c.serve_call.ensures.served
+    let id = view c.args.envelope.id in
+    let is : bytes_eq c.args.envelope.method (codes "version") ≡ true = search rules in
+    rw (asks_version models id c.args.envelope.method (items_view c.args.envelope.args) is)
+    (plainly_serves models tables _ _ (told_of id version_json) _ _ _ rests c.version_told.ensures)
 
-pub returns-in-Err-clause-served : goal.returns-in-Err-clause-served
-returns-in-Err-clause-served g c = λ tables rests.
+pub returns-then-is_login-clause-served : goal.returns-then-is_login-clause-served
+returns-then-is_login-clause-served g c = λ tables rests.
     let models = c.args.engine.now.held.models in
-    let found : call_of models (items_view c.args.envelope.now.args) ≡ Err c.in-Err.number = rw (← c.as_slice.ensures, ← c.schema.ensures) c.in-Err.ensures.found in
-    rw found (element_serves models tables _ _ _ c.in-Err.number _ _ _ rests
-    (tells_by models c.schema-in-Err.result.now _ (Err (refusal.Request (element_place c.in-Err.number))) _ c.schema-in-Err.ensures c.element_refused.ensures))
+    let id = view c.args.envelope.id in
+    let other : bytes_eq c.args.envelope.method (codes "version") ≡ false = search rules in
+    let is : is_login c.args.envelope.method ≡ true = search rules in
+    rw (asks_login models id c.args.envelope.method (items_view c.args.envelope.args) other is)
+    (plainly_serves models tables _ _ (telling_by id (login_of (items_view c.args.envelope.args))) _ _ _ rests (rw (c.schema.ensures, c.as_slice.ensures) at c.login_told.ensures))
 
-pub returns-in-Err-clause-causes : goal.returns-in-Err-clause-causes
-returns-in-Err-clause-causes g c =
+pub returns-then-eq-2-clause-served : goal.returns-then-eq-2-clause-served
+returns-then-eq-2-clause-served g c =
     let models = c.args.engine.now.held.models in
-    let why = Err (refusal.Request (element_place c.in-Err.number)) in
-    tells_some models _ (view c.args.envelope.now.id) why _ tt (tells_by models c.schema-in-Err.result.now _ why _ c.schema-in-Err.ensures c.element_refused.ensures)
+    let id = view c.args.envelope.id in
+    let other : bytes_eq c.args.envelope.method (codes "version") ≡ false = search rules in
+    let no_login : is_login c.args.envelope.method ≡ false = search rules in
+    let is : bytes_eq c.args.envelope.method (codes "execute") ≡ true = search rules in
+    serves_same _ _ _ _ _ _ _ (to_z-of_z _ _ c.ranges.now) (sym (asks_spread models id c.args.envelope.method (items_view c.args.envelope.args) other no_login is)) c.serve_spread.ensures.served
+
+pub returns-clause-served : goal.returns-clause-served
+returns-clause-served g c =
+    let models = c.args.engine.now.held.models in
+    let id = view c.args.envelope.id in
+    let other : bytes_eq c.args.envelope.method (codes "version") ≡ false = search rules in
+    let no_login : is_login c.args.envelope.method ≡ false = search rules in
+    let no_spread : bytes_eq c.args.envelope.method (codes "execute") ≡ false = search rules in
+    let served = rw c.as_slice-2.ensures at c.serve_elements.ensures.served in
+    serves_same _ _ _ _ _ _ _ (to_z-of_z _ _ c.ranges.now) (sym (asks_listed models id c.args.envelope.method (items_view c.args.envelope.args) other no_login no_spread)) served
+
+pub returns-clause-causes : goal.returns-clause-causes
+returns-clause-causes g c =
+    let models = c.args.engine.now.held.models in
+    let id = view c.args.envelope.id in
+    let other : bytes_eq c.args.envelope.method (codes "version") ≡ false = search rules in
+    let no_login : is_login c.args.envelope.method ≡ false = search rules in
+    let no_spread : bytes_eq c.args.envelope.method (codes "execute") ≡ false = search rules in
+    let causes = rw c.as_slice-2.ensures at c.serve_elements.ensures.causes in
+    replies_same _ _ _ _ _ _ _ (to_z-of_z _ _ c.ranges.now) (sym (asks_listed models id c.args.envelope.method (items_view c.args.envelope.args) other no_login no_spread)) causes

@@ -1,34 +1,35 @@
-use Rattle.std.proofs.Common.{Ok, Err, ◌∙◌}
+use Rattle.std.proofs.Common.{Err, ◌∙◌}
 use Rattle.serde_json.specs.View.{view}
 use Rattle.ob_cache.specs.Calls.{models_at, standpoint}
+use Rattle.stockd.specs.MethodCall.{handed_view}
 use Rattle.stockd.specs.Texts.{told}
-use Rattle.stockd.proofs.AnswerLaws.{known, known_model, reading_serves, refused_reading_serves, tells_by, tells_some, told_cause}
+use Rattle.stockd.specs.declared.request.Method.TheVariants as method
+use Rattle.stockd.proofs.AnswerLaws.{known, known_model, reading_serves, refused_reading_serves, replies_refusal, replies_result, tells_by}
 use Rattle.stockd.proofs.answer.serve_reading.Goals as goal
 
 pub returns-in-Ok-clause-served : goal.returns-in-Ok-clause-served
 returns-in-Ok-clause-served g c =
     let before = standpoint g.K.Keeper c.args.engine.now in
     let (info, is) = known_model _ c.requires.model in
-    reading_serves before (standpoint g.K.Keeper c.tell.new.engine) info c.args.call.now (view c.args.id.now) _ c.args.method is (view c.in-Ok.json) (known _ info _ is c.in-Ok.ensures.call) c.told.ensures
+    reading_serves before (standpoint g.K.Keeper c.tell.new.engine) info c.args.layout c.args.call.now (view c.args.id.now) _ c.args.method is (view c.in-Ok.json) (known _ info _ is c.in-Ok.ensures.call) c.told.ensures
 
 pub returns-in-Err-clause-served : goal.returns-in-Err-clause-served
 returns-in-Err-clause-served g c =
     let before = standpoint g.K.Keeper c.args.engine.now in
     let (info, is) = known_model _ c.requires.model in
     let asked = known _ info _ is c.in-Err.ensures.call in
-    refused_reading_serves before (standpoint g.K.Keeper c.tell.new.engine) info c.args.call.now (view c.args.id.now) _ c.args.method is c.in-Err.refusal asked
-    (tells_by (models_at before) c.schema.result.now (view c.args.id.now) (told (Err c.in-Err.refusal)) _ (c.schema.ensures ∙ asked.same.models) c.call_refused.ensures)
+    refused_reading_serves before (standpoint g.K.Keeper c.tell.new.engine) info c.args.layout c.args.call.now (view c.args.id.now) _ c.args.method is c.in-Err.refusal asked
+    (tells_by (models_at before) c.schema.result.now (view c.args.id.now) (told c.args.layout (Err c.in-Err.refusal)) _ (c.schema.ensures ∙ asked.same.models) c.call_refused.ensures)
 
 pub returns-in-Ok-clause-causes : goal.returns-in-Ok-clause-causes
 returns-in-Ok-clause-causes g c =
     let before = standpoint g.K.Keeper c.args.engine.now in
-    tells_some (models_at before) _ (view c.args.id.now) (Ok (view c.in-Ok.json)) _ tt c.told.ensures
+    replies_result (models_at before) _ c.args.call.now.now (view c.args.id.now) (handed_view c.args.layout (method.Reads c.args.method) c.args.call.now) (view c.in-Ok.json) _ c.told.ensures
 
 pub returns-in-Err-clause-causes : goal.returns-in-Err-clause-causes
 returns-in-Err-clause-causes g c =
     let before = standpoint g.K.Keeper c.args.engine.now in
     let (info, is) = known_model _ c.requires.model in
     let asked = known _ info _ is c.in-Err.ensures.call in
-    let why = told (Err c.in-Err.refusal) in
-    tells_some (models_at before) _ (view c.args.id.now) why _ (told_cause _ c.in-Err.refusal asked.causes)
-    (tells_by (models_at before) c.schema.result.now (view c.args.id.now) why _ (c.schema.ensures ∙ asked.same.models) c.call_refused.ensures)
+    replies_refusal (models_at before) _ c.args.call.now.now (view c.args.id.now) (handed_view c.args.layout (method.Reads c.args.method) c.args.call.now) info c.in-Err.refusal _ is asked.causes
+    (tells_by (models_at before) c.schema.result.now (view c.args.id.now) (told c.args.layout (Err c.in-Err.refusal)) _ (c.schema.ensures ∙ asked.same.models) c.call_refused.ensures)

@@ -20,10 +20,10 @@ returns-clause-found c =
     let found : option_and_then (model_named models) (as_str (view c.model-item.result)) ≡ Some c.in-Some.model = search rules in
     let named : method_of models c.in-Some.model (view c.method-item.result) ≡ Some c.in-Some-method_named.method =
     method_there models c.in-Some.model (view c.method-item.result) (Some c.in-Some-method_named.method) c.in-Some.ensures.there c.in-Some-method_named.ensures in
-    let made = call_found models (view c.db-item.result) (view c.user-item.result) (view c.key-item.result) (view c.model-item.result) (view c.method-item.result) (view c.args-item.result)
+    let made = call_found models c.args.layout (view c.db-item.result) (view c.user-item.result) (view c.key-item.result) (view c.model-item.result) (view c.method-item.result) (view c.args-item.result)
     (items_view (drop 6 c.args.elements.now)) is_db caller c.in-Some.model found c.in-Some-method_named.method named in
-    ap (λ (xs : List Value). call_of models (items_view xs)) whole ∙ made
-    ∙ ap (with_kw c.in-Some.model c.in-Some-method_named.method (view c.args-item.result)) (named_first (drop 6 c.args.elements.now) c.first.result (c.first.ensures.value ∙ ap
+    ap (λ (xs : List Value). call_of models c.args.layout (items_view xs)) whole ∙ made
+    ∙ ap (with_kw c.args.layout c.in-Some.model c.in-Some-method_named.method (view c.args-item.result)) (named_first (drop 6 c.args.elements.now) c.first.result (c.first.ensures.value ∙ ap
     (λ left. slice_get left 0) (rest_after_six c.args.elements.now)))
 
 pub returns-in_default-method_named-clause-found : goal.returns-in_default-method_named-clause-found
@@ -36,9 +36,9 @@ returns-in_default-method_named-clause-found c =
     let found : option_and_then (model_named models) (as_str (view c.model-item.result)) ≡ Some c.in-Some.model = search rules in
     let named : method_of models c.in-Some.model (view c.method-item.result) ≡ None =
     method_there models c.in-Some.model (view c.method-item.result) c.method_named.result c.in-Some.ensures.there c.method_named.ensures ∙ c.in_default-method_named.is in
-    ap (λ (xs : List Value). call_of models (items_view xs)) whole
-    ∙ no_method models (view c.db-item.result) (view c.user-item.result) (view c.key-item.result) (view c.model-item.result) (view c.method-item.result) (view c.args-item.result)
+    ap (λ (xs : List Value). call_of models c.args.layout (items_view xs)) whole
+    ∙ no_method models c.args.layout (view c.db-item.result) (view c.user-item.result) (view c.key-item.result) (view c.model-item.result) (view c.method-item.result) (view c.args-item.result)
     (items_view (drop 6 c.args.elements.now)) is_db caller c.in-Some.model found named
 
 pub returns-in_default-clause-found : goal.returns-in_default-clause-found
-returns-in_default-clause-found c = few_elements c.args.schema.now c.args.elements.now c.in_default.len_below
+returns-in_default-clause-found c = few_elements c.args.schema.now c.args.layout c.args.elements.now c.in_default.len_below

@@ -1,0 +1,36 @@
+use Rattle.std.proofs.Common.{List, Ok, Err, subst}
+use Rattle.std.proofs.lemmas.Result.{err_from_is_err_and}
+use Rattle.std.specs.Prelude.{All}
+use Rattle.ob_cache.specs.Calls.{standpoint}
+use Rattle.ob_schema.specs.declared.info.ModelInfo.{ModelInfo}
+use Rattle.ob_tables.specs.Fitting.{AreFitIn}
+use Rattle.ob_orm.specs.Create.{values_of}
+use Rattle.ob_orm.proofs.CreateAnswer.{GivesRows, outcome_answer, outcome_cause, rows_answer, rows_cause}
+use Rattle.ob_orm.proofs.creating.create_rows.Goals as goal
+
+pub returns-in_err-rows-clause-causes : goal.returns-in_err-rows-clause-causes
+returns-in_err-rows-clause-causes g c =
+    let p = err_from_is_err_and c.from_residual.result c.from_residual.ensures.1 in
+    let why = c.in_err-rows.field-0.0 in
+    let gives = subst (λ (ms : List ModelInfo). GivesRows ms c.args.call.now (Err why)) c.schema-schema.ensures c.in_err-rows.ensures.value in
+    rw (p.1, p.2) (rows_cause c.args.engine.now.held.models c.args.call.now _ why c.requires.model gives)
+
+pub returns-in_err-rows-clause-answer : goal.returns-in_err-rows-clause-answer
+returns-in_err-rows-clause-answer g c =
+    let p = err_from_is_err_and c.from_residual.result c.from_residual.ensures.1 in
+    let why = c.in_err-rows.field-0.0 in
+    let gives = subst (λ (ms : List ModelInfo). GivesRows ms c.args.call.now (Err why)) c.schema-schema.ensures c.in_err-rows.ensures.value in
+    rw (p.1, p.2) (rows_answer (standpoint g.K.Keeper c.args.engine.now) c.args.call.now why c.requires.model gives)
+
+pub make_rows-requires-clause-fit : goal.make_rows-requires-clause-fit
+make_rows-requires-clause-fit g c = subst (λ (ms : List ModelInfo). All (AreFitIn ms c.args.call.now.model) (values_of c.in_ok-rows.rows)) c.schema-schema.ensures c.in_ok-rows.ensures.fit
+
+pub returns-clause-answer : goal.returns-clause-answer
+returns-clause-answer g c =
+    let gives = subst (λ (ms : List ModelInfo). GivesRows ms c.args.call.now (Ok c.in_ok-rows.rows)) c.schema-schema.ensures c.in_ok-rows.ensures.value in
+    outcome_answer (standpoint g.K.Keeper c.args.engine.now) (standpoint g.K.Keeper c.make_rows.new.engine) c.args.call.now c.in_ok-rows.rows gives c.make_rows.result c.make_rows.ensures.rests c.make_rows.ensures.settled c.make_rows.ensures.refused
+
+pub returns-clause-causes : goal.returns-clause-causes
+returns-clause-causes g c =
+    let gives = subst (λ (ms : List ModelInfo). GivesRows ms c.args.call.now (Ok c.in_ok-rows.rows)) c.schema-schema.ensures c.in_ok-rows.ensures.value in
+    outcome_cause (standpoint g.K.Keeper c.args.engine.now) (standpoint g.K.Keeper c.make_rows.new.engine) c.args.call.now c.in_ok-rows.rows gives _ c.make_rows.result c.make_rows.ensures.causes
