@@ -9,12 +9,13 @@ top=$(cd "$(dirname "$0")/.." && pwd)
 
 # The size of what is asked, and how often (of codec the rows and the values, of http the small
 # requests and the bodies, of store the creates and the rows of a file that is opened, of search the
-# rows and the searches).
+# rows and the searches, of serve the requests and the runs).
 table='
 name         program       size     times
 call         stockd        500      1
 store        stockd        500      100000
 search       stockd        100000   20
+serve        stockd        50000    5
 codec        probe_values  5000000  1000000
 expr         probe_values  1        2000
 schema       probe_models  256      6
@@ -117,6 +118,46 @@ bench_search() {
         awk -v what="$call" -v n="$size" -v m="$times" -v o="$opened" -v s="$(seconds "$work/searches" --store "$work/many")" -v p="$(python3 "$top/bench/rows.py" ask "$size" "$call" "$times")" 'BEGIN {
             printf "%s: %.1f ms of %d rows; SQLite %.1f ms; ratio %.1f\n", what, (s - o) / m * 1000, n, p * 1000, (s - o) / m / p }'
     done
+}
+
+# A message over HTTP with this body.
+post() { printf 'POST /jsonrpc HTTP/1.1\r\nHost: 127.0.0.1:8069\r\nContent-Type: application/json\r\nContent-Length: %d\r\n\r\n%s' "${#1}" "$1"; }
+
+# The body of a call of a line: line METHOD ARGUMENTS.
+line() { echo "{\"jsonrpc\":\"2.0\",\"method\":\"call\",\"params\":{\"service\":\"object\",\"method\":\"execute_kw\",\"args\":[\"stock\",2,\"admin\",\"demo.line\",\"$1\",$2]},\"id\":1}"; }
+
+free_port() { python3 -c 'import socket; it = socket.socket(); it.bind(("127.0.0.1", 0)); print(it.getsockname()[1])'; }
+
+# Starts a server, whose processor seconds are noted when it ends: start NOTE WORD..
+start() {
+    local TIMEFORMAT='%U %S'
+    { time "${@:2}" >/dev/null; } 2>>"$1" &
+}
+
+# Reads of one row on one connection, and as many messages of that length that a server in C answers
+# with as many bytes, by the same client, by turns.
+bench_serve() {
+    local turn port
+    cc -O2 -o "$work/wire" "$top/bench/wire.c"
+    post "$(line create '[{"name":"bolt","qty":3,"price":25}]')" >"$work/create"
+    post "$(line read '[[1],["name","qty","price","subtotal"]]')" >"$work/read"
+    for ((turn = 0; turn < times; turn++)); do
+        port=$(free_port)
+        start "$work/cost_served" "$program" serve --modules "$top/modules" --load demo --listen "127.0.0.1:$port" --connections 2
+        "$work/wire" ask "$port" "$work/create" 0 "$work/created" >/dev/null
+        "$work/wire" ask "$port" "$work/read" "$size" "$work/reply" >>"$work/served"
+        wait
+        port=$(free_port)
+        start "$work/cost_echoed" "$work/wire" echo "$port" "$(wc -c <"$work/read")" "$work/reply" $((2 * size))
+        "$work/wire" ask "$port" "$work/read" "$size" "$work/echo" >>"$work/echoed"
+        wait
+    done
+    for turn in served echoed; do
+        sort -n "$work/$turn" | awk -v n="$size" -v what="$turn" -v cost="$(awk '{ print $1 + $2 }' "$work/cost_$turn" | sort -n | head -n 1)" 'NR == 1 {
+            printf "%s: %.0f requests a second, %.1f microseconds of a processor each\n", what, n / $1, cost / (1.1 * n) * 1e6 }'
+    done
+    awk -v s="$(sort -n "$work/served" | head -n 1)" -v e="$(sort -n "$work/echoed" | head -n 1)" 'BEGIN { printf "ratio of the requests a second: %.0f %%\n", e / s * 100 }'
+    paste "$work/served" "$work/echoed" | awk '{ printf "%s%.0f %%", (NR > 1 ? ", " : "run by run: "), $2 / $1 * 100 } END { print "" }'
 }
 
 bench_codec() {

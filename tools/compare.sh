@@ -5,6 +5,11 @@
 #       each (by default 1-8 and 60), on the models of a module demo: the machine's own, without
 #       relations (`mixed`, `hostile`), and modules/demo.toml (`orm`); tools/compare_requests.py
 #       says which requests are taken. Prints how many streams differ, for each kind of stream.
+#   tools/compare.sh http [SEEDS [CONNECTIONS]]   random connections to `stockd serve`, so many of
+#       each seed (by default 1-20 and 30): heads with something wrong in them, messages behind one
+#       another, ends and changed bytes at any place, in pieces of any length, each with a request
+#       that both answer alike; tools/compare_connections.py says which. Prints the first connection
+#       of a seed that differs, and how many seeds do.
 #   tools/compare.sh modules [SEEDS]            random module texts to stockd (by default 1-200),
 #       most with something wrong in them. Prints each text that differs, how often each fault
 #       came, and how many texts differ. Two differences are known: a model without `name` and
@@ -48,6 +53,11 @@ requests)
     done
     exit $status
     ;;
+http)
+    needs compare_http.py
+    program=$(tools/build.sh proved stockd) || exit 1
+    exec python3 tools/compare_connections.py "$oracle" "$program" "${1:-1-20}" "${2:-30}"
+    ;;
 modules)
     needs fuzz_modules.py
     program=$(tools/build.sh proved stockd) || exit 1
@@ -58,7 +68,7 @@ probe)
     exec python3 tools/probe/ask.py "$oracle" "${1:-1}" "${2:-600}" ${3:+"$3"}
     ;;
 *)
-    echo 'usage: tools/compare.sh requests|modules|probe ..; its head says more' >&2
+    echo 'usage: tools/compare.sh requests|http|modules|probe ..; its head says more' >&2
     exit 2
     ;;
 esac

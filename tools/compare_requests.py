@@ -5,12 +5,14 @@
 SEEDS is A-B or one number, and each seed gives a stream. PROFILE says of which state of the
 machine it is. `mixed` and `hostile` are of the one that knows the one caller and serves the models
 without relations and conditions alone, so requests on other models are left out, and each create of
-a list; its rows are kept in a file, of which rows, links and next ids are compared too. `orm` is of a
+a list; the rows that are kept aren't compared: that state
+knows no models of stock, by which the program's have other numbers. `orm` is of a
 later state, which serves all models, and much that the program doesn't yet: of it are taken `read`
 and `fields_get` of named fields, `search`, `search_count` and `search_read` that don't ask of moments
-(of which the machine has one alone), `create` of objects of plain values, `write` of such values and
-`unlink`, as calls of the one caller, on models without parents. Prints what differs and how many
-streams do; the status is 1 where one does.
+(of which the machine has one alone), `create` of objects of plain values, `write` of such values but to rows
+of parents, and `unlink`, as calls of the one caller. Where libfaketime is installed both have
+one clock, so that moments and the bytes of kept rows are compared; else moments are left out. Prints what
+differs and how many streams do; the status is 1 where one does.
 """
 import json
 import os
@@ -19,10 +21,10 @@ import sys
 import tempfile
 
 RELATED = {"demo.client", "demo.note", "demo.order", "demo.place", "demo.ship", "res.groups", "res.users"}
-# Models with parents, or with rows that the machine makes by itself.
-BEYOND = {"demo.client", "res.groups", "res.users"}
-# Fields that calls don't give (the machine names another refusal), or that come with users.
-SERVERS = {"id", "create_date", "write_date", "subtotal", "parent_path"}
+# Models with rows that the machine makes by itself.
+BEYOND = {"res.groups", "res.users"}
+# Fields that calls don't give (the machine names another refusal), or that name users.
+SERVERS = {"id", "create_date", "write_date", "subtotal", "total", "parent_path", "owner_id"}
 USERS = {"create_uid", "write_uid"}
 MOMENTS = {"create_date", "write_date"}
 
@@ -70,6 +72,8 @@ def is_served(model, elements):
         return False
     if method in ("read", "search_read"):
         return bool(argument(elements, 1, "fields")) and isinstance(argument(elements, 1, "fields"), list)
+    if method == "write" and model == "demo.client":
+        return False
     return method in ("create", "write") and not any(f'"{name}"' in text for name in SERVERS)
 
 
@@ -95,7 +99,7 @@ def differs(oracle, program, seed, stage, words, take, more):
     with tempfile.NamedTemporaryFile() as stream:
         stream.writelines(kept)
         stream.flush()
-        comparing = [sys.executable, f"{oracle}/compare.py", "--stage", stage, "--mask", "--stream", stream.name, *more, "--", program]
+        comparing = [sys.executable, f"{oracle}/compare.py", "--stage", stage, "--stream", stream.name, *more, "--", program]
         ran = subprocess.run(comparing, stdout=subprocess.PIPE, stderr=subprocess.DEVNULL)
     if ran.returncode:
         print(f"seed {seed} of stage {stage}", flush=True)
@@ -103,15 +107,24 @@ def differs(oracle, program, seed, stage, words, take, more):
     return ran.returncode != 0, len(kept)
 
 
+def without_access(text):
+    """A module's text without its access lines and rules, of which that state knows nothing."""
+    tables = ("\n" + text).split("\n[[")
+    return "\n[[".join(table for table in tables if not table.startswith(("access]]", "rule]]"))).lstrip("\n") + "\n"
+
+
 def main():
     oracle, program, seeds, count, profile = sys.argv[1:]
     first, _, last = seeds.partition("-")
+    folder = tempfile.TemporaryDirectory()
     if profile == "orm":
         # Of seven requests about two are taken.
         stage, count, take = "5", str(7 * int(count) // 2), of_one_caller
-        more = ["--dir", os.path.join(os.getcwd(), "modules"), "--load", "demo"]
+        with open(f"{folder.name}/demo.toml", "w") as text:
+            text.write(without_access(open("modules/demo.toml").read()))
+        more = ["--dir", folder.name, "--load", "demo"]
     else:
-        stage, take, more = "3", unrelated, ["--store"]
+        stage, take, more = "3", unrelated, []
     words = ["--count", count, "--profile", profile]
     results = [differs(oracle, program, seed, stage, words, take, more) for seed in range(int(first), int(last or first) + 1)]
     wrong = sum(it for it, _ in results)

@@ -1,62 +1,107 @@
 #!/usr/bin/env python3
 """What the proved program answers over connections, as a process:
 
-    tools/connections.py [PROGRAM]
+    tools/connections.py [PROGRAM]         the cases of the gate, in under a minute
+    tools/connections.py PROGRAM long      those that take minutes: peers that drip, 10,000 connections one
+                                           after another and 100,000 requests on one, with the process's memory
 
-Serves on a port of loopback that is free, sends bytes in pieces of several lengths, and compares what
-comes back with what is stated: each status of a head, messages that follow one another, the interim
-line, connections that end inside a message, how many connections are served, and a port that is taken.
-The replies to bodies are compared with those of `call` on the same bodies. Prints each case that
-differs; the status is 1 where one does. PROGRAM is by default the proved one.
+Serves on a port of loopback that is free. What is sent and must come back by one connection stands in
+messages.py; here are the peers that cut, go away, stall and drip, how serving ends, and a port that is
+taken. Prints each case that differs; the status is 1 where one does. PROGRAM is by default the proved one.
 """
+import concurrent.futures
 import os
+import random
+import re
 import socket
+import struct
 import subprocess
 import sys
 import time
 
+import messages as m
+
 TOP = os.path.dirname(os.path.dirname(os.path.abspath(__file__)))
-INTERIM = b"HTTP/1.1 100 Continue\r\n\r\n"
-PHRASES = {400: "Bad Request", 404: "Not Found", 405: "Method Not Allowed", 411: "Length Required", 413: "Payload Too Large",
-           431: "Request Header Fields Too Large", 505: "HTTP Version Not Supported"}
-CREATE = (b'{"jsonrpc":"2.0","method":"call","params":{"service":"object","method":"execute_kw","args":'
-          b'["stock",2,"admin","demo.line","create",[{"name":"bolt","qty":3,"price":25}]]},"id":1}')
-READ = (b'{"jsonrpc":"2.0","method":"call","params":{"service":"object","method":"execute_kw","args":'
-        b'["stock",2,"admin","demo.line","read",[[1],["name","subtotal"]]]},"id":2}')
-WRONG = b"[1"
+# How many seconds a read or a write may wait, with the one behind it at the close, and room for other work beside.
+PATIENCE, CLOSING, ROOM = 5, 1, 6
+# A count that grows by less isn't told from the allocator's own.
+MEMORY_ROOM = 256
 
 
-def message(body, first="POST /jsonrpc HTTP/1.1", fields=(), end="\r\n"):
-    """A message with this body."""
-    lines = [first, "Host: x", *fields, f"Content-Length: {len(body)}"]
-    return (end.join(lines) + end * 2).encode() + body
+class Cases:
+    """The program, and how many cases differed."""
+
+    def __init__(self, program):
+        self.program, self.bad, self.count = program, 0, 0
+
+    def differ(self, name, found, wanted):
+        """Tells a case whose answer is another than the one that is wanted."""
+        self.count += 1
+        if found != wanted:
+            self.bad += 1
+            print(f"{name}:\n  found  {found!r:.600}\n  wanted {wanted!r:.600}", flush=True)
+
+    def words(self, action, *more):
+        return [self.program, action, "--modules", f"{TOP}/modules", "--load", "demo", *more]
+
+    def served(self, name, connections):
+        """A server of so many connections over a new store."""
+        return Server(self, name, connections)
 
 
-def reply(body, keep=True):
-    """The reply of this body."""
-    close = "" if keep else "Connection: close\r\n"
-    return f"HTTP/1.1 200 OK\r\nContent-Type: application/json\r\nContent-Length: {len(body)}\r\n{close}\r\n".encode() + body
+class Server:
+    """A server that must end by itself with status 0, behind its last connection."""
 
+    def __init__(self, cases, name, connections):
+        self.cases, self.name, self.port = cases, name, free_port()
+        self.words = cases.words("serve", f"--listen=127.0.0.1:{self.port}", "--connections", str(connections))
 
-def fault(status):
-    """The reply of this status."""
-    allow = "Allow: POST\r\n" if status == 405 else ""
-    return f"HTTP/1.1 {status} {PHRASES[status]}\r\nContent-Type: application/json\r\nContent-Length: 0\r\n{allow}Connection: close\r\n\r\n".encode()
+    def __enter__(self):
+        self.process = subprocess.Popen(self.words, stdout=subprocess.PIPE)
+        return self
 
+    def __exit__(self, kind, *_):
+        try:
+            if kind is None:
+                out = self.process.communicate(timeout=30)[0]
+                self.cases.differ(f"{self.name}, at its end", (out, self.process.returncode), (b"", 0))
+        finally:
+            self.process.kill()
+            self.process.wait()
+            self.process.stdout.close()
 
-def head(*lines):
-    """A head of these lines, without a body."""
-    return "\r\n".join([*lines, "", ""]).encode()
+    def connected(self, room=None):
+        """A new connection; with a room for so many bytes that come back."""
+        for _ in range(400):
+            peer = socket.socket()
+            if room:
+                peer.setsockopt(socket.SOL_SOCKET, socket.SO_RCVBUF, room)
+            peer.setsockopt(socket.IPPROTO_TCP, socket.TCP_NODELAY, 1)
+            peer.settimeout(60)
+            try:
+                peer.connect(("127.0.0.1", self.port))
+                return peer
+            except OSError:
+                peer.close()
+                time.sleep(0.02)
+        sys.exit("the server doesn't listen")
 
+    def exchanged(self, *pieces, pause=0):
+        """Sends these pieces, with a pause between, and gives what came back."""
+        with self.connected() as peer:
+            try:
+                for number, piece in enumerate(pieces):
+                    time.sleep(pause if number else 0)
+                    peer.sendall(piece)
+                peer.shutdown(socket.SHUT_WR)
+            except OSError:
+                pass
+            return read_out(peer)
 
-def answered(program, bodies):
-    """The replies of `call` to these bodies, on a new store."""
-    ran = subprocess.run(words(program, "call"), input=b"".join(body + b"\n" for body in bodies), stdout=subprocess.PIPE, timeout=60)
-    return ran.stdout.splitlines()
-
-
-def words(program, action, *more):
-    return [program, action, "--modules", f"{TOP}/modules", "--load", "demo", *more]
+    def memory(self):
+        """The kilobytes of the process that are in memory."""
+        with open(f"/proc/{self.process.pid}/status") as it:
+            return int(re.search(r"VmRSS:\s*(\d+)", it.read())[1])
 
 
 def free_port():
@@ -65,126 +110,252 @@ def free_port():
         return listener.getsockname()[1]
 
 
-def connected(port):
-    for _ in range(200):
-        try:
-            return socket.create_connection(("127.0.0.1", port), 10)
-        except OSError:
-            time.sleep(0.05)
-    sys.exit("the server doesn't listen")
-
-
-def exchanged(port, sent, size):
-    """Sends these bytes in pieces of a size, and gives what came back."""
+def read_out(peer):
+    """What comes back until the other side ends."""
     got = b""
-    with connected(port) as peer:
-        peer.setsockopt(socket.IPPROTO_TCP, socket.TCP_NODELAY, 1)
-        try:
-            for at in range(0, len(sent), size):
-                peer.sendall(sent[at:at + size])
-            peer.shutdown(socket.SHUT_WR)
-        except OSError:
-            pass
-        try:
-            while piece := peer.recv(65536):
-                got += piece
-        except OSError:
-            pass
+    try:
+        while piece := peer.recv(1 << 20):
+            got += piece
+    except OSError:
+        pass
     return got
 
 
-def cases(program):
-    """Each case by its name: what is sent, and what must come back. Each is served over a new store."""
-    created, read, wrong = answered(program, [CREATE, READ, WRONG])
-    empty = answered(program, [READ])[0]
-    good = message(CREATE)
-    expects = message(CREATE, fields=["Expect: 100-continue"])
-    padded = CREATE + b" " * (8_388_608 - len(CREATE))
-    yield "one message", good, reply(created)
-    yield "lines that end with a line feed alone", message(CREATE, end="\n"), reply(created)
-    yield "three messages", good + message(READ) + message(WRONG), reply(created) + reply(read) + reply(wrong)
-    yield "empty lines between messages", b"\r\n\n" + good + b"\r\n" + message(READ) + b"\r\n", reply(created) + reply(read)
-    yield "a connection that isn't kept", message(CREATE, fields=["Connection: x, Close"]) + message(READ), reply(created, False)
-    yield "a message of HTTP/1.0", message(CREATE, "POST /jsonrpc HTTP/1.0") + message(READ), reply(created, False)
-    yield "a query", message(READ, "POST /jsonrpc?db=stock HTTP/1.1"), reply(empty)
-    yield "the interim line", expects + message(READ), INTERIM + reply(created) + reply(read)
-    yield "the interim line, and no body", expects[:-1], INTERIM
-    yield "an end inside a body", good + message(READ)[:-1], reply(created)
-    yield "an end inside a head", good + b"POST /jsonrpc HTTP/1.1\r\nHost", reply(created)
-    yield "no bytes", b"", b""
-    yield "a body of the greatest length", message(padded), reply(created)
-    yield "a body that is longer", good + head("POST /jsonrpc HTTP/1.1", "Content-Length: 8388609"), reply(created) + fault(413)
-    yield "no length", head("POST /jsonrpc HTTP/1.1"), fault(411)
-    yield "chunks", head("POST /jsonrpc HTTP/1.1", "Content-Length: 1", "Transfer-Encoding: chunked"), fault(411)
-    yield "two lengths", head("POST /jsonrpc HTTP/1.1", "Content-Length: 1", "Content-Length: 2"), fault(400)
-    yield "another method", head("GET /jsonrpc HTTP/1.1"), fault(405)
-    yield "another target", head("POST /web HTTP/1.1", "Content-Length: 0"), fault(404)
-    yield "another version", head("POST /jsonrpc HTTP/2.0"), fault(505)
-    yield "no head", head("POST"), fault(400)
-    yield "a head without its end", b"POST /jsonrpc HTTP/1.1\r\nX: " + b"y" * 16_384, fault(431)
-    yield "too many fields", head("POST /jsonrpc HTTP/1.1", *["X: y"] * 65), fault(431)
+def read_bytes(peer, count):
+    """So many bytes, or those that came before the other side ended."""
+    got = b""
+    while len(got) < count and (piece := peer.recv(count - len(got))):
+        got += piece
+    return got
 
 
-def served(program, sent, size):
-    """What comes back of one connection, and the status."""
-    port = free_port()
-    server = subprocess.Popen(words(program, "serve", f"--listen=127.0.0.1:{port}", "--connections", "1"), stdout=subprocess.PIPE)
-    try:
-        got = exchanged(port, sent, size)
-        return got, server.communicate(timeout=30)[0], server.returncode
-    finally:
-        server.kill()
-        server.wait()
+def go_away(peer, at_once):
+    """Closes a connection; at once means that what wasn't read or sent is lost, and the other side is told so."""
+    if at_once:
+        peer.setsockopt(socket.SOL_SOCKET, socket.SO_LINGER, struct.pack("ii", 1, 0))
+    peer.close()
 
 
-def differs(name, found, wanted):
-    if found == wanted:
-        return 0
-    print(f"{name}:\n  found  {found!r:.600}\n  wanted {wanted!r:.600}", flush=True)
-    return 1
+def one_connection(cases):
+    """Each case by itself, over a new store, in pieces of several lengths."""
+    for name, sent, wanted in [*m.of_login(), *m.of_one_connection()]:
+        for size in (1 << 24,) if len(sent) > 65536 else (1, 7, 65536):
+            name_here = f"{name}, in pieces of {size}"
+            with cases.served(name_here, 1) as server:
+                pieces = [sent[at:at + size] for at in range(0, len(sent), size)]
+                cases.differ(name_here, server.exchanged(*pieces), wanted)
 
 
-def bad_words(program):
-    """How many words are taken that mustn't be."""
-    bad = 0
-    for given in ("--listen=0.0.0.0:1", "--listen=127.0.0.1:", "--listen=127.0.0.1:65536", "--listen=127.0.0.1:000001", "--listen=127.0.0.1:+1",
-                  "--connections=0", "--connections=4294967296", "--connections=00000000001", "--connections=", "serve", "--listen"):
-        ran = subprocess.run(words(program, "serve", given), stdout=subprocess.PIPE, timeout=60)
-        bad += differs(f"the word {given}", (ran.stdout, ran.returncode), (b"usage: stockd call|serve|audit|gen [options]\n", 2))
-    return bad
+def cut(cases):
+    """The worked request, cut into two at every place, and ended at every place, by itself and behind another."""
+    plain, expects = m.worked(), m.worked(further=["Expect: 100-continue"])
+    answer = m.reply(m.LOGGED_IN)
+    streams = [("a login", b"", plain, b"", b""), ("a second login", plain, plain, answer, b""), ("one that expects", b"", expects, b"", m.INTERIM)]
+    count = sum(2 * len(sent) + 1 for _, _, sent, _, _ in streams)
+    with cases.served("requests that are cut", count) as server:
+        for name, before, sent, replied, interim in streams:
+            body_at = sent.index(b"\r\n\r\n") + 4
+            for at in range(len(sent) + 1):
+                behind = answer if at == len(sent) else b""
+                wanted = replied + (interim if at >= body_at else b"") + behind
+                cases.differ(f"{name} that ends behind {at} bytes", server.exchanged(before + sent[:at]), wanted)
+            for at in range(len(sent)):
+                found = server.exchanged(before + sent[:at], sent[at:], pause=0.001)
+                cases.differ(f"{name} in two pieces, of which the first has {at} bytes", found, replied + interim + answer)
 
 
-def in_turn(program):
-    """Two connections over one store, and a third that comes too late; then a port that is taken."""
-    port = free_port()
-    first = words(program, "serve", "--connections=2", "--listen", f"127.0.0.1:{port}")
-    server = subprocess.Popen(first, stdout=subprocess.PIPE)
-    bad = 0
-    try:
-        created, read = answered(program, [CREATE, READ])
-        bad += differs("the first of two connections", exchanged(port, message(CREATE), 100), reply(created))
-        taken = subprocess.run(first, stdout=subprocess.PIPE, timeout=60)
-        bad += differs("a port that is taken", (taken.stdout, taken.returncode), (b"read fault\n", 4))
-        bad += differs("the second of two connections", exchanged(port, message(READ), 100), reply(read))
-        bad += differs("as many connections as may be", (server.communicate(timeout=30)[0], server.returncode), (b"", 0))
-        return bad
-    finally:
-        server.kill()
-        server.wait()
+def go_away_asking(cases):
+    """A peer that goes away at each byte of a request: nothing is made of it, but of a whole one."""
+    create = m.message(m.CREATE)
+    with cases.served("peers that go away within a request", 2 * len(create) + 2) as server:
+        for at_once in (False, True):
+            for at in range(len(create)):
+                peer = server.connected()
+                peer.sendall(create[:at])
+                go_away(peer, at_once)
+        peer = server.connected()
+        peer.sendall(create)
+        go_away(peer, False)
+        count = m.message(m.asked(2, "search", "[]"))
+        cases.differ("the rows behind peers that went away", server.exchanged(count), m.reply(m.told(2, "[1]")))
+
+
+def go_away_reading(cases):
+    """A peer that goes away at each byte of a reply, with nothing behind its request and with many more."""
+    read, wanted = m.message(m.READ), m.reply(m.IS_READ)
+    ways = [(read, False), (read, True), (read * 60, False), (read * 60, True)]
+    with cases.served("peers that go away within a reply", len(ways) * (len(wanted) + 1) + 2) as server:
+        cases.differ("a create before them", server.exchanged(m.message(m.CREATE)), m.reply(m.CREATED))
+        for sent, at_once in ways:
+            for at in range(len(wanted) + 1):
+                peer = server.connected()
+                peer.sendall(sent)
+                cases.differ(f"the first {at} bytes of a reply", read_bytes(peer, at), wanted[:at])
+                go_away(peer, at_once)
+        cases.differ("a read behind them", server.exchanged(read), wanted)
+
+
+def go_away_creating(cases):
+    """A peer that goes away within the replies of 50 messages: what was acknowledged is there, and maybe more."""
+    turns, count, rng, rows = 6, 50, random.Random(11), 0
+    with cases.served("peers that go away within many replies", 2 * turns) as server:
+        for turn in range(turns):
+            replies = [m.reply(m.told(number, rows + number)) for number in range(1, count + 1)]
+            at = rng.randrange(sum(map(len, replies)))
+            peer = server.connected()
+            peer.sendall(b"".join(m.message(m.asked(number, "create", "{}")) for number in range(1, count + 1)))
+            cases.differ(f"the first {at} bytes of many replies", read_bytes(peer, at), b"".join(replies)[:at])
+            go_away(peer, turn % 2)
+            acknowledged = sum(sum(map(len, replies[:number + 1])) <= at for number in range(count))
+            found = server.exchanged(m.message(m.asked(7, "search_count", "[]")))
+            may_be = {m.reply(m.told(7, rows + more)): rows + more for more in range(acknowledged, count + 1)}
+            cases.differ(f"rows behind {at} bytes of many replies", found if found not in may_be else "some", "some")
+            rows = may_be.get(found, rows)
+
+
+def stalled(cases, name, sent, wanted, room=None):
+    """A peer that sends this and waits, while ten others do: it is ended, and they are answered in turn."""
+    with cases.served(name, 11) as server:
+        peer = server.connected(room)
+        try:
+            peer.sendall(sent)
+        except OSError:
+            pass
+        began = time.monotonic()
+        others = [server.connected() for _ in range(10)]
+        for other in others:
+            other.sendall(m.worked())
+            other.shutdown(socket.SHUT_WR)
+        for number, other in enumerate(others):
+            cases.differ(f"{name}, the {number + 1}. of ten others", read_out(other), m.reply(m.LOGGED_IN))
+            other.close()
+        took = time.monotonic() - began
+        # One that doesn't read stalls only once the host holds as many bytes as it may.
+        most = PATIENCE + CLOSING + ROOM if room is None else 60
+        cases.differ(f"{name}, the seconds until all others were answered", PATIENCE - 0.5 < took < most or took, True)
+        found = read_out(peer)
+        cases.differ(f"{name}, what it was answered", found if room is None else wanted.startswith(found), wanted if room is None else True)
+        peer.close()
+
+
+def stalls():
+    """The peers that stall: what each sends, and what it is answered."""
+    login, answer = m.worked(), m.reply(m.LOGGED_IN)
+    long_name = "n" * 8000
+    create = m.message(m.asked(1, "create", f'{{"name":"{long_name}"}}'))
+    read = m.message(m.asked(2, "read", "[1]", '["name"]'))
+    many = m.reply(m.told(1, 1)) + m.reply(m.told(2, f'[{{"id":1,"name":"{long_name}"}}]')) * 2000
+    yield "a peer that sends nothing", b"", b""
+    yield "a peer that stalls within a head", login[:30], b""
+    yield "a peer that stalls within a body", login[:-1], b""
+    yield "a peer that stalls behind a reply", login, answer
+    yield "a peer that stalls within its second message", login + login[:50], answer
+    yield "a peer that doesn't read its replies", create + read * 2000, many, 4096
+
+
+def many_at_once(cases):
+    """200 messages that follow one another without a wait, in pieces of several lengths."""
+    sent, wanted = m.pipelined(200)
+    for size in (13, 1400, 1 << 20):
+        whole = b"".join(sent)
+        with cases.served(f"200 messages in pieces of {size}", 1) as server:
+            pieces = [whole[at:at + size] for at in range(0, len(whole), size)]
+            cases.differ(f"200 messages in pieces of {size}", server.exchanged(*pieces), b"".join(wanted))
+
+
+def words(cases):
+    """What words make the program write, and its status."""
+    for given, out, status in m.WORDS:
+        ran = subprocess.run([cases.program, *given], stdin=subprocess.DEVNULL, stdout=subprocess.PIPE, timeout=60)
+        cases.differ(f"the words {given}", (ran.stdout, ran.returncode), (out, status))
+
+
+def in_turn(cases):
+    """Two connections over one store, and no third; meanwhile the port is taken."""
+    with cases.served("two connections", 2) as server:
+        cases.differ("the first of two connections", server.exchanged(m.message(m.CREATE)), m.reply(m.CREATED))
+        taken = subprocess.run(server.words, stdout=subprocess.PIPE, timeout=60)
+        cases.differ("a port that is taken", (taken.stdout, taken.returncode), (b"read fault\n", 4))
+        cases.differ("the second of two connections", server.exchanged(m.message(m.READ)), m.reply(m.IS_READ))
+
+
+def dripping(cases, rate, wanted):
+    """A peer that sends its message at so many bytes a second, for up to 45 seconds, and one behind it."""
+    name = f"a peer that sends {rate} bytes a second"
+    sent = m.worked(length=["Content-Length: 620"], body=m.LOGIN + b" " * 500)
+    with cases.served(name, 2) as server:
+        with server.connected() as peer:
+            try:
+                for at in range(0, min(len(sent), 45 * rate), rate):
+                    peer.sendall(sent[at:at + rate])
+                    time.sleep(1)
+                peer.shutdown(socket.SHUT_WR)
+            except OSError:
+                pass
+            cases.differ(f"{name}, what it was answered", read_out(peer), wanted)
+        cases.differ(f"{name}, the one behind it", server.exchanged(m.worked()), m.reply(m.LOGGED_IN))
+
+
+def one_after_another(cases, count):
+    """So many connections one after another; its memory is looked at behind a tenth of them and behind nearly all."""
+    before = same = 0
+    with cases.served(f"{count} connections", count) as server:
+        for number in range(count):
+            before = server.memory() if number == count // 10 else before
+            if number == count - 1:
+                told_memory(cases, f"{count} connections", before, server.memory())
+            same += server.exchanged(m.worked()) == m.reply(m.LOGGED_IN)
+    cases.differ(f"answers on {count} connections", same, count)
+
+
+def on_one_connection(cases, count):
+    """So many requests on one connection, each behind the last one's reply."""
+    sent, wanted, before, same = m.message(m.READ), m.reply(m.IS_READ), 0, 0
+    with cases.served(f"{count} requests", 2) as server:
+        cases.differ("a create before them", server.exchanged(m.message(m.CREATE)), m.reply(m.CREATED))
+        with server.connected() as peer:
+            for number in range(count):
+                before = server.memory() if number == count // 10 else before
+                peer.sendall(sent)
+                same += read_bytes(peer, len(wanted)) == wanted
+            told_memory(cases, f"{count} requests", before, server.memory())
+    cases.differ(f"answers to {count} requests on one connection", same, count)
+
+
+def told_memory(cases, name, before, after):
+    """Tells the memory of a process, which must be the same but for the allocator's own."""
+    print(f"{name}: {before} kB in memory before, {after} kB after", flush=True)
+    cases.differ(f"the memory behind {name}", after - before < MEMORY_ROOM, True)
+
+
+def gate(cases):
+    """The cases of the gate. Peers that stall are waited for beside the others."""
+    with concurrent.futures.ThreadPoolExecutor(8) as pool:
+        waiting = [pool.submit(stalled, cases, *stall) for stall in stalls()]
+        for part in (words, in_turn, one_connection, many_at_once, cut, go_away_asking, go_away_reading, go_away_creating):
+            part(cases)
+        for each in waiting:
+            each.result()
+
+
+def long(cases):
+    """The cases that take minutes."""
+    with concurrent.futures.ThreadPoolExecutor(2) as pool:
+        waiting = [pool.submit(dripping, cases, rate, wanted) for rate, wanted in ((4, b""), (20, m.reply(m.LOGGED_IN)))]
+        one_after_another(cases, 10_000)
+        on_one_connection(cases, 100_000)
+        for each in waiting:
+            each.result()
 
 
 def main():
     program = sys.argv[1] if len(sys.argv) > 1 else subprocess.run([f"{TOP}/tools/build.sh", "proved"], stdout=subprocess.PIPE, text=True).stdout.strip()
     if not program:
         return 1
-    bad = count = 0
-    for name, sent, wanted in cases(program):
-        for size in (65536,) if len(sent) > 65536 else (1, 7, 65536):
-            count += 1
-            bad += differs(f"{name}, in pieces of {size}", served(program, sent, size), (wanted, b"", 0))
-    bad += bad_words(program) + in_turn(program)
-    print(f"{bad} differ; {count} connections")
-    return 1 if bad else 0
+    cases = Cases(os.path.abspath(program))
+    (long if sys.argv[2:] == ["long"] else gate)(cases)
+    print(f"{cases.bad} differ; {cases.count} cases")
+    return 1 if cases.bad else 0
 
 
 if __name__ == "__main__":

@@ -6,9 +6,10 @@
 Runs over files in a folder of its own: what one run keeps the next one reads, and an audit tells; a
 second process is refused, and so are files that hold no store, and a full disk, where this user may
 mount one; a stream of creates is killed at a random moment, KILLS times (by default 10), and what
-was acknowledged must be there. Where the shell `sqlite3` is there it looks at the tables. Prints each
-case that is left out, and each that differs; the status is 1 where one does. The gate runs it with
-few kills. PROGRAM is by default the proved one.
+was acknowledged must be there. With more kills than that a file of 100,000 rows gets one more, too. Where
+the shell `sqlite3` is there it looks at the tables. Prints each case that is left out, and each that
+differs; the status is 1 where one does. The gate runs it with few kills. PROGRAM is by default the
+proved one.
 """
 import json
 import os
@@ -22,17 +23,23 @@ import time
 
 TOP = os.path.dirname(os.path.dirname(os.path.abspath(__file__)))
 FAULT = ("keeper fault\n", 6)
-PLACES = "demo.place.parent_path 0 equal\n"
+# The lines of an audit behind those of demo.line, where there are no rows of other computed fields.
+OTHERS = "".join(f"{field} 0 equal\n" for field in (
+    "demo.order.total", "demo.place.parent_path", "product.category.complete_name", "product.category.parent_path",
+    "stock.location.complete_name", "stock.location.parent_path", "stock.move.quantity", "stock.move.line.done",
+    "stock.picking.name", "stock.picking.state"))
 TABLES = [
     "CREATE TABLE kept(model INTEGER, id INTEGER, body BLOB, PRIMARY KEY(model, id)) STRICT",
     "CREATE TABLE link(model INTEGER, field INTEGER, target INTEGER, id INTEGER, PRIMARY KEY(model, field, target, id)) STRICT",
     "CREATE TABLE counter(model INTEGER PRIMARY KEY, next INTEGER) STRICT",
     "CREATE INDEX link_row ON link(model, id)",
 ]
-# The body of a line named Al with 3 pieces at 25, made and changed at one moment. It is longer than any other there.
-LINE = ("010006" "0b6372656174655f6461746505{0}" "046e616d650300000002416c" "057072696365020000000000000019" "03717479020000000000000003"
+# The body of a line named Al with 3 pieces at 25 and no order, made and changed at one moment. It is longer than any other there.
+LINE = ("010007" "0b6372656174655f6461746505{0}" "046e616d650300000002416c" "086f726465725f696400" "057072696365020000000000000019" "03717479020000000000000003"
         "08737562746f74616c02000000000000004b" "0a77726974655f6461746505{0}")
 LINES = "length(body) = (SELECT max(length(body)) FROM kept)"
+FEW_KILLS = 10
+MANY = 100_000
 
 
 class Cases:
@@ -80,7 +87,7 @@ def refused(number):
 
 def equal(rows):
     """What an audit tells of so many lines."""
-    return f"demo.line.subtotal {rows} equal\n{PLACES}audit equal\n", 0
+    return f"demo.line.subtotal {rows} equal\n{OTHERS}audit equal\n", 0
 
 
 def what_stands(folder):
@@ -123,7 +130,7 @@ def altered_rows(cases, path):
     rows.close()
     at = body.index(b"subtotal") + 9
     for name, text, wanted in [
-        ("another subtotal", body[:at] + (76).to_bytes(8, "big") + body[at + 8:], (f"demo.line.subtotal 1 differs at 1: kept 76 scratch 75\n{PLACES}audit differs\n", 1)),
+        ("another subtotal", body[:at] + (76).to_bytes(8, "big") + body[at + 8:], (f"demo.line.subtotal 1 differs at 1: kept 76 scratch 75\n{OTHERS}audit differs\n", 1)),
         ("a row without its last byte", body[:-1], ("unreadable demo.line 1\naudit differs\n", 1)),
         ("a row with a byte more", body + b"\0", ("unreadable demo.line 1\naudit differs\n", 1)),
         ("the row again", body, equal(1)),
@@ -226,6 +233,20 @@ def over_full_disk(cases, disk):
     cases.differ("what is kept behind them", cases.run("audit", path), equal(rows))
 
 
+def many_rows(cases):
+    """A file of many rows, copies of one, is opened, gets one row, and is closed."""
+    path = f"{cases.folder}/many"
+    cases.differ("the first of many rows", cases.run("call", path, [create(1, name="Al", qty=3, price=25)]), (created(1, 1), 0))
+    alter(path, "WITH RECURSIVE more(id) AS (SELECT 2 UNION ALL SELECT id + 1 FROM more WHERE id < ?) "
+          "INSERT INTO kept SELECT model, more.id, body FROM kept, more WHERE kept.id = 1", MANY)
+    alter(path, "UPDATE counter SET next = ?", MANY + 1)
+    cases.differ("one row more", cases.run("call", path, [create(1, name="Bo", qty=2, price=7)]), (created(1, MANY + 1), 0))
+    rows = [{"id": 1, "name": "Al", "subtotal": 75}, {"id": MANY, "name": "Al", "subtotal": 75}, {"id": MANY + 1, "name": "Bo", "subtotal": 14}]
+    read = request(2, "demo.line", "read", [1, MANY, MANY + 1], ["name", "subtotal"])
+    cases.differ("a read of some of many rows", cases.run("call", path, [read]), (created(2, rows), 0))
+    cases.differ("an audit of many rows", cases.run("audit", path), equal(MANY + 1))
+
+
 def killed(cases, times):
     """A stream of creates that is killed: what was acknowledged is there, and at most one row more."""
     path, rng, whole = "", random.Random(7), None
@@ -269,7 +290,7 @@ def rows_of(cases, path, most):
 
 
 def main():
-    kills = int(sys.argv[1]) if len(sys.argv) > 1 else 10
+    kills = int(sys.argv[1]) if len(sys.argv) > 1 else FEW_KILLS
     if len(sys.argv) > 2:
         program = os.path.abspath(sys.argv[2])
     else:
@@ -284,6 +305,8 @@ def main():
         no_stores(cases)
         full_disk(cases)
         killed(cases, kills)
+        if kills > FEW_KILLS:
+            many_rows(cases)
     sys.exit(1 if cases.failed else 0)
 
 

@@ -22,14 +22,14 @@ TEXTS = ("", "bolt", "a b", "é", "\u0000", '"', "\\", "\n", "\U0001f529", "draf
 # The words that each program answers.
 PROGRAMS = {"probe_values": "row body value order day moment expression kinds evaluate",
             "probe_models": "schema load tables engine closes",
-            "probe_access": "domain access declared",
+            "probe_access": "domain access declared preset",
             "probe_stock": "takes lines state split chain push http envelope reply"}
 PROGRAM_OF = {word: program for program, words in PROGRAMS.items() for word in words.split()}
 # The files that make lines of further words, where the machine has their functions.
 PARTS = (("expression_lines", "expression, kinds and evaluate"),
          ("schema_lines", "schema"),
          ("load_lines", "load"),
-         ("declared_lines", "declared"),
+         ("declared_lines", "declared and preset"),
          ("domain_lines", "domain"),
          ("access_lines", "access"),
          ("tables_lines", "tables and tables_deep"),

@@ -4,7 +4,8 @@
 //! proved like any function, and this keeps it short.
 //!
 //! Rooms: `told` (how they tell), `tellers` (that each form in memory tells what it holds),
-//! `streams`, `texts` (files), `rows` (keepers in memory), `kept_in_sqlite`, `doors` and `hosts` (the
+//! `streams`, `texts` (files), `rows` (keepers in memory), `kept_in_sqlite`,
+//! `keepers` (lists of changes to it and to one in memory), `doors` and `hosts` (the
 //! clock and the standard streams), `odd_host` (a host as a real one is not to be).
 #![tactic(auto)]
 
@@ -12,6 +13,8 @@
 mod doors;
 #[cfg(test)]
 mod hosts;
+#[cfg(test)]
+mod keepers;
 #[cfg(test)]
 mod kept_in_sqlite;
 #[cfg(test)]

@@ -10,16 +10,22 @@ use Rattle.ob_access.specs.declared.policy.AccessLine.{AccessLine}
 use Rattle.ob_access.specs.declared.policy.Group.{Group}
 use Rattle.ob_access.specs.declared.policy.Rule.{Rule}
 use Rattle.ob_base.specs.declared.id.RecId.{RecId}
-use Rattle.ob_load.specs.Access.{access_names, declared_policy, each_behind, entries_of, full_names, group_from, group_names, groups_in, is_among, line_from, lines_in, name_of, rule_from, rules_in}
-use Rattle.ob_load.specs.AccessFaults.{access_fault, document_fault, first_fault, module_fault}
+use Rattle.ob_load.specs.Access.{declared_names, declared_policy, each_behind, entries_of, full_names, group_from, group_names, groups_in, is_among, line_from, lines_in, name_of, ref_name, ref_names, rule_from, rules_in}
+use Rattle.ob_load.specs.AccessFaults.{first_fault}
+use Rattle.ob_load.specs.Preset.{Ref, declared_preset, group_rows, ref_from, refs_of, rows_from, rows_in}
 use Rattle.ob_load.specs.Reading.{Module}
-use Rattle.ob_load.specs.Rooms.{AreConsistent, GrowsBy, IsGroupOf, IsLineOf, IsRuleOf}
+use Rattle.ob_load.specs.Rooms.{AreBrought, AreConsistent, BringsOn, GrowsBy, HaveRows, IsGroupOf, IsLineOf, IsRuleOf}
+use Rattle.ob_load.specs.RowFaults.{module_fault, modules_fault, whole_fault}
 use Rattle.ob_load.specs.declared.access.Declared.{Declared}
 use Rattle.ob_load.specs.declared.fault.FaultyModule.{FaultyModule}
+use Rattle.ob_load.specs.declared.rows.Brought.{Brought}
 use Rattle.ob_load.proofs.AccessSteps.{fault-here, fault-on, fault_from, parted-at}
+use Rattle.ob_load.proofs.GroupRows.{groups-have}
 use Rattle.ob_load.proofs.Numbered.{element-at}
 use Rattle.ob_schema.specs.Built.{numbered}
+use Rattle.ob_schema.specs.Presets.{IsPreset}
 use Rattle.ob_schema.specs.declared.info.ModelInfo.{ModelInfo}
+use Rattle.ob_schema.specs.declared.preset.PresetRow.{PresetRow}
 
 -- ---- with more groups
 
@@ -69,20 +75,28 @@ policy-over models d is = record {
 -- ---- module by module
 
 module _ (models : List ModelInfo) (all : List Module) where
-  -- the first so many modules have groups of these names, and declare this; with what those behind them declare it is what all do, and nothing stands against them
-  pub record IsDeclaredTo (i : ℕ) (groups : List (List ℕ)) (d : Declared) : Type 0 where
+  -- how many rows all groups have
+  abbrev pub first : ℕ
+  first = length (group_rows models all)
+
+  -- the first so many modules have groups of these names, declare this and bring this; with what those behind them declare and bring it is what all do, and nothing stands against them
+  pub record IsDeclaredTo (i : ℕ) (groups : List (List ℕ)) (d : Declared) (b : Brought) : Type 0 where
     pub known : groups ≡ group_names (take i all)
-    pub taken : d.names ≡ access_names (take i all)
+    pub taken : d.names ≡ declared_names (take i all)
     pub groups_rest : d.groups ++ each_behind groups_in (take i all) (drop i all) ≡ each_behind groups_in [] all
     pub lines_rest : d.lines ++ each_behind (lines_in models) (take i all) (drop i all) ≡ each_behind (lines_in models) [] all
     pub rules_rest : map rule_data d.rules ++ each_behind (rules_in models) (take i all) (drop i all) ≡ each_behind (rules_in models) [] all
     pub count : length d.groups ≡ length groups
     pub consistent : AreConsistent models (length groups) d
-    pub fits : fault_from (module_fault models) all 0 ≡ fault_from (module_fault models) all i
+    pub first_is : b.first ≡ first
+    pub refs_are : b.refs ≡ refs_of models (take i all)
+    pub rows_rest : b.rows ++ each_behind (rows_in models first) (take i all) (drop i all) ≡ declared_preset models all
+    pub brought : AreBrought models b
+    pub fits : fault_from (module_fault models first) all 0 ≡ fault_from (module_fault models first) all i
 
   -- no module
-  pub declared-none : (d : Declared) → d ≡ record { names = []; groups = []; lines = []; rules = [] } → IsDeclaredTo 0 [] d
-  declared-none d is = subst (IsDeclaredTo 0 []) (sym is) (record {
+  pub declared-none : (d : Declared) (b : Brought) → d ≡ record { names = []; groups = []; lines = []; rules = [] } → b.first ≡ first → b.refs ≡ [] → b.rows ≡ group_rows models all → AreBrought models b → IsDeclaredTo 0 [] d b
+  declared-none d b is first_is refs_are rows_are are = subst (λ (x : Declared). IsDeclaredTo 0 [] x b) (sym is) (record {
     known = refl;
     taken = refl;
     groups_rest = refl;
@@ -96,6 +110,10 @@ module _ (models : List ModelInfo) (all : List Module) where
       lines = All-nil (IsLineOf models 0);
       rules = All-nil (IsRuleOf models 0);
     };
+    first_is = first_is;
+    refs_are = refs_are;
+    rows_rest = ap (λ (l : List PresetRow). l ++ each_behind (rows_in models first) [] all) rows_are;
+    brought = are;
     fits = refl;
   })
 
@@ -107,9 +125,9 @@ module _ (models : List ModelInfo) (all : List Module) where
       ap (each_behind declared (take i all)) p.0 ∙ ap (λ before. declared (take i all) m ++ each_behind declared before (drop (i + 1) all)) (sym p.1)
 
   -- the lists so far, with one module more
-  rest-next : {X : Type 0} (declared : List Module → Module → List X) (i : ℕ) (m : Module) → slice_get all i ≡ Some m → (old new own : List X) → new ≡ old ++ own → own ≡ declared (take i all) m
-      → old ++ each_behind declared (take i all) (drop i all) ≡ each_behind declared [] all → new ++ each_behind declared (take (i + 1) all) (drop (i + 1) all) ≡ each_behind declared [] all
-  rest-next {X} declared i m at old new own grown is rest =
+  rest-next : {X : Type 0} (declared : List Module → Module → List X) (i : ℕ) (m : Module) → slice_get all i ≡ Some m → (old new own total : List X) → new ≡ old ++ own → own ≡ declared (take i all) m
+      → old ++ each_behind declared (take i all) (drop i all) ≡ total → new ++ each_behind declared (take (i + 1) all) (drop (i + 1) all) ≡ total
+  rest-next {X} declared i m at old new own total grown is rest =
       let behind = each_behind declared (take (i + 1) all) (drop (i + 1) all) in
       ap (λ (l : List X). l ++ behind) grown ∙ append_assoc old own behind ∙ ap (λ (l : List X). old ++ (l ++ behind)) is ∙ ap (λ (l : List X). old ++ l) (sym (each-next declared i m at)) ∙ rest
 
@@ -118,63 +136,86 @@ module _ (models : List ModelInfo) (all : List Module) where
   flat-next {X} part i m old new is grown =
       grown ∙ ap (λ (l : List X). l ++ part m) is ∙ ap (λ (l : List X). flat_map part (take i all) ++ l) (sym (append-nil (part m))) ∙ sym (flat_map-append part (take i all) (m ∷ []))
 
-  module _ (i : ℕ) (m : Module) (at : slice_get all i ≡ Some m) (groups more : List (List ℕ)) (d : Declared) (is : IsDeclaredTo i groups d)
+  module _ (i : ℕ) (m : Module) (at : slice_get all i ≡ Some m) (groups more : List (List ℕ)) (d : Declared) (b : Brought) (is : IsDeclaredTo i groups d b)
       (named : more ≡ groups ++ map (name_of m.name) (entries_of (codes "group") m.document)) where
     known_here : more ≡ group_names (take i all ++ m ∷ [])
     known_here = flat-next (full_names (codes "group")) i m groups more is.known named
 
     -- what stands against its document stands against the module
-    here-is : (o : Option FaultyModule) → document_fault models more m.name d.names m.document ≡ o → module_fault models (take i all) m ≡ o
+    here-is : (o : Option FaultyModule) → whole_fault models more b.first m.name b.refs d.names m.document ≡ o → module_fault models first (take i all) m ≡ o
     here-is o e =
-        ap (λ (g : List (List ℕ)). document_fault models g m.name (access_names (take i all)) m.document) (sym known_here)
-        ∙ ap (λ (t : List (List ℕ)). document_fault models more m.name t m.document) (sym is.taken) ∙ e
+        ap (λ (g : List (List ℕ)). whole_fault models g first m.name (refs_of models (take i all)) (declared_names (take i all)) m.document) (sym known_here)
+        ∙ ap (λ (f : ℕ). whole_fault models more f m.name (refs_of models (take i all)) (declared_names (take i all)) m.document) (sym is.first_is)
+        ∙ ap (λ (r : List Ref). whole_fault models more b.first m.name r (declared_names (take i all)) m.document) (sym is.refs_are)
+        ∙ ap (λ (t : List (List ℕ)). whole_fault models more b.first m.name b.refs t m.document) (sym is.taken) ∙ e
 
     -- the first fault of all
-    pub declared-fault : (faulty : FaultyModule) → document_fault models more m.name d.names m.document ≡ Some faulty → access_fault models all ≡ Some faulty
-    declared-fault faulty e = is.fits ∙ fault-here (module_fault models) all i m at faulty (here-is (Some faulty) e)
+    pub declared-fault : (faulty : FaultyModule) → whole_fault models more b.first m.name b.refs d.names m.document ≡ Some faulty → modules_fault models all ≡ Some faulty
+    declared-fault faulty e = is.fits ∙ fault-here (module_fault models first) all i m at faulty (here-is (Some faulty) e)
+
+    -- its groups have rows
+    have : HaveRows models more b.first
+    have = subst (λ (f : ℕ). HaveRows models more f) (sym is.first_is)
+        (subst (λ (g : List (List ℕ)). HaveRows models g first) (ap group_names (parted-at all i m at).1 ∙ sym known_here) (groups-have models all (i + 1)))
+
+    -- the rows that it brings
+    own_rows : rows_from models more b.first b.refs m.name (entries_of (codes "row") m.document) ≡ rows_in models first (take i all) m
+    own_rows =
+        ap (λ (g : List (List ℕ)). rows_from models g b.first b.refs m.name (entries_of (codes "row") m.document)) known_here
+        ∙ ap (λ (f : ℕ). rows_from models (group_names (take i all ++ m ∷ [])) f b.refs m.name (entries_of (codes "row") m.document)) is.first_is
+        ∙ ap (λ (r : List Ref). rows_from models (group_names (take i all ++ m ∷ [])) first r m.name (entries_of (codes "row") m.document)) is.refs_are
 
     -- one module more
-    pub declared-next : (new : Declared) → document_fault models more m.name d.names m.document ≡ None
+    pub declared-next : (new : Declared) (brought : Brought) → whole_fault models more b.first m.name b.refs d.names m.document ≡ None
         → GrowsBy models (length more) d new
-        (map (name_of m.name) (entries_of (codes "group") m.document) ++ map (name_of m.name) (entries_of (codes "rule") m.document))
+        (map (name_of m.name) (entries_of (codes "group") m.document) ++ map (name_of m.name) (entries_of (codes "rule") m.document) ++ map (ref_name m.name) (entries_of (codes "row") m.document))
         (map (group_from more m.name) (entries_of (codes "group") m.document))
         (map (line_from models more) (entries_of (codes "access") m.document))
         (map (rule_from models more m.name) (entries_of (codes "rule") m.document))
-        → IsDeclaredTo (i + 1) more new
-    declared-next new none grows =
+        → BringsOn models more m.name (entries_of (codes "row") m.document) b brought
+        → IsDeclaredTo (i + 1) more new brought
+    declared-next new brought none grows brings =
         let p = parted-at all i m at in
         let own_groups = map (group_from more m.name) (entries_of (codes "group") m.document) in
         let own_lines = map (line_from models more) (entries_of (codes "access") m.document) in
-        let own_rules = map (rule_from models more m.name) (entries_of (codes "rule") m.document) in
+        let own_rules_data = map (rule_from models more m.name) (entries_of (codes "rule") m.document) in
         let longer : length more ≡ length groups + length (entries_of (codes "group") m.document) =
         ap length named ∙ length-append groups (map (name_of m.name) (entries_of (codes "group") m.document)) ∙ ap (λ (n : ℕ). length groups + n) (length-map (entries_of (codes "group") m.document) (name_of m.name)) in
         let grown : length new.groups ≡ length d.groups + length (entries_of (codes "group") m.document) =
         ap length grows.groups_grow ∙ length-append d.groups own_groups ∙ ap (λ (n : ℕ). length d.groups + n) (length-map (entries_of (codes "group") m.document) (group_from more m.name)) in
         record {
           known = known_here ∙ ap group_names (sym p.1);
-          taken = flat-next (λ (o : Module). full_names (codes "group") o ++ full_names (codes "rule") o) i m d.names new.names is.taken grows.names_grow ∙ ap access_names (sym p.1);
-          groups_rest = rest-next groups_in i m at d.groups new.groups own_groups grows.groups_grow (ap (λ (g : List (List ℕ)). map (group_from g m.name) (entries_of (codes "group") m.document)) known_here) is.groups_rest;
-          lines_rest = rest-next (lines_in models) i m at d.lines new.lines own_lines grows.lines_grow (ap (λ (g : List (List ℕ)). map (line_from models g) (entries_of (codes "access") m.document)) known_here) is.lines_rest;
-          rules_rest = rest-next (rules_in models) i m at (map rule_data d.rules) (map rule_data new.rules) own_rules grows.rules_grow
+          taken = flat-next (λ (o : Module). full_names (codes "group") o ++ full_names (codes "rule") o ++ ref_names o) i m d.names new.names is.taken grows.names_grow ∙ ap declared_names (sym p.1);
+          groups_rest = rest-next groups_in i m at d.groups new.groups own_groups (each_behind groups_in [] all) grows.groups_grow (ap (λ (g : List (List ℕ)). map (group_from g m.name) (entries_of (codes "group") m.document)) known_here) is.groups_rest;
+          lines_rest = rest-next (lines_in models) i m at d.lines new.lines own_lines (each_behind (lines_in models) [] all) grows.lines_grow (ap (λ (g : List (List ℕ)). map (line_from models g) (entries_of (codes "access") m.document)) known_here) is.lines_rest;
+          rules_rest = rest-next (rules_in models) i m at (map rule_data d.rules) (map rule_data new.rules) own_rules_data (each_behind (rules_in models) [] all) grows.rules_grow
               (ap (λ (g : List (List ℕ)). map (rule_from models g m.name) (entries_of (codes "rule") m.document)) known_here) is.rules_rest;
           count = grown ∙ ap (λ (n : ℕ). n + length (entries_of (codes "group") m.document)) is.count ∙ sym longer;
           consistent = grows.consistent (consistent-more models (length groups) (length more) d (omega (arith, longer)) is.consistent);
-          fits = is.fits ∙ fault-on (module_fault models) all i m at (here-is None none);
+          first_is = brings.first_stays ∙ is.first_is;
+          refs_are = flat-next (λ (o : Module). map (ref_from models o.name) (entries_of (codes "row") o.document)) i m b.refs brought.refs is.refs_are brings.refs_grow ∙ ap (refs_of models) (sym p.1);
+          rows_rest = rest-next (rows_in models first) i m at b.rows brought.rows (rows_from models more b.first b.refs m.name (entries_of (codes "row") m.document)) (declared_preset models all) brings.rows_grow own_rows is.rows_rest;
+          brought = brings.brought have is.brought;
+          fits = is.fits ∙ fault-on (module_fault models first) all i m at (here-is None none);
         }
 
   -- with no module left
-  module _ (i : ℕ) (groups : List (List ℕ)) (d : Declared) (is : IsDeclaredTo i groups d) where
+  module _ (i : ℕ) (groups : List (List ℕ)) (d : Declared) (b : Brought) (is : IsDeclaredTo i groups d b) where
     -- they are a policy
     pub declared-over : IsPolicyOver models (policy_of models d.groups d.lines d.rules)
     declared-over = policy-over models d (subst (λ (n : ℕ). AreConsistent models n d) (sym is.count) is.consistent)
 
+    -- they are a preset
+    pub declared-rows : IsPreset models b.rows
+    declared-rows = is.brought.fit
+
     module _ (end : ◌≡◌ {A = List Module} (drop i all) []) where
       -- nothing stands against them
-      pub declared-fits : access_fault models all ≡ None
-      declared-fits = is.fits ∙ ap (first_fault (module_fault models) (take i all)) end
+      pub declared-fits : modules_fault models all ≡ None
+      declared-fits = is.fits ∙ ap (first_fault (module_fault models first) (take i all)) end
 
-      whole : {X : Type 0} (declared : List Module → Module → List X) (own : List X) → own ++ each_behind declared (take i all) (drop i all) ≡ each_behind declared [] all → own ≡ each_behind declared [] all
-      whole {X} declared own rest = sym (append-nil own) ∙ ap (λ (l : List Module). own ++ each_behind declared (take i all) l) (sym end) ∙ rest
+      whole : {X : Type 0} (declared : List Module → Module → List X) (own total : List X) → own ++ each_behind declared (take i all) (drop i all) ≡ total → own ≡ total
+      whole {X} declared own total rest = sym (append-nil own) ∙ ap (λ (l : List Module). own ++ each_behind declared (take i all) l) (sym end) ∙ rest
 
       abbrev pub made : List Group → List AccessLine → List RuleData → PolicyData
       made own lines rules = record { groups = own; accesses = lines; rules = rules; fields = field_accesses own models }
@@ -182,31 +223,37 @@ module _ (models : List ModelInfo) (all : List Module) where
       -- what they declare is the policy
       pub declared-all : policy_of models d.groups d.lines d.rules ≡ declared_policy models all
       declared-all =
-          ap (λ (own : List Group). made own d.lines (map rule_data d.rules)) (whole groups_in d.groups is.groups_rest)
-          ∙ ap (λ (lines : List AccessLine). made (each_behind groups_in [] all) lines (map rule_data d.rules)) (whole (lines_in models) d.lines is.lines_rest)
-          ∙ ap (λ (rules : List RuleData). made (each_behind groups_in [] all) (each_behind (lines_in models) [] all) rules) (whole (rules_in models) (map rule_data d.rules) is.rules_rest)
+          ap (λ (own : List Group). made own d.lines (map rule_data d.rules)) (whole groups_in d.groups (each_behind groups_in [] all) is.groups_rest)
+          ∙ ap (λ (lines : List AccessLine). made (each_behind groups_in [] all) lines (map rule_data d.rules)) (whole (lines_in models) d.lines (each_behind (lines_in models) [] all) is.lines_rest)
+          ∙ ap (λ (rules : List RuleData). made (each_behind groups_in [] all) (each_behind (lines_in models) [] all) rules) (whole (rules_in models) (map rule_data d.rules) (each_behind (rules_in models) [] all) is.rules_rest)
+
+      -- what they bring is the preset
+      pub declared-brought : b.rows ≡ declared_preset models all
+      declared-brought = whole (rows_in models first) b.rows (declared_preset models all) is.rows_rest
 
   -- the same of a module by its name and its document
-  module _ (i : ℕ) (m : Module) (at : slice_get all i ≡ Some m) (groups more : List (List ℕ)) (d : Declared) (is : IsDeclaredTo i groups d) where
-    abbrev pub Steps : Declared → List ℕ → Members → Type 0
-    Steps new owner document =
+  module _ (i : ℕ) (m : Module) (at : slice_get all i ≡ Some m) (groups more : List (List ℕ)) (d : Declared) (b : Brought) (is : IsDeclaredTo i groups d b) where
+    abbrev pub Steps : Declared → Brought → List ℕ → Members → Type 0
+    Steps new brought owner document =
         more ≡ groups ++ map (name_of owner) (entries_of (codes "group") document)
-        → document_fault models more owner d.names document ≡ None
+        → whole_fault models more b.first owner b.refs d.names document ≡ None
         → GrowsBy models (length more) d new
-        (map (name_of owner) (entries_of (codes "group") document) ++ map (name_of owner) (entries_of (codes "rule") document))
+        (map (name_of owner) (entries_of (codes "group") document) ++ map (name_of owner) (entries_of (codes "rule") document) ++ map (ref_name owner) (entries_of (codes "row") document))
         (map (group_from more owner) (entries_of (codes "group") document))
         (map (line_from models more) (entries_of (codes "access") document))
         (map (rule_from models more owner) (entries_of (codes "rule") document))
-        → IsDeclaredTo (i + 1) more new
+        → BringsOn models more owner (entries_of (codes "row") document) b brought
+        → IsDeclaredTo (i + 1) more new brought
 
-    pub declared-step : (new : Declared) (owner : List ℕ) (document : Members) → owner ≡ m.name → document ≡ m.document → Steps new owner document
-    declared-step new owner document o e =
-        subst (λ (x : List ℕ). Steps new x document) (sym o) (subst (λ (y : Members). Steps new m.name y) (sym e) (λ named none grows. declared-next i m at groups more d is named new none grows))
+    pub declared-step : (new : Declared) (brought : Brought) (owner : List ℕ) (document : Members) → owner ≡ m.name → document ≡ m.document → Steps new brought owner document
+    declared-step new brought owner document o e =
+        subst (λ (x : List ℕ). Steps new brought x document) (sym o)
+        (subst (λ (y : Members). Steps new brought m.name y) (sym e) (λ named none grows brings. declared-next i m at groups more d b is named new brought none grows brings))
 
     abbrev pub Fails : List ℕ → Members → Type 0
     Fails owner document =
         more ≡ groups ++ map (name_of owner) (entries_of (codes "group") document)
-        → (faulty : FaultyModule) → document_fault models more owner d.names document ≡ Some faulty → access_fault models all ≡ Some faulty
+        → (faulty : FaultyModule) → whole_fault models more b.first owner b.refs d.names document ≡ Some faulty → modules_fault models all ≡ Some faulty
 
     pub declared-fails : (owner : List ℕ) (document : Members) → owner ≡ m.name → document ≡ m.document → Fails owner document
-    declared-fails owner document o e = subst (λ (x : List ℕ). Fails x document) (sym o) (subst (λ (y : Members). Fails m.name y) (sym e) (λ named faulty first. declared-fault i m at groups more d is named faulty first))
+    declared-fails owner document o e = subst (λ (x : List ℕ). Fails x document) (sym o) (subst (λ (y : Members). Fails m.name y) (sym e) (λ named faulty first. declared-fault i m at groups more d b is named faulty first))

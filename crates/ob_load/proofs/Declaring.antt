@@ -117,3 +117,22 @@ module _ (models : List ModelInfo) (count : ℕ) where
         rules = All-push (IsRuleOf models count) d.rules rule is.rules fits;
       });
     }
+
+    -- names more, of what is no part of the policy
+    among-all : (names more : List (List ℕ)) (name : List ℕ) → is_among names name ≡ true → is_among (names ++ more) name ≡ true
+    among-all names more name is = list_any-append (λ own. bytes_eq own name) names more ∙ or-first (is_among names name) (is_among more name) is
+
+    pub grows-names : (names : List (List ℕ)) → new.names ≡ d.names ++ names → new.groups ≡ d.groups → new.lines ≡ d.lines → new.rules ≡ d.rules → GrowsBy models count d new names [] [] []
+    grows-names names n gs l r = record {
+      names_grow = n;
+      groups_grow = gs ∙ sym (append-nil d.groups);
+      lines_grow = l ∙ sym (append-nil d.lines);
+      rules_grow = ap (map rule_data) r ∙ sym (append-nil (map rule_data d.rules));
+      consistent = λ is. consistent-same new (d.names ++ names) d.groups d.lines d.rules n gs l r (record {
+        apart = is.apart;
+        taken = All-weaker (λ (g : Group). is_among d.names g.name ≡ true) (λ (g : Group). is_among (d.names ++ names) g.name ≡ true) (λ g held. among-all d.names names g.name held) d.groups is.taken;
+        implied = is.implied;
+        lines = is.lines;
+        rules = is.rules;
+      });
+    }

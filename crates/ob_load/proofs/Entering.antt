@@ -14,7 +14,7 @@ use Rattle.ob_definition.specs.Definitions.{first_of}
 use Rattle.ob_domain.specs.Over.{IsOver}
 use Rattle.ob_domain.specs.Trees.{tree_of_domain}
 use Rattle.ob_load.specs.Access.{group_from, is_among, line_from, name_of, rule_from}
-use Rattle.ob_load.specs.AccessFaults.{first_fault, form_fault, group_fault, group_fits, in_entry, line_fault, line_fits, name_is_free, rule_fault, rule_misfit}
+use Rattle.ob_load.specs.AccessFaults.{first_fault, form_fault, group_fault, group_fits, in_entry, line_fault, line_fits, name_fits, name_is_free, rule_fault, rule_misfit}
 use Rattle.ob_load.specs.Forms.{under, unless}
 use Rattle.ob_load.specs.Meaning.{text_at, texts_at}
 use Rattle.ob_load.specs.Rooms.{GrowsBy, IsGroupOf}
@@ -36,10 +36,10 @@ second-none {X} (Some x) b none = absurd (let e : ◌≡◌ {A = Option X} (Some
 second-none None b none = none
 
 pub name-free : (groups taken : List (List ℕ)) (owner : List ℕ) (d : Data) → group_fits groups taken owner d ≡ None → is_among taken (name_of owner d) ≡ false
-name-free groups taken owner d fits = free-is (is_among taken (name_of owner d)) (second-none _ (name_is_free taken owner d) fits)
+name-free groups taken owner d fits = free-is (is_among taken (name_of owner d)) (second-none _ (name_is_free taken owner d) (second-none _ (name_fits taken owner d) fits))
 
 -- what the images of one thing more are
-map-one : {X Y : Type 0} (f : X → Y) (xs : List X) (x : X) → map f (xs ++ x ∷ []) ≡ map f xs ++ f x ∷ []
+pub map-one : {X Y : Type 0} (f : X → Y) (xs : List X) (x : X) → map f (xs ++ x ∷ []) ≡ map f xs ++ f x ∷ []
 map-one f xs x = map-append f xs (x ∷ [])
 
 module _ (models : List ModelInfo) (count : ℕ) (old : Declared) (wrong : List Data → Data → Option FaultyModule)

@@ -17,7 +17,7 @@ use Rattle.ob_definition.specs.Definitions.{first_of}
 use Rattle.ob_domain.specs.Trees.{Tree, constant}
 use Rattle.ob_domain.specs.declared.fault.DomainFault.{DomainFault}
 use Rattle.ob_load.specs.Access.{asked_ops, domain_in, granted_ops, group_from, group_id, group_ids, is_group, line_from, model_in, name_of, rule_from, word_at}
-use Rattle.ob_load.specs.AccessFaults.{domain_fault, form_fault, group_fits, group_is_there, groups_at, in_entry, line_fits, model_is_there, name_is_free, rule_misfit, rule_names_fit}
+use Rattle.ob_load.specs.AccessFaults.{domain_fault, form_fault, group_fits, group_is_there, groups_at, in_entry, line_fits, model_is_there, name_fits, name_is_free, rule_misfit, rule_names_fit}
 use Rattle.ob_load.specs.Forms.{under, unless}
 use Rattle.ob_load.specs.Meaning.{text_at, texts_at}
 use Rattle.ob_load.specs.declared.fault.FaultyModule.{FaultyModule}
@@ -69,8 +69,8 @@ module _ (groups : List (List ℕ)) where
   listed-none (Some names) is = absurd (let e : ◌≡◌ {A = Option (List RecId)} None (Some (group_ids groups names)) = is in cc)
 
   module _ (taken : List (List ℕ)) (owner : List ℕ) (d : Data) where
-    pub group-fits : groups_at (codes "implies") groups d ≡ None → name_is_free taken owner d ≡ None → group_fits groups taken owner d ≡ None
-    group-fits implied free = first-none (groups_at (codes "implies") groups d) (name_is_free taken owner d) implied ∙ free
+    pub group-fits : groups_at (codes "implies") groups d ≡ None → name_fits taken owner d ≡ None → group_fits groups taken owner d ≡ None
+    group-fits implied fits = first-none (groups_at (codes "implies") groups d) (name_fits taken owner d) implied ∙ fits
 
   module _ (owner : List ℕ) (d : Data) where
     abbrev pub group_of : List ℕ → List RecId → Group

@@ -1,6 +1,7 @@
 pub mod AccessForms
 pub mod AccessSteps
 pub mod Adding
+pub mod Bringing
 pub mod Circles
 pub mod DeclaredTo
 pub mod Declaring
@@ -10,10 +11,15 @@ pub mod DomainTexts
 pub mod Entering
 pub mod Entries
 pub mod EntryParts
+pub mod Given
 pub mod GroupIds
+pub mod GroupRowSteps
+pub mod GroupRows
 pub mod HeldTexts
 pub mod Loads
+pub mod ModuleSteps
 pub mod ModuleTexts
+pub mod NextModules
 pub mod Numbered
 pub mod Orders
 pub mod Owners
@@ -23,7 +29,10 @@ pub mod Reached
 pub mod ReadTexts
 pub mod ReadingSteps
 pub mod Readings
+pub mod References
+pub mod RowParts
 pub mod Taking
 pub mod Told
+pub mod ValueSteps
 pub mod Wholes
 pub mod Wrongs

@@ -8,10 +8,12 @@ use Rattle.ob_definition.specs.declared.fault.SchemaFault.{SchemaFault}
 use Rattle.ob_definition.specs.declared.definition.ModelDef.{ModelDef}
 use Rattle.ob_schema.specs.Built.{IsBuilt}
 use Rattle.ob_schema.specs.Faults.{IsFaultless, IsFirst}
+use Rattle.ob_schema.specs.declared.preset.PresetRow.{PresetRow}
 use Rattle.ob_schema.specs.declared.schema.Schema.{Schema}
 use Rattle.ob_access.specs.Policies.{PolicyData}
 use Rattle.ob_load.specs.Access.{declared_policy}
-use Rattle.ob_load.specs.AccessFaults.{access_fault}
+use Rattle.ob_load.specs.Preset.{declared_preset}
+use Rattle.ob_load.specs.RowFaults.{modules_fault}
 use Rattle.ob_load.specs.Dependencies.{IsCyclic, IsFirstCyclic, Takes}
 use Rattle.ob_load.specs.Loading.{AreTaken, IsFirstFault, IsLoaded, all_models, model_place, owner_of, wanted}
 use Rattle.ob_load.specs.Reading.{Module, ReadsTo, whole}
@@ -73,7 +75,7 @@ module _ (text : List ℕ → Option (List ℕ)) (names : List (List ℕ)) (modu
     models-first why owner entry faulty first owned told = inr (inr (inl (why, record { taken = taken; are_taken = taken-of; first = first; owner = owner; entry = entry; owned = owned; told = told })))
 
     -- a name or a value of theirs that doesn't fit stands against them
-    pub access-first : (schema : Schema) (faulty : FaultyModule) → IsBuilt (all_models taken) schema → IsFaultless (all_models taken) → access_fault schema taken ≡ Some faulty → IsFirstFault text names faulty
+    pub access-first : (schema : Schema) (faulty : FaultyModule) → IsBuilt (all_models taken) schema → IsFaultless (all_models taken) → modules_fault schema taken ≡ Some faulty → IsFirstFault text names faulty
     access-first schema faulty built faultless first =
         inr (inr (inr (record { taken = taken; schema = schema; are_built = record { are_taken = taken-of; built = built; faultless = faultless }; first = first })))
 
@@ -82,8 +84,8 @@ module _ (told : Option FileTexts) (folder : List ℕ) (names : List (List ℕ))
   abbrev pub Faulty : FaultyModule → Type 0
   Faulty faulty = (texts : FileTexts) × AgreesWith told texts × IsFirstFault (text_in texts folder) names faulty
 
-  abbrev pub Loads : Schema → PolicyData → Type 0
-  Loads schema policy = (texts : FileTexts) × AgreesWith told texts × IsLoaded (text_in texts folder) names schema policy
+  abbrev pub Loads : Schema → PolicyData → List PresetRow → Type 0
+  Loads schema policy preset = (texts : FileTexts) × AgreesWith told texts × IsLoaded (text_in texts folder) names schema policy preset
 
   -- a fault of reading is the first
   pub reading-told : (faulty : FaultyModule) → (texts : FileTexts) × AgreesWith told texts × ReadsTo (text_in texts folder) [] (wanted names) (Err faulty) → Faulty faulty
@@ -100,8 +102,9 @@ module _ (told : Option FileTexts) (folder : List ℕ) (names : List (List ℕ))
 
   module _ (acyclic : (name : List ℕ) → IsCyclic modules name → ⊥) (taken : List Module) (order : Takes modules [] (wanted names) taken) (models : List ModelDef) (all : models ≡ all_models taken) where
     -- the registry of all models and the policy are what is loaded, where all names and values fit
-    pub loaded-from : (schema : Schema) (policy : PolicyData) → IsBuilt models schema → IsFaultless models → access_fault schema taken ≡ None → policy ≡ declared_policy schema taken → Loads told folder names schema policy
-    loaded-from schema policy built faultless fits declared = (
+    pub loaded-from : (schema : Schema) (policy : PolicyData) (preset : List PresetRow) → IsBuilt models schema → IsFaultless models → modules_fault schema taken ≡ None → policy ≡ declared_policy schema taken
+        → preset ≡ declared_preset schema taken → Loads told folder names schema policy preset
+    loaded-from schema policy preset built faultless fits declared brought = (
       read.0,
       read.1,
       record {
@@ -113,17 +116,19 @@ module _ (told : Option FileTexts) (folder : List ℕ) (names : List (List ℕ))
         };
         fits = fits;
         declared = declared;
+        brought = brought;
       },
     )
 
     -- so it is of what is made of them
-    pub loaded-by : (schema : Schema) (r : Result Loaded LoadFault) → IsBuilt models schema → IsFaultless models → IfOk r (λ l. l.schema ≡ schema) → IfOk r (λ l. access_fault schema taken ≡ None)
-        → IfOk r (λ l. l.policy ≡ declared_policy schema taken) → IfOk r (λ l. Loads told folder names l.schema l.policy)
-    loaded-by schema (Ok l) built faultless same fits declared = subst (λ (s : Schema). Loads told folder names s l.policy) (sym same) (loaded-from schema l.policy built faultless fits declared)
-    loaded-by schema (Err why) built faultless same fits declared = tt
+    pub loaded-by : (schema : Schema) (r : Result Loaded LoadFault) → IsBuilt models schema → IsFaultless models → IfOk r (λ l. l.schema ≡ schema) → IfOk r (λ l. modules_fault schema taken ≡ None)
+        → IfOk r (λ l. l.policy ≡ declared_policy schema taken) → IfOk r (λ l. l.preset.rows ≡ declared_preset schema taken) → IfOk r (λ l. Loads told folder names l.schema l.policy l.preset.rows)
+    loaded-by schema (Ok l) built faultless same fits declared brought =
+        subst (λ (s : Schema). Loads told folder names s l.policy l.preset.rows) (sym same) (loaded-from schema l.policy l.preset.rows built faultless fits declared brought)
+    loaded-by schema (Err why) built faultless same fits declared brought = tt
 
     -- the first that doesn't is told
-    pub access-told : (schema : Schema) (faulty : FaultyModule) → IsBuilt models schema → IsFaultless models → access_fault schema taken ≡ Some faulty → Faulty told folder names faulty
+    pub access-told : (schema : Schema) (faulty : FaultyModule) → IsBuilt models schema → IsFaultless models → modules_fault schema taken ≡ Some faulty → Faulty told folder names faulty
     access-told schema faulty built faultless first =
         (read.0, read.1, access-first (text_in read.0 folder) names modules read.2 acyclic taken order schema faulty (subst (λ (defs : List ModelDef). IsBuilt defs schema) all built) (subst IsFaultless all faultless) first)
 

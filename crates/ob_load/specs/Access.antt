@@ -40,13 +40,20 @@ name_of owner d = full_name owner (word_at (codes "name") d)
 abbrev pub full_names : List ℕ → Module → List (List ℕ)
 full_names key m = map (name_of m.name) (entries_of key m.document)
 
+-- the full name of a row, and those of the rows of a module
+abbrev pub ref_name : List ℕ → Data → List ℕ
+ref_name owner d = full_name owner (word_at (codes "ref") d)
+
+abbrev pub ref_names : Module → List (List ℕ)
+ref_names m = map (ref_name m.name) (entries_of (codes "row") m.document)
+
 -- the full names of the groups of modules, one module after another
 abbrev pub group_names : List Module → List (List ℕ)
 group_names modules = flat_map (full_names (codes "group")) modules
 
--- the full names of their groups and rules
-abbrev pub access_names : List Module → List (List ℕ)
-access_names modules = flat_map (λ m. full_names (codes "group") m ++ full_names (codes "rule") m) modules
+-- the full names of their groups, rules and rows
+abbrev pub declared_names : List Module → List (List ℕ)
+declared_names modules = flat_map (λ m. full_names (codes "group") m ++ full_names (codes "rule") m ++ ref_names m) modules
 
 -- one of these names
 abbrev pub is_among : List (List ℕ) → List ℕ → Bool
@@ -122,10 +129,10 @@ module _ (models : List ModelInfo) where
   abbrev pub rules_in : List Module → Module → List RuleData
   rules_in before m = map (rule_from (group_names (before ++ m ∷ [])) m.name) (entries_of (codes "rule") m.document)
 
--- what modules declare, each behind those before it
-abbrev pub each_behind : {X : Type 0} → (List Module → Module → List X) → List Module → List Module → List X
+-- what modules, or entries of a table, declare, each behind those before it
+abbrev pub each_behind : {X Y : Type 0} → (List Y → Y → List X) → List Y → List Y → List X
 each_behind declared before [] = []
-each_behind declared before (m ∷ more) = declared before m ++ each_behind declared (before ++ m ∷ []) more
+each_behind declared before (y ∷ more) = declared before y ++ each_behind declared (before ++ y ∷ []) more
 
 -- the policy that modules declare over a registry, in load order
 abbrev pub declared_policy : List ModelInfo → List Module → PolicyData

@@ -1,16 +1,16 @@
--- The first name or value of modules that doesn't fit: by modules as they are taken, then by tables, then by entries; in an entry the model first and then the other keys in byte order.
-use Rattle.std.specs.Prelude.{ℕ, List, [], ◌∷◌, ◌++◌, codes, length, map, not, is_some, Option, Some, None, option_map, Result, Ok, Err}
+-- The first name or value of the access of a module that doesn't fit: by tables, then by entries; in an entry the model first and then the other keys in byte order.
+use Rattle.std.specs.Prelude.{ℕ, List, [], ◌∷◌, ◌++◌, codes, length, map, nat_le, not, is_some, Option, Some, None, option_map, Result, Ok, Err}
 use Rattle.std.specs.Option.{option_map_or}
 use Rattle.toml.specs.Data.{Data, Members, table}
+use Rattle.ob_base.specs.Limits.{max_char_bytes}
 use Rattle.ob_base.specs.declared.place.PathStep.{PathStep}
 use Rattle.ob_base.specs.declared.place.PathStep.TheVariants.{Key, Item}
 use Rattle.ob_definition.specs.Definitions.{first_of}
 use Rattle.ob_domain.specs.Trees.{Tree}
 use Rattle.ob_domain.specs.declared.fault.DomainFault.{DomainFault}
-use Rattle.ob_load.specs.Access.{access_names, domain_in, entries_of, group_names, is_among, is_group, model_in, name_of, word_at}
+use Rattle.ob_load.specs.Access.{domain_in, entries_of, is_among, is_group, model_in, name_of, word_at}
 use Rattle.ob_load.specs.Forms.{Form, any_key, at_key, list_of, table_where, text_where, under, unless}
 use Rattle.ob_load.specs.Meaning.{text_at}
-use Rattle.ob_load.specs.Reading.{Module}
 use Rattle.ob_load.specs.declared.fault.FaultyModule.{FaultyModule}
 use Rattle.ob_load.specs.declared.fault.ModuleFault.TheVariants as fault
 use Rattle.ob_schema.specs.Models.{model_named}
@@ -32,6 +32,10 @@ models_fit groups document = at_key (codes "model") (list_of (fields_fit groups)
 abbrev pub name_is_free : List (List ℕ) → List ℕ → Form
 name_is_free taken owner d = under (Key (codes "name")) (unless (not (is_among taken (name_of owner d))))
 
+-- the full name of a group is no longer than a char may be
+abbrev pub name_is_short : List ℕ → Form
+name_is_short owner d = under (Key (codes "name")) (unless (nat_le (length (name_of owner d)) max_char_bytes))
+
 -- there is the model of an entry
 abbrev pub model_is_there : List ModelInfo → Form
 model_is_there models d = under (Key (codes "model")) (unless (is_some (model_named models (word_at (codes "model") d))))
@@ -40,9 +44,13 @@ model_is_there models d = under (Key (codes "model")) (unless (is_some (model_na
 abbrev pub group_is_there : List (List ℕ) → Form
 group_is_there groups d = option_map_or (λ name. under (Key (codes "group")) (unless (is_group groups name))) (text_at (codes "group") d) None
 
--- a group implies groups that there are, and its name is free
+-- the full name of a group is one that its row may have, and is free
+abbrev pub name_fits : List (List ℕ) → List ℕ → Form
+name_fits taken owner d = first_of (name_is_short owner d) (name_is_free taken owner d)
+
+-- a group implies groups that there are, and its name fits
 abbrev pub group_fits : List (List ℕ) → List (List ℕ) → List ℕ → Form
-group_fits groups taken owner d = first_of (groups_at (codes "implies") groups d) (name_is_free taken owner d)
+group_fits groups taken owner d = first_of (groups_at (codes "implies") groups d) (name_fits taken owner d)
 
 -- there are the model and the group of an access line
 abbrev pub line_fits : List ModelInfo → List (List ℕ) → Form
@@ -98,11 +106,3 @@ module _ (models : List ModelInfo) (groups : List (List ℕ)) (owner : List ℕ)
       (first_of (first_fault (group_fault groups owner taken) [] (entries_of (codes "group") document))
       (first_of (first_fault line_fault [] (entries_of (codes "access") document))
       (first_fault (rule_fault (taken ++ map (name_of owner) (entries_of (codes "group") document))) [] (entries_of (codes "rule") document))))
-
--- what doesn't fit in a module behind the modules before it: it may name their groups and its own, and their full names are taken
-abbrev pub module_fault : List ModelInfo → List Module → Module → Option FaultyModule
-module_fault models before m = document_fault models (group_names (before ++ m ∷ [])) m.name (access_names before) m.document
-
--- what doesn't fit in modules first
-abbrev pub access_fault : List ModelInfo → List Module → Option FaultyModule
-access_fault models modules = first_fault (module_fault models) [] modules

@@ -45,6 +45,11 @@ constant (integer _) = None
 constant (boolean _) = None
 constant _ = here
 
+-- any table
+abbrev pub any_table : Form
+any_table (table _) = None
+any_table _ = here
+
 -- the first item that is wrong, from this number on
 abbrev pub wrong_item : Form → ℕ → Items → Option (List PathStep)
 wrong_item form n no_items = None

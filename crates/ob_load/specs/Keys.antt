@@ -9,7 +9,7 @@ use Rattle.ob_definition.specs.declared.field_type.FieldType.TheVariants as type
 use Rattle.ob_definition.specs.declared.field_type.OnDelete.{OnDelete}
 use Rattle.ob_definition.specs.declared.field_type.OnDelete.TheVariants as ondelete
 use Rattle.toml.specs.Data.{Members, get_member}
-use Rattle.ob_load.specs.Forms.{Form, Keys, absent, any_key, constant, first_absent, flag, list_of, pair_of, table_of, table_where, text, text_where}
+use Rattle.ob_load.specs.Forms.{Form, Keys, absent, any_key, any_table, constant, first_absent, flag, list_of, pair_of, table_of, table_where, text, text_where}
 
 -- the types of fields, by their names
 abbrev pub type_names : List (List ℕ × FieldType)
@@ -87,11 +87,25 @@ rule_keys = (codes "name", text) ∷ (codes "model", text) ∷ (codes "groups", 
 abbrev pub rule : Form
 rule = table_of (among rule_keys) (first_absent (codes "domain" ∷ codes "model" ∷ codes "name" ∷ []))
 
+-- a row
+abbrev pub row_keys : List (List ℕ × Form)
+row_keys = (codes "model", text) ∷ (codes "ref", text) ∷ (codes "values", any_table) ∷ []
+
+abbrev pub row : Form
+row = table_of (among row_keys) (first_absent (codes "model" ∷ codes "ref" ∷ codes "values" ∷ []))
+
+-- what names a row: a table with its full name alone
+abbrev pub reference_keys : List (List ℕ × Form)
+reference_keys = (codes "ref", text) ∷ []
+
+abbrev pub reference_table : Form
+reference_table = table_of (among reference_keys) (absent (codes "ref"))
+
 -- a document, which says the name of its module
 abbrev pub document_keys : List ℕ → List (List ℕ × Form)
 document_keys name =
     (codes "name", text_where (bytes_eq name)) ∷ (codes "depends", texts) ∷ (codes "model", list_of model) ∷ (codes "group", list_of group)
-    ∷ (codes "access", list_of access) ∷ (codes "rule", list_of rule) ∷ []
+    ∷ (codes "access", list_of access) ∷ (codes "rule", list_of rule) ∷ (codes "row", list_of row) ∷ []
 
 abbrev pub document : List ℕ → Form
 document name = table_of (among (document_keys name)) (absent (codes "name"))

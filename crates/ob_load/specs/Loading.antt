@@ -7,13 +7,15 @@ use Rattle.ob_definition.specs.declared.definition.ModelDef.{ModelDef}
 use Rattle.ob_definition.specs.declared.fault.SchemaFault.{SchemaFault}
 use Rattle.ob_schema.specs.Built.{IsBuilt}
 use Rattle.ob_schema.specs.Faults.{IsFaultless, IsFirst}
+use Rattle.ob_schema.specs.declared.preset.PresetRow.{PresetRow}
 use Rattle.ob_schema.specs.declared.schema.Schema.{Schema}
 use Rattle.ob_access.specs.Policies.{PolicyData}
 use Rattle.ob_load.specs.Access.{declared_policy}
-use Rattle.ob_load.specs.AccessFaults.{access_fault}
 use Rattle.ob_load.specs.Dependencies.{IsCyclic, IsFirstCyclic, Takes}
 use Rattle.ob_load.specs.Meaning.{models_of}
+use Rattle.ob_load.specs.Preset.{declared_preset}
 use Rattle.ob_load.specs.Reading.{Module, ReadsTo, whole}
+use Rattle.ob_load.specs.RowFaults.{modules_fault}
 use Rattle.ob_load.specs.declared.fault.FaultyModule.{FaultyModule}
 use Rattle.ob_load.specs.declared.fault.ModuleFault.TheVariants as fault
 
@@ -49,16 +51,17 @@ module _ (text : List ℕ → Option (List ℕ)) (names : List (List ℕ)) where
     pub built : IsBuilt (all_models taken) schema
     pub faultless : IsFaultless (all_models taken)
 
-  -- the registry is that of their models, all names and values fit, and the policy is what they declare over it
-  pub record IsLoaded (schema : Schema) (policy : PolicyData) : Type 0 where
+  -- the registry is that of their models, all names and values fit, and the policy and the preset are what they declare over it
+  pub record IsLoaded (schema : Schema) (policy : PolicyData) (preset : List PresetRow) : Type 0 where
     pub taken : List Module
     pub are_built : AreBuilt taken schema
-    pub fits : access_fault schema taken ≡ None
+    pub fits : modules_fault schema taken ≡ None
     pub declared : policy ≡ declared_policy schema taken
+    pub brought : preset ≡ declared_preset schema taken
 
   -- the registry is that of modules which are loaded
   abbrev pub HasRegistry : Schema → Type 0
-  HasRegistry schema = (policy : PolicyData) × IsLoaded schema policy
+  HasRegistry schema = (policy : PolicyData) × (preset : List PresetRow) × IsLoaded schema policy preset
 
   -- the first fault of their models, told in the module that has the entry
   pub record IsModelsFault (why : SchemaFault) (faulty : FaultyModule) : Type 0 where
@@ -71,15 +74,15 @@ module _ (text : List ℕ → Option (List ℕ)) (names : List (List ℕ)) where
     pub told : faulty ≡ record { name = owner.name; place = model_place entry (rank why).field; fault = fault.Schema why }
 
   -- the first name or value that doesn't fit
-  pub record IsAccessFault (faulty : FaultyModule) : Type 0 where
+  pub record IsNamesFault (faulty : FaultyModule) : Type 0 where
     pub taken : List Module
     pub schema : Schema
     pub are_built : AreBuilt taken schema
-    pub first : access_fault schema taken ≡ Some faulty
+    pub first : modules_fault schema taken ≡ Some faulty
 
   -- what stands against the texts first
   abbrev pub IsFirstFault : FaultyModule → Type 0
   IsFirstFault faulty = ReadsTo text [] (wanted names) (Err faulty)
       ⊎ ((modules : List Module) × ReadsTo text [] (wanted names) (Ok modules) × IsFirstCyclic modules faulty.name × (faulty ≡ whole faulty.name fault.Cycle))
       ⊎ ((why : SchemaFault) × IsModelsFault why faulty)
-      ⊎ IsAccessFault faulty
+      ⊎ IsNamesFault faulty

@@ -1,7 +1,8 @@
 -- Private: the words by which the rooms of the crate are joined.
-use Rattle.std.specs.Prelude.{◌≡◌, ◌≢◌, ◌≤◌, ◌⊎◌, ℕ, List, [], ◌∷◌, ◌++◌, All, Contains, codes, map, string_bytes, Bool, true, is_some, if◌then◌else◌, Option, Some, None, MatchOption, Result, IsErrOf, IfSome, ⊤, nat_eq, slice_get}
-use Rattle.std.specs.List.{AllZip, IsDistinct}
+use Rattle.std.specs.Prelude.{◌≡◌, ◌≢◌, ◌≤◌, ◌<◌, ◌⊎◌, ℕ, ◌+◌, length, false, IsSomeAnd, List, [], ◌∷◌, ◌++◌, All, Contains, codes, map, string_bytes, Bool, true, is_some, if◌then◌else◌, Option, Some, None, MatchOption, Result, IsErrOf, IfSome, ⊤, nat_eq, slice_get}
+use Rattle.std.specs.List.{AllPairs, AllZip, IsDistinct}
 use Rattle.std.specs.Str.{bytes_eq}
+use Rattle.toml.specs.Data.{Data}
 use Rattle.toml.specs.View.{table_view}
 use Rattle.ob_access.specs.Policies.{AreNamedApart, RuleData, rule_data}
 use Rattle.ob_access.specs.declared.policy.AccessLine.{AccessLine}
@@ -10,11 +11,23 @@ use Rattle.ob_access.specs.declared.policy.Rule.{Rule}
 use Rattle.ob_definition.specs.Names.{is_field_name, is_model_name}
 use Rattle.ob_domain.specs.Over.{IsOver}
 use Rattle.ob_domain.specs.Trees.{tree_of_domain}
-use Rattle.ob_schema.specs.Models.{HasModel}
+use Rattle.ob_definition.specs.Types.{is_relation}
+use Rattle.ob_schema.specs.Built as fields
+use Rattle.ob_schema.specs.Fields.{Holds}
+use Rattle.ob_schema.specs.Models.{HasModel, model_at}
+use Rattle.ob_schema.specs.Presets.{FitsModel, IsPreset, IsPresetOf}
+use Rattle.ob_schema.specs.declared.info.FieldInfo.{FieldInfo}
+use Rattle.ob_schema.specs.declared.preset.PresetRow.{PresetRow}
+use Rattle.ob_schema.specs.declared.preset.PresetValue.{PresetValue}
+use Rattle.ob_schema.specs.declared.preset.PresetValue.TheVariants as preset
 use Rattle.ob_schema.specs.declared.info.ModelInfo.{ModelInfo}
+use Rattle.ob_base.specs.declared.id.FieldNo.{FieldNo}
+use Rattle.ob_base.specs.declared.id.ModelNo.{ModelNo}
 use Rattle.ob_base.specs.declared.id.RecId.{RecId}
 use Rattle.ob_load.specs.Access.{is_among}
+use Rattle.ob_load.specs.Preset.{Ref, group_model, ref_from, rows_from}
 use Rattle.ob_load.specs.declared.access.Declared.{Declared}
+use Rattle.ob_load.specs.declared.rows.Brought.{Brought}
 use Rattle.ob_load.specs.declared.fault.FaultyModule.{FaultyModule}
 use Rattle.ob_load.specs.declared.fault.LoadFault.{LoadFault}
 use Rattle.ob_load.specs.declared.fault.LoadFault.TheVariants as load
@@ -143,3 +156,52 @@ pub record GrowsBy (models : List ModelInfo) (count : ℕ) (old new : Declared) 
   pub lines_grow : new.lines ≡ old.lines ++ lines
   pub rules_grow : map rule_data new.rules ≡ map rule_data old.rules ++ rules
   pub consistent : AreConsistent models count old → AreConsistent models count new
+
+-- ---- preset rows
+
+-- a plain value is one that the field may hold, and the field is no relation
+abbrev pub IsPlainHeld : FieldInfo → PresetValue → Type 0
+IsPlainHeld field (preset.Plain v) = Holds field v × (is_relation field.field_type ≡ false)
+IsPlainHeld field _ = ⊤
+
+-- a row fits its model behind these, and behind any
+abbrev pub FitsBehind : List ModelInfo → List PresetRow → PresetRow → Type 0
+FitsBehind models before row = IsSomeAnd (model_at models row.model) (λ info. FitsModel before info row)
+
+abbrev pub FitsAnywhere : List ModelInfo → PresetRow → Type 0
+FitsAnywhere models row = (before : List PresetRow) → FitsBehind models before row
+
+-- among these rows are those of so many groups, and behind them the named ones
+pub record IsBehind (models : List ModelInfo) (first : ℕ) (refs : List Ref) (before : List PresetRow) : Type 0 where
+  pub placed : (i : ℕ) (r : Ref) → slice_get refs i ≡ Some r → IsSomeAnd (slice_get before (first + i)) (λ row. row.model ≡ r.1)
+  pub grouped : (i : ℕ) (model : ModelNo) → i < first → group_model models ≡ Some model → IsSomeAnd (slice_get before i) (λ row. row.model ≡ model)
+
+-- where there is a model for them, these groups have rows
+abbrev pub HaveRows : List ModelInfo → List (List ℕ) → ℕ → Type 0
+HaveRows models groups first = (model : ModelNo) → group_model models ≡ Some model → length groups ≤ first
+
+-- what was brought is a preset, and its rows are named
+pub record AreBrought (models : List ModelInfo) (brought : Brought) : Type 0 where
+  pub fit : IsPreset models brought.rows
+  pub behind : IsBehind models brought.first brought.refs brought.rows
+  pub count : length brought.rows ≡ brought.first + length brought.refs
+
+-- values fit numbered fields behind these rows, no two of them the same
+pub record AreFitting (before : List PresetRow) (own : List FieldInfo) (values : List (FieldNo × PresetValue)) : Type 0 where
+  pub apart : AllPairs (λ a b. a.0 ≢ b.0) values
+  pub fit : All (λ given. IsSomeAnd (fields.numbered own given.0.0) (λ field. IsPresetOf before field given.1)) values
+
+-- values of a row that may name these groups, and these rows behind so many of groups, fit fields behind all that were brought so far
+abbrev pub AreGivenTo : List ModelInfo → List (List ℕ) → ℕ → List Ref → List FieldInfo → List (FieldNo × PresetValue) → Type 0
+AreGivenTo models groups first refs own values = HaveRows models groups first → (before : List PresetRow) → IsBehind models first refs before → AreFitting before own values
+
+-- so does such a row fit its model
+abbrev pub IsGivenRow : List ModelInfo → List (List ℕ) → ℕ → List Ref → PresetRow → Type 0
+IsGivenRow models groups first refs row = HaveRows models groups first → (before : List PresetRow) → IsBehind models first refs before → FitsBehind models before row
+
+-- to what was brought the rows of these entries were added
+pub record BringsOn (models : List ModelInfo) (groups : List (List ℕ)) (owner : List ℕ) (entries : List Data) (old new : Brought) : Type 0 where
+  pub first_stays : new.first ≡ old.first
+  pub refs_grow : new.refs ≡ old.refs ++ map (ref_from models owner) entries
+  pub rows_grow : new.rows ≡ old.rows ++ rows_from models groups old.first old.refs owner entries
+  pub brought : HaveRows models groups old.first → AreBrought models old → AreBrought models new

@@ -182,7 +182,7 @@ impl Scope<'_> {
         ensures read { IfErr result IsOfText }
     {
         self.test_groups(entry, "implies")?;
-        let name = self.free_name(taken, entry)?;
+        let name = self.group_name(taken, entry)?;
         let implies = match self.groups_listed(entry.value, "implies")? {
             Some(implies) => implies,
             None => RefList::new(self.alloc),

@@ -18,6 +18,7 @@ use crate::reading::refused_at;
 use crate::scope::{GroupName, Scope, group_id, is_among};
 use crate::tables::{str_at, word_at};
 use crate::wrong::Wrong;
+use ob_base::limits::MAX_CHAR_BYTES;
 use ob_base::{ModelNo, NoMemory, Place, RecId, Word};
 use ob_domain::{Domain, DomainFault, Json, one_domain, read};
 use ob_schema::Schema;
@@ -100,6 +101,22 @@ impl Scope<'_> {
         Ok(name)
     }
 
+    /// The full name of a group, where its row may have it and it is none of those that are
+    /// taken.
+    pub(crate) fn group_name(&self, taken: &[Word], entry: Entry<'_>) -> Result<Word, LoadFault>
+        ensures fits { IfOk result (λ _. fits.name_fits taken.now self.now.owner.now (view entry.entry.value.now) ≡ None) }
+        ensures named { IfOk result (λ name. name ≡ spec.name_of self.now.owner.now (view entry.entry.value.now)) }
+        ensures fault { Tells result (fits.form_fault self.now.owner.now (fits.in_entry entry.entry.table.now entry.entry.number
+            (fits.name_fits taken.now self.now.owner.now (view entry.entry.value.now)))) }
+        ensures read { IfErr result IsOfText }
+    {
+        let name = self.name_of(entry.value)?;
+        if name.as_str().len() > MAX_CHAR_BYTES {
+            return Err(self.refused_key(entry, "name"));
+        }
+        self.free_name(taken, entry)
+    }
+
     /// The domain of a rule over a model, where its text is one.
     pub(crate) fn domain_of(&self, model: ModelNo, entry: Entry<'_>) -> Result<Domain, LoadFault>
         requires { HasModel self.now.schema.now model }
@@ -125,7 +142,7 @@ impl Scope<'_> {
     }
 
     /// What is told of a key of an entry that names nothing, or whose name is taken.
-    fn refused_key(&self, entry: Entry<'_>, key: &str) -> LoadFault
+    pub(crate) fn refused_key(&self, entry: Entry<'_>, key: &str) -> LoadFault
         ensures told { Refuses (record { name = self.now.owner.now; place = Key entry.entry.table.now ∷ (Item entry.entry.number ∷ (Key key.now ∷ [])); fault = ModuleFault.Form }) result }
         ensures read { IsOfText result }
     {
@@ -136,7 +153,7 @@ impl Scope<'_> {
     }
 
     /// What is told of an entry in which something is wrong.
-    fn refused(&self, entry: Entry<'_>, wrong: Wrong, fault: ModuleFault) -> LoadFault
+    pub(crate) fn refused(&self, entry: Entry<'_>, wrong: Wrong, fault: ModuleFault) -> LoadFault
         requires { fault ≢ ModuleFault.Absent }
         ensures told { Refuses (record { name = self.now.owner.now; place = Key entry.entry.table.now ∷ (Item entry.entry.number ∷ wrong); fault = fault }) result }
         ensures read { IsOfText result }

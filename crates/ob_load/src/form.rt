@@ -128,6 +128,18 @@ impl Form for Constant {
     }
 }
 
+/// Any table.
+#[derive(Clone, Copy)]
+pub(crate) struct AnyTable;
+
+impl Form for AnyTable {
+    ghost wrong = { λ _. forms.any_table };
+
+    fn wrong(&self, alloc: Global, value: &Value) -> Result<Option<Wrong>, NoMemory> {
+        Ok(unless(alloc, matches!(value, Value::Table(_))))
+    }
+}
+
 /// Wrong here, unless the value fits.
 pub(crate) fn unless(alloc: Global, fits: bool) -> Option<Wrong>
     ensures { result ≡ forms.unless fits }

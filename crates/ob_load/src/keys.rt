@@ -1,7 +1,7 @@
 //! Which keys the tables of a module's text have. A key of the format that is added has its
 //! line here and in `specs/Keys`, and its meaning in `definitions` and `specs/Meaning`.
 
-ghost use Rattle.std.specs.Prelude.{◌≡◌, IfOk};
+ghost use Rattle.std.specs.Prelude.{◌≡◌, IfOk, is_none};
 ghost use Rattle.ob_definition.specs.Names.{is_field_name as is_name_of_field};
 ghost use Rattle.toml.specs.Data.{table};
 ghost use Rattle.toml.specs.View.{table_view, view};
@@ -10,7 +10,8 @@ ghost use Rattle.ob_load.specs.Keys as spec;
 ghost use Rattle.ob_load.specs.Rooms.{type_key};
 
 use crate::form::{
-    AnyKey, Constant, Flag, Form, Keys, ListOf, PairOf, TableOf, Text, absent, wrong_member,
+    AnyKey, AnyTable, Constant, Flag, Form, Keys, ListOf, PairOf, TableOf, Text, absent,
+    wrong_member,
 };
 use crate::tables::has;
 use crate::wrong::Wrong;
@@ -210,6 +211,70 @@ impl Keys for RuleKeys {
     }
 }
 
+/// The keys of a row.
+#[derive(Clone, Copy)]
+struct RowKeys;
+
+impl Keys for RowKeys {
+    ghost use Rattle.std.specs.Prelude.{◌∷◌, [], codes};
+
+    ghost keys = { λ _. spec.among spec.row_keys };
+
+    ghost missing = { λ _. forms.first_absent (codes "model" ∷ codes "ref" ∷ codes "values" ∷ []) };
+
+    fn wrong(&self, alloc: Global, key: &str, value: &Value) -> Result<Option<Wrong>, NoMemory> {
+        match key {
+            "model" | "ref" => Text::Any.wrong(alloc, value),
+            "values" => AnyTable.wrong(alloc, value),
+            _ => Ok(Some(Wrong::here(alloc))),
+        }
+    }
+
+    fn missing(&self, table: &Table) -> Option<&'static str> {
+        if !has(table, "model") {
+            Some("model")
+        } else if !has(table, "ref") {
+            Some("ref")
+        } else {
+            absent(table, "values")
+        }
+    }
+}
+
+/// The key of what names a row.
+#[derive(Clone, Copy)]
+struct ReferenceKeys;
+
+impl Keys for ReferenceKeys {
+    ghost use Rattle.std.specs.Prelude.{codes};
+
+    ghost keys = { λ _. spec.among spec.reference_keys };
+
+    ghost missing = { λ _. forms.absent (codes "ref") };
+
+    fn wrong(&self, alloc: Global, key: &str, value: &Value) -> Result<Option<Wrong>, NoMemory> {
+        match key {
+            "ref" => Text::Any.wrong(alloc, value),
+            _ => Ok(Some(Wrong::here(alloc))),
+        }
+    }
+
+    fn missing(&self, table: &Table) -> Option<&'static str> {
+        absent(table, "ref")
+    }
+}
+
+/// Whether a value is a table that names a row and does nothing else.
+pub(crate) fn is_reference(alloc: Global, value: &Value) -> Result<bool, NoMemory>
+    ensures { IfOk result (λ is. is ≡ is_none (spec.reference_table (view value.now))) }
+{
+    let wrong = TableOf {
+        keys: ReferenceKeys,
+    }
+    .wrong(alloc, value)?;
+    Ok(wrong.is_none())
+}
+
 /// The keys of a document, which says the name of its module.
 #[derive(Clone, Copy)]
 struct DocumentKeys<'n> {
@@ -231,6 +296,7 @@ impl<'n> Keys for DocumentKeys<'n> {
             "group" => listed(alloc, GroupKeys, value),
             "access" => listed(alloc, AccessKeys, value),
             "rule" => listed(alloc, RuleKeys, value),
+            "row" => listed(alloc, RowKeys, value),
             _ => Ok(Some(Wrong::here(alloc))),
         }
     }

@@ -6,12 +6,14 @@ ghost use Rattle.ob_io.specs.Cause.{HasCause, Rose};
 ghost use Rattle.ob_access.specs.Policies.{IsPolicyOver};
 ghost use Rattle.ob_definition.specs.Ranking.{rank};
 ghost use Rattle.ob_schema.specs.Models.{IsRegistry};
+ghost use Rattle.ob_schema.specs.Presets.{IsPreset};
 ghost use Rattle.ob_load.specs.Access.{declared_policy};
-ghost use Rattle.ob_load.specs.AccessFaults.{access_fault};
 ghost use Rattle.ob_load.specs.Loading as spec;
 ghost use Rattle.ob_load.specs.Loading.{IsFirstFault, IsLoaded};
+ghost use Rattle.ob_load.specs.Preset.{declared_preset};
 ghost use Rattle.ob_load.specs.Reading.{Module};
 ghost use Rattle.ob_load.specs.Rooms.{IsOfText, Refuses, Tells, ToldAbsent, modules_in, numbered};
+ghost use Rattle.ob_load.specs.RowFaults.{modules_fault};
 ghost use Rattle.ob_load.specs.Texts.{AgreesWith, FileTexts, text_in};
 ghost use Rattle.ob_load.specs.declared.fault.FaultyModule.{FaultyModule};
 
@@ -19,13 +21,13 @@ use crate::definitions::add_models;
 use crate::dependencies::{first_cyclic, in_order};
 use crate::fault::{LoadFault, ModuleFault};
 use crate::modules::Modules;
-use crate::policy::policy_of;
+use crate::policy::meaning_of;
 use crate::reading::{read_modules, refused, refused_at};
 use crate::tables::listed_at;
 use ob_access::Policy;
 use ob_base::{NoMemory, PathStep, Place, Sequence, Word};
 use ob_io::Files;
-use ob_schema::{ModelDef, Schema, SchemaFault};
+use ob_schema::{ModelDef, Preset, Schema, SchemaFault};
 use std::alloc::Global;
 
 /// What modules mean.
@@ -35,6 +37,8 @@ pub struct Loaded {
     pub schema: Schema,
     /// The policy of their groups, access lines and rules over that registry.
     pub policy: Policy,
+    /// The rows that a new store gets: those of their groups, then those of their tables `row`.
+    pub preset: Preset,
 }
 
 /// Loads the modules of these names: `base` and `stock` first, which stand inside the
@@ -43,7 +47,7 @@ pub struct Loaded {
 /// text or its form, in the order of reading; then the first module in this order that
 /// depends on itself; then the first fault of all models, in the order in which modules are
 /// taken, each after those on which it depends; then, in this order of modules, the first name
-/// or value of their fields, groups, access lines and rules that doesn't fit.
+/// or value of their fields, groups, access lines, rules and rows that doesn't fit.
 pub fn load<F: Files>(
     alloc: Global,
     files: &mut F,
@@ -53,15 +57,16 @@ pub fn load<F: Files>(
     // The meaning of the texts, or their first fault. Where the files tell what they hold, these
     // are the texts; where they don't, each name has one text.
     ensures loaded { IfOk result (λ loaded. (texts : FileTexts) × AgreesWith (F.texts files.old) texts
-        × IsLoaded (text_in texts folder.now) names.now loaded.schema loaded.policy) }
+        × IsLoaded (text_in texts folder.now) names.now loaded.schema loaded.policy loaded.preset.rows) }
     ensures fault { (faulty : FaultyModule) → IsErrOf result (LoadFault.Module faulty)
         → (texts : FileTexts) × AgreesWith (F.texts files.old) texts
         × IsFirstFault (text_in texts folder.now) names.now faulty }
 
-    // Whatever files tell: the registry is sound, the policy is one over it, `File` comes only
-    // where their count rose, and so does `Absent` where they don't tell.
+    // Whatever files tell: the registry is sound, the policy and the preset are over it, `File`
+    // comes only where their count rose, and so does `Absent` where they don't tell.
     ensures sound { IfOk result (λ loaded. IsRegistry loaded.schema) }
     ensures over { IfOk result (λ loaded. IsPolicyOver loaded.schema loaded.policy) }
+    ensures preset { IfOk result (λ loaded. IsPreset loaded.schema loaded.preset.rows) }
     ensures cause { HasCause (F.faults files.old) (F.faults files.new)
         (IsErrOf result LoadFault.File) }
     ensures absent { IfErr result
@@ -75,14 +80,15 @@ pub fn load<F: Files>(
     let taken = in_order(alloc, &modules, names)?;
     let models = all_models(alloc, &modules, &taken)?;
     match Schema::build(alloc, models.as_slice()) {
-        Ok(schema) => with_policy(alloc, schema, &modules, &taken),
+        Ok(schema) => with_meaning(alloc, schema, &modules, &taken),
         Err(SchemaFault::NoMemory) => Err(LoadFault::NoMemory),
         Err(fault) => Err(models_fault(alloc, &modules, &taken, fault)),
     }
 }
 
-/// The registry of modules, and the policy that they declare over it.
-fn with_policy(
+/// The registry of modules, with the policy that they declare over it and the rows that they
+/// bring.
+fn with_meaning(
     alloc: Global,
     schema: Schema,
     modules: &Modules,
@@ -90,14 +96,20 @@ fn with_policy(
 ) -> Result<Loaded, LoadFault>
     requires { (all : List Module) × numbered (modules_in modules.now) taken.now all }
     ensures same { IfOk result (λ loaded. loaded.schema ≡ schema) }
-    ensures fits { IfOk result (λ _. (all : List Module) → numbered (modules_in modules.now) taken.now all → access_fault schema all ≡ None) }
+    ensures fits { IfOk result (λ _. (all : List Module) → numbered (modules_in modules.now) taken.now all → modules_fault schema all ≡ None) }
     ensures declared { IfOk result (λ loaded. (all : List Module) → numbered (modules_in modules.now) taken.now all → loaded.policy ≡ declared_policy schema all) }
+    ensures brought { IfOk result (λ loaded. (all : List Module) → numbered (modules_in modules.now) taken.now all → loaded.preset.rows ≡ declared_preset schema all) }
     ensures over { IfOk result (λ loaded. IsPolicyOver loaded.schema loaded.policy) }
-    ensures fault { (all : List Module) → numbered (modules_in modules.now) taken.now all → Tells result (access_fault schema all) }
+    ensures preset { IfOk result (λ loaded. IsPreset loaded.schema loaded.preset.rows) }
+    ensures fault { (all : List Module) → numbered (modules_in modules.now) taken.now all → Tells result (modules_fault schema all) }
     ensures read { IfErr result IsOfText }
 {
-    let policy = policy_of(alloc, &schema, modules, taken)?;
-    Ok(Loaded { schema, policy })
+    let (policy, preset) = meaning_of(alloc, &schema, modules, taken)?;
+    Ok(Loaded {
+        schema,
+        policy,
+        preset,
+    })
 }
 
 /// The models of modules, one after another.

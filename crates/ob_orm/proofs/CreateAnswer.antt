@@ -1,5 +1,5 @@
 -- What a create answers over an engine, from what its steps say.
-use Rattle.std.proofs.Common.{◌≡◌, ℕ, ℤ, ◌≤◌, ◌⊎◌, ◌∷◌, [], List, Option, Some, None, option_map, Result, Ok, Err, inl, inr, refl, sym, ap, subst, ◌∙◌, arith, w64}
+use Rattle.std.proofs.Common.{◌≡◌, ℕ, ℤ, ◌≤◌, ◌∷◌, [], List, Option, Some, None, option_map, Result, Ok, Err, inl, inr, refl, sym, ap, subst, ◌∙◌, arith, w64}
 use Rattle.std.specs.Int.{cast_signed, cast_unsigned}
 use Rattle.std.specs.Prelude.{FitsSigned, IfErr, IfOk, IfSome, IsSome, IsSomeAnd, MatchResult, false, true, ⊤}
 use Rattle.std.proofs.lemmas.Bool.{false≢true}
@@ -30,9 +30,10 @@ use Rattle.ob_io.specs.Cause.{Rose}
 use Rattle.ob_io.specs.Store.{Store}
 use Rattle.ob_schema.specs.Broken.{Sound}
 use Rattle.ob_schema.specs.Models.{HasModel, model_at}
-use Rattle.ob_schema.specs.Tables.{Tables, next_of}
+use Rattle.ob_schema.specs.Tables.{Tables}
 use Rattle.ob_schema.specs.declared.info.ModelInfo.{ModelInfo}
-use Rattle.ob_orm.specs.Create.{CreateCause, Creates, create_expects, created_rows, ids_told, made, rows_from, rows_in}
+use Rattle.ob_orm.specs.Create.{CreateCause, Creates, create_expects, created_rows, ids_told, rows_from, rows_in, values_of}
+use Rattle.ob_orm.specs.NewRows.{MadeRows, made_rows}
 use Rattle.ob_orm.specs.CreateSteps.{BreaksField, IsBrokenBy}
 use Rattle.ob_orm.specs.declared.creating.rows.Rows.{Rows}
 use Rattle.ob_orm.proofs.CreateRows.{Asks}
@@ -64,39 +65,39 @@ moment_passed now moment = let fits : FitsSigned w64 now = (let low = moment.low
 -- ---- the rows that the arguments give
 
 -- the rows of a call, or what is wrong with them
-abbrev pub rows_by : Call → ModelInfo → Result Rows (List PathStep)
-rows_by call info = created_rows (called_by call info)
+abbrev pub rows_by : List ModelInfo → Call → ModelInfo → Result Rows (List PathStep)
+rows_by models call info = created_rows models (called_by call info)
 
 -- what the arguments are over the fields of the model
 abbrev pub CreateGives : List ModelInfo → Call → List (Option Given) → Type 0
-CreateGives models call items = arguments_of (create_expects (fields_at models call.model)) (view call.args.now) (view call.kw.now) ≡ Ok (all_given_of items)
+CreateGives models call items = arguments_of (create_expects models (fields_at models call.model)) (view call.args.now) (view call.kw.now) ≡ Ok (all_given_of items)
 
 -- its result is that of the rows
 abbrev pub GivesRows : List ModelInfo → Call → Result Rows Refusal → Type 0
-GivesRows models call r = IfSome (model_at models call.model) (λ info. Asks r (rows_by call info))
+GivesRows models call r = IfSome (model_at models call.model) (λ info. Asks r (rows_by models call info))
 
 -- arguments that are refused
 pub denied_rows : {A : Type 0} (of : A → List (Option arguments.Given)) (models : List ModelInfo) (call : Call) (why : Refusal)
-    → IsResultOf of (Err why) (arguments_of (create_expects (fields_at models call.model)) (view call.args.now) (view call.kw.now)) → GivesRows models call (Err why)
+    → IsResultOf of (Err why) (arguments_of (create_expects models (fields_at models call.model)) (view call.args.now) (view call.kw.now)) → GivesRows models call (Err why)
 denied_rows of models call (refusal.Request place) e =
-    known_of (model_at models call.model) (λ info. arguments_of (create_expects info.fields) (view call.args.now) (view call.kw.now) ≡ Err place) (λ info. rows_by call info ≡ Err place)
-    (λ info is. ap (λ (r : Result (List (Option arguments.Given)) (List PathStep)). r >>= rows_from info call.now) is)
-    (at_info models call.model (λ fields. arguments_of (create_expects fields) (view call.args.now) (view call.kw.now) ≡ Err place) e)
+    known_of (model_at models call.model) (λ info. arguments_of (create_expects models info.fields) (view call.args.now) (view call.kw.now) ≡ Err place) (λ info. rows_by models call info ≡ Err place)
+    (λ info is. ap (λ (r : Result (List (Option arguments.Given)) (List PathStep)). r >>= rows_from models info) is)
+    (at_info models call.model (λ fields. arguments_of (create_expects models fields) (view call.args.now) (view call.kw.now) ≡ Err place) e)
 denied_rows of models call refusal.NoMemory e = everywhere (model_at models call.model) (λ info. ⊤) (λ info. tt)
 denied_rows of models call _ e = absurd e
 
 -- rows that are taken or refused
-pub rows_passed : (models : List ModelInfo) (call : Call) (items : List (Option Given)) (vals : Given) (passed : ℤ) (r : Result Rows Refusal) → passed ≡ call.now → items ≡ Some vals ∷ [] → CreateGives models call items
-    → IfSome (model_at models call.model) (λ info. Asks r (rows_in info passed (spot_place vals.spot) (view vals.json.now))) → GivesRows models call r
-rows_passed models call items vals passed r is one gives rows =
-    by (model_at models call.model) (at_info models call.model (λ fields. arguments_of (create_expects fields) (view call.args.now) (view call.kw.now) ≡ Ok (all_given_of items)) gives) rows where
-      by : (o : Option ModelInfo) → IfSome o (λ info. arguments_of (create_expects info.fields) (view call.args.now) (view call.kw.now) ≡ Ok (all_given_of items))
-          → IfSome o (λ info. Asks r (rows_in info passed (spot_place vals.spot) (view vals.json.now))) → IfSome o (λ info. Asks r (rows_by call info))
+pub rows_passed : (models : List ModelInfo) (call : Call) (items : List (Option Given)) (vals : Given) (r : Result Rows Refusal) → items ≡ Some vals ∷ [] → CreateGives models call items
+    → IfSome (model_at models call.model) (λ info. Asks r (rows_in models info (spot_place vals.spot) (view vals.json.now))) → GivesRows models call r
+rows_passed models call items vals r one gives rows =
+    by (model_at models call.model) (at_info models call.model (λ fields. arguments_of (create_expects models fields) (view call.args.now) (view call.kw.now) ≡ Ok (all_given_of items)) gives) rows where
+      by : (o : Option ModelInfo) → IfSome o (λ info. arguments_of (create_expects models info.fields) (view call.args.now) (view call.kw.now) ≡ Ok (all_given_of items))
+          → IfSome o (λ info. Asks r (rows_in models info (spot_place vals.spot) (view vals.json.now))) → IfSome o (λ info. Asks r (rows_by models call info))
       by None gives rows = tt
       by (Some info) gives rows =
-          let e : rows_in info passed (spot_place vals.spot) (view vals.json.now) ≡ rows_by call info =
-          ap (λ (n : ℤ). rows_in info n (spot_place vals.spot) (view vals.json.now)) is ∙ sym (ap (λ (gs : List (Option Given)). rows_from info call.now (all_given_of gs)) one)
-          ∙ sym (ap (λ (r : Result (List (Option arguments.Given)) (List PathStep)). r >>= rows_from info call.now) gives) in
+          let e : rows_in models info (spot_place vals.spot) (view vals.json.now) ≡ rows_by models call info =
+          sym (ap (λ (gs : List (Option Given)). rows_from models info (all_given_of gs)) one)
+          ∙ sym (ap (λ (r : Result (List (Option arguments.Given)) (List PathStep)). r >>= rows_from models info) gives) in
           subst (Asks r) e rows
 
 -- an argument that must be given is
@@ -124,13 +125,17 @@ AnswersCreate call before after r = (tables : Tables) → HasTables before table
 -- which rests still
 pub rows_answer : (at : Standpoint) (call : Call) (why : Refusal) → HasModel (models_at at) call.model → GivesRows (models_at at) call (Err why) → AnswersCreate call at at (Err why)
 rows_answer at call (refusal.Request place) there wrong = λ tables rests.
-    known_of (model_at (models_at at) call.model) (λ info. rows_by call info ≡ Err place)
+    known_of (model_at (models_at at) call.model) (λ info. rows_by (models_at at) call info ≡ Err place)
     (λ info. AnswersBy (Creates (models_at at) (called_by call info)) at at tables (Err (refusal.Request place))) (λ info is. ((is, refl), rests)) wrong
 rows_answer at call refusal.NoMemory there wrong = λ tables rests.
     everywhere (model_at (models_at at) call.model) (λ info. AnswersBy (Creates (models_at at) (called_by call info)) at at tables (Err refusal.NoMemory)) (λ info. (tt, rests))
 rows_answer at call _ there wrong = absurd (nowhere (model_at (models_at at) call.model) there wrong)
 
 -- ---- what is carried out
+
+-- the rows that a call makes
+abbrev pub all_made : List ModelInfo → Call → Tables → Rows → MadeRows
+all_made models call tables asked = made_rows models call.now tables call.model (values_of asked)
 
 -- tables that were settled are sound
 pub sound_in : (models : List ModelInfo) (old tables : Tables) (kept : Option Store) → IsSomeAnd kept (StandsOver (settled_over models old tables)) → Sound models tables
@@ -139,41 +144,41 @@ sound_in models old tables (Some store) over = (over.settled (λ e. cc)).sound
 
 module _ (before after : Standpoint) (call : Call) (asked : Rows) (gives : GivesRows (models_at before) call (Ok asked)) where
   -- what the tables with the rows break refuses the create
-  breaks : (info : ModelInfo) (tables : Tables) → rows_by call info ≡ Ok asked → (w : Refusal) → IsBrokenBy (models_at before) (made (models_at before) call.model tables asked) w
+  breaks : (info : ModelInfo) (tables : Tables) → rows_by (models_at before) call info ≡ Ok asked → (w : Refusal) → IsBrokenBy (models_at before) (all_made (models_at before) call tables asked).tables w
       → Creates (models_at before) (called_by call info) tables (Err w) tables
   breaks info tables is (refusal.Constraint b) h = ((asked, is, h), refl)
   breaks info tables is _ h = absurd h
 
   -- rows that aren't settled
-  unmade_answer : (why : Refusal) → ((tables : Tables) → HasTables before tables → HasTables after tables × Refuses (KeeperRose before after) (IsBrokenBy (models_at before) (made (models_at before) call.model tables asked)) why)
+  unmade_answer : (why : Refusal) → ((tables : Tables) → HasTables before tables → HasTables after tables × Refuses (KeeperRose before after) (IsBrokenBy (models_at before) (all_made (models_at before) call tables asked).tables) why)
       → AnswersCreate call before after (Err why)
   unmade_answer why refused tables rests =
       let own = refused tables rests in
-      known_of (model_at (models_at before) call.model) (λ info. rows_by call info ≡ Ok asked) (λ info. AnswersBy (Creates (models_at before) (called_by call info)) before after tables (Err why))
+      known_of (model_at (models_at before) call.model) (λ info. rows_by (models_at before) call info ≡ Ok asked) (λ info. AnswersBy (Creates (models_at before) (called_by call info)) before after tables (Err why))
       (λ info is. (
-        Refuses-weaker (KeeperRose before after) (KeeperRose before after) (IsBrokenBy (models_at before) (made (models_at before) call.model tables asked))
+        Refuses-weaker (KeeperRose before after) (KeeperRose before after) (IsBrokenBy (models_at before) (all_made (models_at before) call tables asked).tables)
             (λ cause. Creates (models_at before) (called_by call info) tables (Err cause) tables) why (λ risen. risen) (breaks info tables is) own.1,
         own.0,
       )) gives
 
   -- and those that are
   made_answer : (json : Data) → IsAtRest (models_at before) after.held
-      → ((tables : Tables) → HasTables before tables → (json ≡ ids_told (next_of tables call.model) asked)
-      × Stands after.kept after.held (settled_over (models_at before) tables (made (models_at before) call.model tables asked)))
+      → ((tables : Tables) → HasTables before tables → (json ≡ ids_told asked (all_made (models_at before) call tables asked).ids)
+      × Stands after.kept after.held (settled_over (models_at before) tables (all_made (models_at before) call tables asked).tables))
       → AnswersCreate call before after (Ok json)
   made_answer json rest settled tables rests =
       let (told, stands) = settled tables rests in
       let models = models_at before in
-      let new = made models call.model tables asked in
+      let new = (all_made models call tables asked).tables in
       let here : Stands after.kept after.held (settled_over after.held.models tables new) = subst (λ (ms : List ModelInfo). Stands after.kept after.held (settled_over ms tables new)) (sym rest.models_are) stands in
-      known_of (model_at models call.model) (λ info. rows_by call info ≡ Ok asked) (λ info. AnswersBy (Creates models (called_by call info)) before after tables (Ok json))
+      known_of (model_at models call.model) (λ info. rows_by (models_at before) call info ≡ Ok asked) (λ info. AnswersBy (Creates models (called_by call info)) before after tables (Ok json))
       (λ info given. (new, record { asked = asked; given = given; tables = refl; sound = sound_in models tables new after.kept stands.over; answer = told }, here)) gives
 
   -- whatever came of them
   pub outcome_answer : (r : Result Json Refusal) → IsAtRest (models_at before) after.held
-      → IfOk r (λ json. (tables : Tables) → HasTables before tables → (view json ≡ ids_told (next_of tables call.model) asked)
-      × Stands after.kept after.held (settled_over (models_at before) tables (made (models_at before) call.model tables asked)))
-      → IfErr r (λ why. (tables : Tables) → HasTables before tables → HasTables after tables × Refuses (KeeperRose before after) (IsBrokenBy (models_at before) (made (models_at before) call.model tables asked)) why)
+      → IfOk r (λ json. (tables : Tables) → HasTables before tables → (view json ≡ ids_told asked (all_made (models_at before) call tables asked).ids)
+      × Stands after.kept after.held (settled_over (models_at before) tables (all_made (models_at before) call tables asked).tables))
+      → IfErr r (λ why. (tables : Tables) → HasTables before tables → HasTables after tables × Refuses (KeeperRose before after) (IsBrokenBy (models_at before) (all_made (models_at before) call tables asked).tables) why)
       → AnswersCreate call before after (result_view r)
   outcome_answer (Ok json) rest settled refused = made_answer (view json) rest settled
   outcome_answer (Err why) rest settled refused = unmade_answer why refused

@@ -1,5 +1,5 @@
 -- The rows that the objects of a list give, one after another.
-use Rattle.std.proofs.Common.{◌≡◌, ◌≤◌, ◌<◌, ◌+◌, ◌∷◌, [], ◌++◌, ℕ, ℤ, List, drop, get_or, length, map, Option, Some, None, Result, Ok, Err, append-nil, append_assoc, true, refl, sym, ap, subst, ◌∙◌}
+use Rattle.std.proofs.Common.{◌≡◌, ◌≤◌, ◌<◌, ◌+◌, ◌∷◌, [], ◌++◌, ℕ, List, drop, get_or, length, map, Option, Some, None, Result, Ok, Err, append-nil, append_assoc, true, refl, sym, ap, subst, ◌∙◌}
 use Rattle.std.specs.Prelude.{IfSome}
 use Rattle.std.proofs.lemmas.List.{drop_all, drop_more}
 use Rattle.serde_json.specs.Data.{Data, array}
@@ -17,11 +17,11 @@ use Rattle.ob_call.specs.Results.{IsResultOf}
 use Rattle.ob_schema.specs.declared.info.ModelInfo.{ModelInfo}
 use Rattle.ob_orm.specs.Create.{each_row, rows_in}
 use Rattle.ob_orm.specs.Objects.{items_at}
-use Rattle.ob_orm.specs.RowValues.{values_from}
+use Rattle.ob_orm.specs.GivenValues.{given_from}
 use Rattle.ob_orm.specs.declared.creating.rows.Rows.{Rows}
 use Rattle.ob_orm.specs.declared.creating.rows.Rows.TheVariants as rows
 use Rattle.ob_orm.proofs.ObjectPlaces.{array_found}
-use Rattle.ob_orm.proofs.RowValues.{Values}
+use Rattle.ob_orm.specs.NewRows.{Values}
 
 -- what comes behind rows
 abbrev pub behind : List Values → Result (List Values) (List PathStep) → Result (List Values) (List PathStep)
@@ -42,18 +42,18 @@ refused-whole of of' (refusal.Request place) part whole up h = up place h
 refused-whole of of' refusal.NoMemory part whole up h = tt
 refused-whole of of' _ part whole up h = absurd h
 
-module _ (now : ℤ) (place : List PathStep) (items : List Json) where
+module _ (models : List ModelInfo) (place : List PathStep) (items : List Json) where
   -- the objects from a number on, each at its place
   abbrev pub from : ℕ → List Given
   from i = items_at place i (map view (drop i items))
 
   -- with what is left to give the rows are those of the list
   pub record EachSoFar (info : ModelInfo) (i : ℕ) (each : List Values) : Type 0 where
-    pub same : each_row info now (items_at place 0 (map view items)) ≡ behind each (each_row info now (from i))
+    pub same : each_row models info (items_at place 0 (map view items)) ≡ behind each (each_row models info (from i))
 
   -- at first there are none
   pub each_none : (info : ModelInfo) → EachSoFar info 0 []
-  each_none info = record { same = behind_none (each_row info now (items_at place 0 (map view items))) }
+  each_none info = record { same = behind_none (each_row models info (items_at place 0 (map view items))) }
 
   -- the object at a number, and where it stands
   abbrev pub object_at : ℕ → Json → Given
@@ -61,32 +61,32 @@ module _ (now : ℤ) (place : List PathStep) (items : List Json) where
 
   -- before those that follow it
   next : (info : ModelInfo) (i : ℕ) (item : Json) → i < length items → item ≡ get_or items i item
-      → each_row info now (from i) ≡ (values_from true info now (Some (object_at i item)) >>= λ values. each_row info now (from (i + 1)) >>= λ more. Ok (values ∷ more))
+      → each_row models info (from i) ≡ (given_from models info (object_at i item) >>= λ values. each_row models info (from (i + 1)) >>= λ more. Ok (values ∷ more))
   next info i item lt is =
-      ap (λ (vs : List Json). each_row info now (items_at place i (map view vs))) (drop_more items i item lt ∙ ap (λ (v : Json). v ∷ drop (i + 1) items) (sym is))
+      ap (λ (vs : List Json). each_row models info (items_at place i (map view vs))) (drop_more items i item lt ∙ ap (λ (v : Json). v ∷ drop (i + 1) items) (sym is))
 
   -- one row more
-  each_more : (info : ModelInfo) (i : ℕ) (item : Json) (each : List Values) (values : Values) → i < length items → item ≡ get_or items i item → values_from true info now (Some (object_at i item)) ≡ Ok values
+  each_more : (info : ModelInfo) (i : ℕ) (item : Json) (each : List Values) (values : Values) → i < length items → item ≡ get_or items i item → given_from models info (object_at i item) ≡ Ok values
       → EachSoFar info i each → EachSoFar info (i + 1) (each ++ values ∷ [])
   each_more info i item each values lt is gives far = record {
     same = far.same
-        ∙ ap (behind each) (next info i item lt is ∙ ap (λ (r : Result Values (List PathStep)). r >>= λ values. each_row info now (from (i + 1)) >>= λ more. Ok (values ∷ more)) gives)
-        ∙ behind_more each values (each_row info now (from (i + 1)));
+        ∙ ap (behind each) (next info i item lt is ∙ ap (λ (r : Result Values (List PathStep)). r >>= λ values. each_row models info (from (i + 1)) >>= λ more. Ok (values ∷ more)) gives)
+        ∙ behind_more each values (each_row models info (from (i + 1)));
   }
 
   -- a value that is wrong refuses them all
   each_refused : (info : ModelInfo) (i : ℕ) (item : Json) (each : List Values) (why : Refusal) → i < length items → item ≡ get_or items i item
-      → IsResultOf (λ (values : Values). values) (Err why) (values_from true info now (Some (object_at i item)))
-      → EachSoFar info i each → IsResultOf (λ (all : List Values). all) (Err why) (each_row info now (items_at place 0 (map view items)))
+      → IsResultOf (λ (values : Values). values) (Err why) (given_from models info (object_at i item))
+      → EachSoFar info i each → IsResultOf (λ (all : List Values). all) (Err why) (each_row models info (items_at place 0 (map view items)))
   each_refused info i item each why lt is wrong far =
-      refused-whole (λ (values : Values). values) (λ (all : List Values). all) why (values_from true info now (Some (object_at i item))) (each_row info now (items_at place 0 (map view items)))
+      refused-whole (λ (values : Values). values) (λ (all : List Values). all) why (given_from models info (object_at i item)) (each_row models info (items_at place 0 (map view items)))
       (λ told e. far.same
-      ∙ ap (behind each) (next info i item lt is ∙ ap (λ (r : Result Values (List PathStep)). r >>= λ values. each_row info now (from (i + 1)) >>= λ more. Ok (values ∷ more)) e)) wrong
+      ∙ ap (behind each) (next info i item lt is ∙ ap (λ (r : Result Values (List PathStep)). r >>= λ values. each_row models info (from (i + 1)) >>= λ more. Ok (values ∷ more)) e)) wrong
 
   -- at last they are the rows
-  each_all : (info : ModelInfo) (i : ℕ) (each : List Values) → length items ≤ i → EachSoFar info i each → each_row info now (items_at place 0 (map view items)) ≡ Ok each
+  each_all : (info : ModelInfo) (i : ℕ) (each : List Values) → length items ≤ i → EachSoFar info i each → each_row models info (items_at place 0 (map view items)) ≡ Ok each
   each_all info i each past far =
-      far.same ∙ ap (λ (vs : List Json). behind each (each_row info now (items_at place i (map view vs)))) (drop_all i items past) ∙ ap Ok (append-nil each)
+      far.same ∙ ap (λ (vs : List Json). behind each (each_row models info (items_at place i (map view vs)))) (drop_all i items past) ∙ ap Ok (append-nil each)
 
   -- ---- of a model that may be there
 
@@ -100,27 +100,21 @@ module _ (now : ℤ) (place : List PathStep) (items : List Json) where
   module _ (i : ℕ) (item : Json) (each : List Values) (lt : i < length items) (is : item ≡ get_or items i item) where
     -- what the object gives
     abbrev pub Gives : Option ModelInfo → Result Values Refusal → Type 0
-    Gives o r = IfSome o (λ info. IsResultOf (λ (values : Values). values) r (values_from true info now (Some (object_at i item))))
+    Gives o r = IfSome o (λ info. IsResultOf (λ (values : Values). values) r (given_from models info (object_at i item)))
 
     pub so_far-more : (o : Option ModelInfo) (values : Values) → Gives o (Ok values) → SoFar o i each → SoFar o (i + 1) (each ++ values ∷ [])
     so_far-more None values gives far = tt
     so_far-more (Some info) values gives far = each_more info i item each values lt is gives far
 
     pub so_far-refused : (o : Option ModelInfo) (why : Refusal) → Gives o (Err why) → SoFar o i each
-        → IfSome o (λ info. IsResultOf (λ (all : List Values). all) (Err why) (each_row info now (items_at place 0 (map view items))))
+        → IfSome o (λ info. IsResultOf (λ (all : List Values). all) (Err why) (each_row models info (items_at place 0 (map view items))))
     so_far-refused None why gives far = tt
     so_far-refused (Some info) why gives far = each_refused info i item each why lt is gives far
 
   pub so_far-all : (o : Option ModelInfo) (i : ℕ) (each : List Values) → length items ≤ i → SoFar o i each
-      → IfSome o (λ info. IsResultOf (λ (all : List Values). all) (Ok each) (each_row info now (items_at place 0 (map view items))))
+      → IfSome o (λ info. IsResultOf (λ (all : List Values). all) (Ok each) (each_row models info (items_at place 0 (map view items))))
   so_far-all None i each past far = tt
   so_far-all (Some info) i each past far = each_all info i each past far
-
--- the rows at a moment as it was passed on
-pub at_moment : (place : List PathStep) (items : List Json) (o : Option ModelInfo) (passed now : ℤ) → passed ≡ now → (r : Result (List Values) Refusal)
-    → IfSome o (λ info. IsResultOf (λ (each : List Values). each) r (each_row info passed (items_at place 0 (map view items))))
-    → IfSome o (λ info. IsResultOf (λ (each : List Values). each) r (each_row info now (items_at place 0 (map view items))))
-at_moment place items o passed now same r h = subst (λ (n : ℤ). IfSome o (λ info. IsResultOf (λ (each : List Values). each) r (each_row info n (items_at place 0 (map view items))))) same h
 
 -- ---- the rows that an argument asks for
 
@@ -148,28 +142,25 @@ asks-one (Ok values) part h = ap (λ (m : Result Values (List PathStep)). m >>= 
 asks-one (Err why) part h =
     refused-whole (λ (values : Values). values) (λ (asked : Rows). asked) why part (part >>= λ values. Ok (rows.One values)) (λ place e. ap (λ (m : Result Values (List PathStep)). m >>= λ values. Ok (rows.One values)) e) h
 
--- what is no list
-alone : (info : ModelInfo) (now : ℤ) (place : List PathStep) (d : Data) → None ≡ as_array d → rows_in info now place d ≡ (values_from true info now (Some (record { place = place; json = d })) >>= λ values. Ok (rows.One values))
-alone info now place (array items) is = absurd cc
-alone info now place _ is = refl
+module _ (models : List ModelInfo) where
+  -- what is no list
+  alone : (info : ModelInfo) (place : List PathStep) (d : Data) → None ≡ as_array d → rows_in models info place d ≡ (given_from models info (record { place = place; json = d }) >>= λ given. Ok (rows.One given))
+  alone info place (array items) is = absurd cc
+  alone info place _ is = refl
 
-module _ (now passed : ℤ) (same : passed ≡ now) (place : List PathStep) (d : Data) where
-  -- the rows of each object
-  pub rows-each : (o : Option ModelInfo) (items : List Json) (r : Result (List Values) Refusal) → Some (items_view items) ≡ as_array d
-      → IfSome o (λ info. IsResultOf (λ (each : List Values). each) r (each_row info passed (items_at place 0 (map view items)))) → IfSome o (λ info. Asks (each_of r) (rows_in info now place d))
-  rows-each None items r is h = tt
-  rows-each (Some info) items r is h =
-      let meant : rows_in info now place d ≡ (each_row info passed (items_at place 0 (map view items)) >>= λ each. Ok (rows.Each each)) =
-      ap (rows_in info now place) (array_found d (items_view items) is)
-      ∙ ap (λ (ds : List Data). each_row info now (items_at place 0 ds) >>= λ each. Ok (rows.Each each)) (listed-items_view items)
-      ∙ ap (λ (n : ℤ). each_row info n (items_at place 0 (map view items)) >>= λ each. Ok (rows.Each each)) (sym same) in
-      subst (Asks (each_of r)) (sym meant) (asks-each r (each_row info passed (items_at place 0 (map view items))) h)
+  module _ (place : List PathStep) (d : Data) where
+    -- the rows of each object
+    pub rows-each : (o : Option ModelInfo) (items : List Json) (r : Result (List Values) Refusal) → Some (items_view items) ≡ as_array d
+        → IfSome o (λ info. IsResultOf (λ (each : List Values). each) r (each_row models info (items_at place 0 (map view items)))) → IfSome o (λ info. Asks (each_of r) (rows_in models info place d))
+    rows-each None items r is h = tt
+    rows-each (Some info) items r is h =
+        let meant : rows_in models info place d ≡ (each_row models info (items_at place 0 (map view items)) >>= λ each. Ok (rows.Each each)) =
+        ap (rows_in models info place) (array_found d (items_view items) is)
+        ∙ ap (λ (ds : List Data). each_row models info (items_at place 0 ds) >>= λ each. Ok (rows.Each each)) (listed-items_view items) in
+        subst (Asks (each_of r)) (sym meant) (asks-each r (each_row models info (items_at place 0 (map view items))) h)
 
-  -- the row of the one object
-  pub rows-one : (o : Option ModelInfo) (r : Result Values Refusal) → None ≡ as_array d → IfSome o (λ info. IsResultOf (λ (values : Values). values) r (values_from true info passed (Some (record { place = place; json = d }))))
-      → IfSome o (λ info. Asks (one_of r) (rows_in info now place d))
-  rows-one None r is h = tt
-  rows-one (Some info) r is h =
-      let meant : rows_in info now place d ≡ (values_from true info passed (Some (record { place = place; json = d })) >>= λ values. Ok (rows.One values)) =
-      alone info now place d is ∙ ap (λ (n : ℤ). values_from true info n (Some (record { place = place; json = d })) >>= λ values. Ok (rows.One values)) (sym same) in
-      subst (Asks (one_of r)) (sym meant) (asks-one r (values_from true info passed (Some (record { place = place; json = d }))) h)
+    -- the row of the one object
+    pub rows-one : (o : Option ModelInfo) (r : Result Values Refusal) → None ≡ as_array d → IfSome o (λ info. IsResultOf (λ (values : Values). values) r (given_from models info (record { place = place; json = d })))
+        → IfSome o (λ info. Asks (one_of r) (rows_in models info place d))
+    rows-one None r is h = tt
+    rows-one (Some info) r is h = subst (Asks (one_of r)) (sym (alone info place d is)) (asks-one r (given_from models info (record { place = place; json = d })) h)

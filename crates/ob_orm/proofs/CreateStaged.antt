@@ -1,18 +1,10 @@
 -- What an engine stands at where the edits of a create were refused.
-use Rattle.std.proofs.Common.{◌≡◌, ◌≤◌, ◌∷◌, [], ℕ, List, Option, refl, sym, ◌∙◌, arith}
-use Rattle.std.specs.Prelude.{All}
-use Rattle.std.proofs.lemmas.List.Elements.{All-cons, All-nil}
-use Rattle.ob_base.specs.Limits.{max_id}
-use Rattle.ob_base.specs.declared.id.FieldNo.{FieldNo}
-use Rattle.ob_base.specs.declared.id.ModelNo.{ModelNo}
-use Rattle.ob_base.specs.declared.value.Value.{Value}
+use Rattle.std.proofs.Common.{◌≡◌, List, Option, refl, sym, ◌∙◌}
 use Rattle.ob_cache.specs.Stages.{resting, spoiled, with_edits}
-use Rattle.ob_cache.specs.Standing.{Holding, IsSpoiled, OfStages, RestsAt, Stands, max_next_id}
+use Rattle.ob_cache.specs.Standing.{Holding, IsSpoiled, OfStages, RestsAt, Stands}
 use Rattle.ob_io.specs.Store.{Store}
 use Rattle.ob_schema.specs.Tables.{Tables}
-use Rattle.ob_tables.specs.Changes.{MakesBelow}
 use Rattle.ob_tables.specs.declared.edit.Edit.{Edit}
-use Rattle.ob_tables.specs.declared.edit.Edit.TheVariants as edit
 use Rattle.ob_orm.specs.CreateSteps.{KeepsTables}
 
 -- an engine that rests at tables keeps them where staging fails
@@ -27,7 +19,3 @@ pub settled_spoiled : (before mid now : Option Store) (old staged new : Holding)
 settled_spoiled before mid now old staged new edits same stands failed tables rests =
     let at = resting old.models tables in
     (spoiled (with_edits at edits), failed.stands (with_edits at edits) (stands at rests), sym same ∙ sym failed.models, refl)
-
--- a row under an id leaves the next ids below the bound
-pub made_below : (of model : ModelNo) (id : ℕ) (values : List (FieldNo × Value)) → id ≤ max_id → All (MakesBelow of max_next_id) (edit.Make model (record { 0 = id }) values ∷ [])
-made_below of model id values low = All-cons (MakesBelow of max_next_id) (edit.Make model (record { 0 = id }) values) [] (λ same. omega arith) (All-nil (MakesBelow of max_next_id))

@@ -9,13 +9,11 @@ pub mod ObjectPlaces
 pub mod CreateRows
 pub mod CreateIds
 pub mod CreateStaged
-pub mod CreateMakes
 pub mod CalledFound
 pub mod CreateAnswer
 pub mod FirstArguments
 pub mod WriteEdits
 pub mod WriteMissing
-pub mod CreateCarried
 pub mod WriteCarried
 pub mod WriteAnswer
 pub mod FieldsTold
@@ -41,3 +39,10 @@ pub mod Deleted
 pub mod LeftEdits
 pub mod Barred
 pub mod Stopped
+pub mod NextIds
+pub mod NewRows
+pub mod PastLimits
+pub mod CreateMade
+pub mod Filled
+pub mod GivenFields
+pub mod ParentFields

@@ -7,14 +7,14 @@ use Rattle.std.proofs.lemmas.List.Elements.{All-cons, All-nil}
 use Rattle.ob_base.specs.declared.place.PathStep.{PathStep}
 use Rattle.ob_base.specs.declared.place.PathStep.TheVariants.{Item}
 use Rattle.ob_call.proofs.CallerLemmas.{listed-items_view}
-use Rattle.ob_codec.specs.Commands.{listed}
 use Rattle.ob_schema.specs.declared.info.FieldInfo.{FieldInfo}
+use Rattle.ob_schema.specs.declared.info.ModelInfo.{ModelInfo}
 use Rattle.serde_json.specs.Data.{Data, Items, array}
 use Rattle.serde_json.specs.Find.{as_array}
 use Rattle.serde_json.specs.View.{items_view, view}
 use Rattle.serde_json.specs.declared.value.Value.{Value as Json}
 use Rattle.ob_orm.specs.Objects.{first_wrong, objects_fault}
-use Rattle.ob_orm.specs.Values.{values_fault}
+use Rattle.ob_orm.specs.Values.{new_values_fault}
 
 -- a step before others is one behind a place
 pub deeper : (place below : List PathStep) (step : PathStep) → place ++ step ∷ below ≡ (place ++ step ∷ []) ++ below
@@ -26,14 +26,14 @@ array_found (array own) items is = let e : items ≡ own = cc in sym (ap array e
 array_found _ items is = absurd cc
 
 -- a form of objects at what is no list
-pub objects-alone : (fields : List FieldInfo) (d : Data) → None ≡ as_array d → objects_fault fields d ≡ values_fault fields d
-objects-alone fields (array items) is = absurd cc
-objects-alone fields _ is = refl
+pub objects-alone : (models : List ModelInfo) (fields : List FieldInfo) (d : Data) → None ≡ as_array d → objects_fault models fields d ≡ new_values_fault models fields d
+objects-alone models fields (array items) is = absurd cc
+objects-alone models fields _ is = refl
 
 -- and at the items of one
-pub objects-listed : (fields : List FieldInfo) (d : Data) (items : List Json) → Some (items_view items) ≡ as_array d → objects_fault fields d ≡ first_wrong (values_fault fields) 0 (map view items)
-objects-listed fields d items is =
-    ap (objects_fault fields) (array_found d (items_view items) is) ∙ ap (first_wrong (values_fault fields) 0) (listed-items_view items)
+pub objects-listed : (models : List ModelInfo) (fields : List FieldInfo) (d : Data) (items : List Json) → Some (items_view items) ≡ as_array d → objects_fault models fields d ≡ first_wrong (new_values_fault models fields) 0 (map view items)
+objects-listed models fields d items is =
+    ap (objects_fault models fields) (array_found d (items_view items) is) ∙ ap (first_wrong (new_values_fault models fields) 0) (listed-items_view items)
 
 module _ (fault : Data → Option (List PathStep)) where
   -- the item at a number, before those that follow it

@@ -100,7 +100,7 @@ abbrev pub FoundAt : List ℕ → List Entry → Option (Bor Json) → Type 0
 FoundAt name es r = option_map (λ x. x.now) r ≡ lookup (is_at (λ k. slice_cmp nat_cmp name (string_bytes k))) es
 
 -- as its data
-found : (name : List ℕ) (es : List Entry) (r : Option (Bor Json)) → FoundAt name es r → option_map (λ x. view x.now) r ≡ get_member name (members_view es)
+pub found : (name : List ℕ) (es : List Entry) (r : Option (Bor Json)) → FoundAt name es r → option_map (λ x. view x.now) r ≡ get_member name (members_view es)
 found name es r e = view_of_ref r ∙ ap (option_map view) e ∙ view-lookup name es
 
 -- what the members give a free field is what a look-up by its name found
@@ -128,7 +128,7 @@ abbrev pub some_of : Result Value Refusal → Result (Option Value) Refusal
 some_of (Ok v) = Ok (Some v)
 some_of (Err why) = Err why
 
-IsResultOf-some : (r : Result Value Refusal) (meant : Result Value (List PathStep)) → IsResultOf (λ w. w) r meant → IsResultOf (λ w. w) (some_of r) (meant >>= λ v. Ok (Some v))
+pub IsResultOf-some : (r : Result Value Refusal) (meant : Result Value (List PathStep)) → IsResultOf (λ w. w) r meant → IsResultOf (λ w. w) (some_of r) (meant >>= λ v. Ok (Some v))
 IsResultOf-some (Ok v) meant is = ap (λ (m : Result Value (List PathStep)). m >>= λ w. Ok (Some w)) is
 IsResultOf-some (Err (refusal.Request place)) meant is = ap (λ (m : Result Value (List PathStep)). m >>= λ w. Ok (Some w)) is
 IsResultOf-some (Err refusal.NoMemory) meant is = tt

@@ -121,31 +121,31 @@ left_more info i f at =
     ∙ ap (λ (n : ℕ). cond (is_plain_kept f) ((suc i, f) ∷ filter (λ column. is_plain_kept column.1) (enumerate_from n (drop (i + 1) info.fields)))
     (filter (λ column. is_plain_kept column.1) (enumerate_from n (drop (i + 1) info.fields)))) (let e : suc i + 1 ≡ suc (i + 1) = omega arith in e)
 
-left_plain : (info : ModelInfo) (i : ℕ) (f : FieldInfo) → slice_get info.fields i ≡ Some f → is_plain_kept f ≡ true → left info i ≡ (suc i, f) ∷ left info (i + 1)
+pub left_plain : (info : ModelInfo) (i : ℕ) (f : FieldInfo) → slice_get info.fields i ≡ Some f → is_plain_kept f ≡ true → left info i ≡ (suc i, f) ∷ left info (i + 1)
 left_plain info i f at plain = left_more info i f at ∙ ap (λ (b : Bool). cond b ((suc i, f) ∷ left info (i + 1)) (left info (i + 1))) plain
 
-left_other : (info : ModelInfo) (i : ℕ) (f : FieldInfo) → slice_get info.fields i ≡ Some f → is_plain_kept f ≡ false → left info i ≡ left info (i + 1)
+pub left_other : (info : ModelInfo) (i : ℕ) (f : FieldInfo) → slice_get info.fields i ≡ Some f → is_plain_kept f ≡ false → left info i ≡ left info (i + 1)
 left_other info i f at plain = left_more info i f at ∙ ap (λ (b : Bool). cond b ((suc i, f) ∷ left info (i + 1)) (left info (i + 1))) plain
 
 -- what comes behind values
-abbrev behind : Values → Result Values (List PathStep) → Result Values (List PathStep)
+abbrev pub behind : Values → Result Values (List PathStep) → Result Values (List PathStep)
 behind values r = r >>= λ rest. Ok (values ++ rest)
 
-behind_none : (r : Result Values (List PathStep)) → r ≡ behind [] r
+pub behind_none : (r : Result Values (List PathStep)) → r ≡ behind [] r
 behind_none (Ok rest) = refl
 behind_none (Err why) = refl
 
 -- and nothing between them
-behind_same : (values : Values) (r : Result Values (List PathStep)) → behind values (r >>= λ rest. Ok rest) ≡ behind values r
+pub behind_same : (values : Values) (r : Result Values (List PathStep)) → behind values (r >>= λ rest. Ok rest) ≡ behind values r
 behind_same values (Ok rest) = refl
 behind_same values (Err why) = refl
 
-behind_more : (values : Values) (x : FieldNo × Value) (r : Result Values (List PathStep)) → behind values (r >>= λ rest. Ok (x ∷ rest)) ≡ behind (values ++ x ∷ []) r
+pub behind_more : (values : Values) (x : FieldNo × Value) (r : Result Values (List PathStep)) → behind values (r >>= λ rest. Ok (x ∷ rest)) ≡ behind (values ++ x ∷ []) r
 behind_more values x (Ok rest) = ap Ok (sym (append_assoc values (x ∷ []) rest))
 behind_more values x (Err why) = refl
 
 -- a value that the row of a plain field keeps
-abbrev FitsIn : ModelInfo → FieldNo × Value → Type 0
+abbrev pub FitsIn : ModelInfo → FieldNo × Value → Type 0
 FitsIn info given = IsSomeAnd (numbered (fields_of info) given.0.0) (λ field. IsFitIn field given.1)
 
 -- with what is left to give the values are those of the row

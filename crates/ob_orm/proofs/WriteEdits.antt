@@ -35,7 +35,7 @@ rows_more model values ids i lt = flat_map_more (row_edits model values) [] (tak
 
 module _ (models : List ModelInfo) (model : ModelNo) (values : List (FieldNo × Value)) where
   -- each value fits its field
-  fits_each : AreFitIn models model values → All (λ given. FieldHas models (λ field. IsFitIn field given.1) model given.0) values
+  pub fits_each : AreFitIn models model values → All (λ given. FieldHas models (λ field. IsFitIn field given.1) model given.0) values
   fits_each fit = by (model_at models model) fit where
     by : (o : Option ModelInfo) → IsSomeAnd o (λ info. AreFitValues info values) → All (λ given. IsSomeAnd (option_and_then (λ info. numbered (fields_of info) given.0.0) o) (λ field. IsFitIn field given.1)) values
     by None fit = absurd fit

@@ -1,16 +1,22 @@
 -- Of which models calls make and change rows so far.
-use Rattle.std.specs.Prelude.{◌≡◌, ◌==◌, codes, bytes_eq, length, not, true, ◌&&◌, Bool}
-use Rattle.std.specs.List.{list_any}
+use Rattle.std.specs.Prelude.{◌==◌, ◌&&◌, Bool, List, false, bytes_eq, codes, length, not}
+use Rattle.std.specs.List.{list_all, list_any}
+use Rattle.std.specs.Option.{option_map_or}
+use Rattle.ob_schema.specs.Models.{model_at}
 use Rattle.ob_schema.specs.declared.info.ModelInfo.{ModelInfo}
 
--- whether a create makes rows of a model: it has no parents, whose rows would be made with its own, and isn't managed
-abbrev pub is_creatable : ModelInfo → Bool
-is_creatable info = length info.inherits == 0 && not info.managed
+-- whether rows of a model may be made and changed, its fixed fields aside: it isn't managed, and no condition locks its rows
+abbrev pub is_open : ModelInfo → Bool
+is_open info = not info.managed && not (list_any (λ field. bytes_eq field.name (codes "locked")) info.hidden)
 
--- it does
-abbrev pub IsCreatable : ModelInfo → Type 0
-IsCreatable info = is_creatable info ≡ true
+-- whether they may be changed: and no field is fixed
+abbrev pub is_changeable : ModelInfo → Bool
+is_changeable info = is_open info && not (list_any (λ field. field.fixed) info.fields)
 
--- whether a write changes rows of a model: those of which a create makes any, where no condition locks its rows and no field is fixed
+-- whether a create makes rows of a model: it isn't managed, and rows of its parents may be made and changed with its own
+abbrev pub is_creatable : List ModelInfo → ModelInfo → Bool
+is_creatable models info = not info.managed && list_all (λ parent. option_map_or is_open (model_at models parent.model) false) info.inherits
+
+-- whether a write changes rows of a model: they may be changed, and it has no parents, whose rows would be changed with its own
 abbrev pub is_writable : ModelInfo → Bool
-is_writable info = is_creatable info && not (list_any (λ field. bytes_eq field.name (codes "locked")) info.hidden) && not (list_any (λ field. field.fixed) info.fields)
+is_writable info = length info.inherits == 0 && is_changeable info

@@ -1,18 +1,15 @@
 -- What the steps of a create say of their results.
-use Rattle.std.specs.Prelude.{◌≡◌, ◌++◌, List, IfSome, Bool, true, Option, Result, Ok, Err}
+use Rattle.std.specs.Prelude.{◌≡◌, ◌++◌, List, IfSome, Bool, true, Option}
 use Rattle.ob_base.specs.declared.place.PathStep.{PathStep}
 use Rattle.ob_base.specs.declared.refusal.Refusal.{Refusal}
 use Rattle.ob_base.specs.declared.refusal.Refusal.TheVariants as refusal
 use Rattle.ob_cache.specs.Stages.{Stages}
-use Rattle.ob_cache.specs.Calls.{Refuses, settled_over}
-use Rattle.ob_cache.specs.Standing.{Holding, RestsAt, Stands}
-use Rattle.ob_call.specs.Called.{Called}
+use Rattle.ob_cache.specs.Standing.{Holding, Stands}
 use Rattle.ob_call.specs.Places.{IsMalformedAt}
 use Rattle.ob_codec.specs.declared.fault.CodecFault.{CodecFault}
 use Rattle.ob_codec.specs.declared.fault.CodecFault.TheVariants as codec
 use Rattle.ob_definition.specs.declared.field_type.FieldType.TheVariants as type
 use Rattle.ob_io.specs.Store.{Store}
-use Rattle.ob_orm.specs.Create.{Creates}
 use Rattle.ob_orm.specs.RowValues.{is_stamp}
 use Rattle.ob_schema.specs.Broken.{IsBroken}
 use Rattle.ob_schema.specs.Fields.{Holds}
@@ -20,7 +17,6 @@ use Rattle.ob_schema.specs.Models.{HasField}
 use Rattle.ob_schema.specs.Tables.{Tables}
 use Rattle.ob_schema.specs.declared.info.FieldInfo.{FieldInfo}
 use Rattle.ob_schema.specs.declared.info.ModelInfo.{ModelInfo}
-use Rattle.serde_json.specs.Data.{Data}
 
 -- what a call may rely on in a field: a stamp is a moment, and a default fits
 pub record IsMakeable (field : FieldInfo) : Type 0 where
@@ -43,15 +39,6 @@ IsBrokenBy models tables _ = ⊥
 abbrev pub BreaksField : List ModelInfo → Refusal → Type 0
 BreaksField models (refusal.Constraint b) = HasField models b.cell.model b.cell.field
 BreaksField models _ = ⊥
-
--- A create of a call over an engine that rests at these tables: it is settled with the machine's
--- next ones, and not flushed; or the call is refused as the machine refuses it, and the engine
--- rests at them still.
-abbrev pub CreateAnswers : List ModelInfo → Option Store → Holding → Tables → Called → Type 0 → Result Data Refusal → Type 0
-CreateAnswers models kept held tables called rose (Ok json) =
-    (next : Tables) × Creates models called tables (Ok json) next × Stands kept held (settled_over held.models tables next)
-CreateAnswers models kept held tables called rose (Err why) =
-    Refuses rose (λ cause. Creates models called tables (Err cause) tables) why × RestsAt kept held tables
 
 -- an engine stands at stages whose first tables these are
 abbrev pub KeepsTables : Option Store → Holding → Tables → Type 0

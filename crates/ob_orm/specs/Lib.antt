@@ -2,8 +2,10 @@ pub mod Creatable
 pub mod Values
 pub mod Objects
 pub mod RowValues
-pub mod Create
 pub mod Write
+pub mod NewRows
+pub mod GivenValues
+pub mod Create
 pub mod Locks
 pub mod Deletion
 pub mod Unlink
@@ -12,6 +14,7 @@ pub mod RefusalText
 pub mod Faults
 pub mod ObjectSteps
 pub mod CreateSteps
+pub mod NewRowSteps
 pub mod WriteSteps
 pub mod LockSteps
 pub mod DeletionSteps

@@ -7,8 +7,11 @@ use Rattle.serde_json.specs.Data.{Data, object}
 use Rattle.ob_definition.specs.Types.{is_list}
 use Rattle.ob_schema.specs.Fields.{is_plain_kept}
 use Rattle.ob_schema.specs.Built.{numbered}
-use Rattle.ob_schema.specs.Models.{field_named}
+use Rattle.ob_schema.specs.Models.{field_at, field_named}
 use Rattle.ob_schema.specs.declared.info.FieldInfo.{FieldInfo}
+use Rattle.ob_schema.specs.declared.info.ModelInfo.{ModelInfo}
+use Rattle.ob_schema.specs.declared.info.Origin.{Origin}
+use Rattle.ob_schema.specs.declared.info.Origin.TheVariants as origin
 use Rattle.ob_call.specs.Arguments.{entries}
 
 -- the field of a name
@@ -32,3 +35,22 @@ first_key test (e ∷ es) = if test e.0 then first_key test es else Some (Key e.
 abbrev pub values_fault : List FieldInfo → Data → Option (List PathStep)
 values_fault fields (object members) = first_key (is_given fields) (entries members)
 values_fault fields _ = Some []
+
+-- In a row that is made, parents' rows are made or changed with it: then their fields are given too.
+module _ (models : List ModelInfo) where
+  -- whether calls give a value to a field of this origin: of a delegated one the parent's field is free and isn't fixed, another one is free itself
+  abbrev pub is_settable_from : Origin → FieldInfo → Bool
+  is_settable_from (origin.Delegated at) field = option_map_or (λ own. is_free own && not own.fixed) (field_at models at.model at.field) false
+  is_settable_from _ field = is_free field
+
+  abbrev pub is_settable : FieldInfo → Bool
+  is_settable field = is_settable_from field.origin field
+
+  -- whether calls give a value to the field of this name
+  abbrev pub is_settable_name : List FieldInfo → List ℕ → Bool
+  is_settable_name fields name = option_map_or is_settable (field_of_name fields name) false
+
+  -- an object of values, each for one of these fields that calls give
+  abbrev pub new_values_fault : List FieldInfo → Data → Option (List PathStep)
+  new_values_fault fields (object members) = first_key (is_settable_name fields) (entries members)
+  new_values_fault fields _ = Some []

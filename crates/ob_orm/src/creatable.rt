@@ -1,32 +1,68 @@
 //! Of which models a create makes rows so far, and of which a write changes them. What a call of a
 //! further model needs is proved before its condition goes.
 
-ghost use Rattle.std.specs.Prelude.{◌≡◌, IfSome, bytes_eq, codes};
-ghost use Rattle.std.specs.List.{list_any};
+ghost use Rattle.std.specs.Prelude.{◌≡◌, IfSome, bytes_eq, codes, false};
+ghost use Rattle.std.specs.List.{list_all, list_any};
+ghost use Rattle.std.specs.Option.{option_map_or};
 ghost use Rattle.ob_orm.specs.Creatable as spec;
 ghost use Rattle.ob_schema.specs.Models.{HasModel, model_at};
 
 use ob_base::ModelNo;
 use ob_schema::{ModelInfo, Schema};
 
-/// Whether a create makes rows of a model: it has no parents, whose rows would be made with its
-/// own, and isn't managed.
+/// Whether a create makes rows of a model: it isn't managed, and rows of its parents may be made
+/// and changed with its own.
 pub fn is_creatable(schema: &Schema, model: ModelNo) -> bool
     requires model { HasModel schema.now model }
-    ensures stated { IfSome (model_at schema.now model) (λ info. result ≡ spec.is_creatable info) }
+    ensures stated { IfSome (model_at schema.now model) (λ info. result ≡ spec.is_creatable schema.now info) }
 {
     let info = schema.model_info(model);
-    info.inherits.is_empty() && !info.managed
+    !info.managed && has_open_parents(schema, info)
 }
 
-/// Whether a write changes rows of a model: those of which a create makes any, where no condition
-/// locks its rows and no field is fixed.
+/// Whether rows of a model's parents may be made and changed with its own.
+fn has_open_parents(schema: &Schema, info: &ModelInfo) -> bool
+    ensures { result ≡ list_all (λ parent. option_map_or spec.is_open (model_at schema.now parent.model) false) info.now.inherits }
+{
+    info.inherits
+        .as_slice()
+        .iter()
+        .all(|parent| is_open_model(schema, parent.model))
+}
+
+/// Whether a write changes rows of a model: they may be changed, and it has no parents, whose rows
+/// would be changed with its own.
 pub fn is_writable(schema: &Schema, model: ModelNo) -> bool
     requires model { HasModel schema.now model }
     ensures stated { IfSome (model_at schema.now model) (λ info. result ≡ spec.is_writable info) }
 {
     let info = schema.model_info(model);
-    is_creatable(schema, model) && !is_lockable(info) && !has_fixed(info)
+    info.inherits.is_empty() && is_changeable(info)
+}
+
+/// Whether rows of the model of a number may be made and changed, its fixed fields aside.
+fn is_open_model(schema: &Schema, model: ModelNo) -> bool
+    ensures { result ≡ option_map_or spec.is_open (model_at schema.now model) false }
+{
+    match schema.find_model(model) {
+        Some(info) => is_open(info),
+        None => false,
+    }
+}
+
+/// Whether rows of a model may be changed: they are open to that, and no field is fixed.
+fn is_changeable(info: &ModelInfo) -> bool
+    ensures { result ≡ spec.is_changeable info.now }
+{
+    is_open(info) && !has_fixed(info)
+}
+
+/// Whether rows of a model may be made and changed, its fixed fields aside: it isn't managed, and
+/// no condition locks its rows.
+fn is_open(info: &ModelInfo) -> bool
+    ensures { result ≡ spec.is_open info.now }
+{
+    !info.managed && !is_lockable(info)
 }
 
 /// Whether a condition locks rows of a model.

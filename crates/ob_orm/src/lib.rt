@@ -3,12 +3,14 @@
 //! answer is the one that the tables of plain values define.
 //!
 //! Rooms: `creating`, `writing` and `unlinking`, with `values` (the form of an object of values),
-//! `objects` (of one, or of a list of them), `row_values` (the values that one gives a row), `there` (which rows are there), `settled` (values
-//! as they were settled last), `locking` (which rows are locked), `ids` (the cell `id` of a row) and
-//! `settling` (how edits are settled); `fields` (what fields a model has); `refusal_texts` (how
-//! refusals and cells are told), `creatable` (of which models a create makes rows and a write
-//! changes them), and `fault` (faults of the engine as refusals). How arguments are read stands in
-//! the crate `ob_call`, and what only reads in `ob_query`. The definitions stand in specs/.
+//! `objects` (of one, or of a list of them), `row_values` (the values that one gives a row that is
+//! changed), `making` (how rows are made of given values, with rows of their parents), `there`
+//! (which rows are there), `settled` (values as they were settled last), `locking` (which rows are
+//! locked), `ids` (the cell `id` of a row) and `settling` (how edits are settled); `fields` (what
+//! fields a model has); `refusal_texts` (how refusals and cells are told), `creatable` (of which
+//! models a create makes rows and a write changes them), and `fault` (faults of the engine as
+//! refusals). How arguments are read stands in the crate `ob_call`, and what only reads in
+//! `ob_query`. The definitions stand in specs/.
 #![tactic(auto)]
 
 mod creatable;
@@ -17,6 +19,7 @@ mod fault;
 mod fields;
 mod ids;
 mod locking;
+mod making;
 mod objects;
 mod refusal_texts;
 mod row_values;

@@ -8,9 +8,9 @@ ghost use Rattle.ob_call.specs.Forms.{fields_at};
 ghost use Rattle.ob_call.specs.Places.{IsMalformedAt, below_steps};
 ghost use Rattle.ob_orm.specs.ObjectSteps.{object_place};
 ghost use Rattle.ob_orm.specs.Objects.{first_wrong};
-ghost use Rattle.ob_orm.specs.Values.{values_fault};
+ghost use Rattle.ob_orm.specs.Values.{new_values_fault};
 
-use crate::values::Values;
+use crate::creating::given::NewValues;
 use ob_base::{NoMemory, PathStep, Place, Refusal};
 use ob_call::{Below, Form, Json, Spot, malformed_below};
 use std::alloc::Global;
@@ -47,17 +47,17 @@ fn below_key(alloc: Global, name: &str, place: &Place) -> Result<Place, NoMemory
     Ok(below)
 }
 
-/// An object of values, or a list of such objects.
+/// An object of values of a row that is made, or a list of such objects.
 #[derive(Clone, Copy)]
 pub(crate) struct Objects<'s> {
-    pub(crate) values: Values<'s>,
+    pub(crate) values: NewValues<'s>,
 }
 
 impl Form for Objects<'_> {
     ghost use Rattle.ob_call.specs.Forms.{fields_at};
     ghost use Rattle.ob_orm.specs.Objects.{objects_fault};
 
-    ghost fault = { λ objects json. objects_fault (fields_at objects.values.schema.now objects.values.model) json };
+    ghost fault = { λ objects json. objects_fault objects.values.schema.now (fields_at objects.values.schema.now objects.values.model) json };
 
     fn fault<'j>(&self, alloc: Global, json: &'j Json) -> Result<Option<Below<'j>>, NoMemory> {
         match json.as_array() {
@@ -70,11 +70,11 @@ impl Form for Objects<'_> {
 /// Where the first item that is no object of values is wrong.
 fn first_wrong<'j>(
     alloc: Global,
-    values: &Values<'_>,
+    values: &NewValues<'_>,
     items: &'j [Json],
 ) -> Result<Option<Below<'j>>, NoMemory>
     ensures { IfOk result (λ told. option_map below_steps told
-        ≡ first_wrong (values_fault (fields_at values.now.schema.now values.now.model)) 0 (map view items.now)) }
+        ≡ first_wrong (new_values_fault values.now.schema.now (fields_at values.now.schema.now values.now.model)) 0 (map view items.now)) }
 {
     for (number, item) in items.iter().enumerate() {
         let wrong = values.fault(alloc, item)?;

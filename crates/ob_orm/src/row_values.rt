@@ -122,7 +122,7 @@ fn all_values(
 }
 
 /// Puts a field's value behind others, where it gets one.
-fn push_valued(
+pub(crate) fn push_valued(
     values: &mut Sequence<(FieldNo, Value)>,
     number: FieldNo,
     value: Option<Value>,
@@ -183,14 +183,14 @@ fn given_of<'j>(field: &FieldInfo, members: &'j Map<String, Json>) -> Option<&'j
 
 /// Whether a call stamps a field: the moment of the last change, and of a row that is made that of
 /// its making too.
-fn is_stamp(made: bool, name: &str) -> bool
+pub(crate) fn is_stamp(made: bool, name: &str) -> bool
     ensures { result ≡ is_stamp made name.now }
 {
     (made && name == "create_date") || name == "write_date"
 }
 
 /// The value that JSON gives a field.
-fn given_value(
+pub(crate) fn given_value(
     alloc: Global,
     schema: &Schema,
     model: ModelNo,
@@ -229,7 +229,11 @@ fn fault_refusal(alloc: Global, object: ObjectSpot<'_>, name: &str, fault: &Code
 }
 
 /// The value of a field that isn't given: in a row that is made its default, where it has one.
-fn default_value(alloc: Global, made: bool, field: &FieldInfo) -> Result<Option<Value>, NoMemory>
+pub(crate) fn default_value(
+    alloc: Global,
+    made: bool,
+    field: &FieldInfo,
+) -> Result<Option<Value>, NoMemory>
     ensures { IfOk result (λ value. value ≡ (if made then field.now.default else None)) }
 {
     if !made {

@@ -142,7 +142,7 @@ fn change_edits(
 }
 
 /// Puts the edits of one row behind others.
-fn push_row_edits(
+pub(crate) fn push_row_edits(
     alloc: Global,
     edits: &mut Vec<Edit>,
     model: ModelNo,

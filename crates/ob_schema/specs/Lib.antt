@@ -19,6 +19,8 @@ pub mod Checks
 pub mod Broken
 pub mod Links
 pub mod ReadCells
+-- Rows that modules bring.
+pub mod Presets
 -- Private: the words by which the rooms of the crate are joined.
 pub mod Telling
 pub mod Graphs

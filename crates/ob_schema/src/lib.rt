@@ -3,7 +3,8 @@
 //!
 //! Rooms: `info` (models and fields with names resolved), `schema` (the registry and its
 //! look-ups), `build` (the registry from definitions), `facts` (what domains and rules ask of
-//! rows), `links` (what is asked of rows to follow a change). Behind it stand `model` and `models` (models with
+//! rows), `links` (what is asked of rows to follow a change), `preset` (rows that modules
+//! bring). Behind it stand `model` and `models` (models with
 //! all their fields, and what names stand for), `model_faults`, `field_faults`, `paths`,
 //! `formulas`, `graph` and `strata` (what is wrong with models, keys, paths, expressions and
 //! circles), `building` and `field_building` (the registry's parts). The definitions that
@@ -23,6 +24,7 @@ mod model;
 mod model_faults;
 mod models;
 mod paths;
+mod preset;
 mod schema;
 mod strata;
 
@@ -34,4 +36,5 @@ pub use links::{Links, Side};
 pub use ob_definition::{
     Check, Choice, FieldDef, FieldType, Inherits, ModelDef, OnDelete, SchemaFault, Spot,
 };
+pub use preset::{Preset, PresetRow, PresetValue};
 pub use schema::{Schema, meaning_by_declared_paths};

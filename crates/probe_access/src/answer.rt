@@ -7,12 +7,13 @@
 //! | `asks CASE` | whether a criterion on the field stands outside `any`, or the fault with its place |
 //! | `access CASE` | an answer to each question of the case, in JSON |
 //! | `declared CASE` | the same by the policy of modules, or what stands against these first |
+//! | `preset CASE` | the rows that modules bring, or what stands against these first |
 //!
 //! The CASE of `domain` is `{"model":MODEL,"user":ID,"rows":[ROW, ..],"domain":DOMAIN}`, or with
 //! `"domains":[DOMAIN, ..]`. MODEL is `probe.row` or `probe.place`, or one of those that
 //! `"models":DEFINITIONS` defines. `row_facts` says what a row is, `accesses` what the CASE of
-//! `access` and `declared` is, `fields` that of `fields` and `asks`, `probe_parts::definitions` what DEFINITIONS
-//! are. With `"answered":N` so many questions about each row are answered, and `failed` stands
+//! `access` and `declared` is, `presets` that of `preset`, `fields` that of `fields` and `asks`,
+//! `probe_parts::definitions` what DEFINITIONS are. With `"answered":N` so many questions about each row are answered, and `failed` stands
 //! where that isn't enough: in the answer of `domain` behind the row's id, of `access` alone.
 //!
 //! In a CASE `«N TEXT»` stands for a text so many times. `times N` before a word makes its call
@@ -21,6 +22,7 @@
 use crate::accesses::{put_access, put_declared};
 use crate::domains::put_domain;
 use crate::fields::{Question, put_fields};
+use crate::presets::put_preset;
 use ob_domain::Json;
 use probe_parts::parts::json_of;
 use probe_parts::program::Probe;
@@ -51,6 +53,7 @@ fn put_answer(alloc: Global, told: &mut Told, times: u32, word: &str, json: &Jso
         "asks" => put_fields(alloc, told, times, Question::Asks, json),
         "access" => put_access(alloc, told, times, json),
         "declared" => put_declared(alloc, told, times, json),
+        "preset" => put_preset(alloc, told, json),
         _ => told.put("no word"),
     }
     if told.is_malformed() {

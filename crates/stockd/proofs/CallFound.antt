@@ -25,9 +25,9 @@ abbrev pub with_kw : Layout → ModelNo → Method → (args kw : Data) → Resu
 with_kw layout m meth args kw = Ok (record { caller = record { 0 = 2 }; model = m; method = meth; args = args; kw = kw; layout = layout })
 
 -- the method of a model that is there
-pub method_there : (models : List ModelInfo) (m : ModelNo) (d : Data) (r : Option Method) → HasModel models m → IfSome (model_at models m) (λ info. r ≡ method_named info d) → method_of models m d ≡ r
+pub method_there : (models : List ModelInfo) (m : ModelNo) (d : Data) (r : Option Method) → HasModel models m → IfSome (model_at models m) (λ info. r ≡ method_named models info d) → method_of models m d ≡ r
 method_there models m d r there named = by (model_at models m) there named where
-  by : (o : Option ModelInfo) → IsSome o → IfSome o (λ info. r ≡ method_named info d) → option_and_then (λ info. method_named info d) o ≡ r
+  by : (o : Option ModelInfo) → IsSome o → IfSome o (λ info. r ≡ method_named models info d) → option_and_then (λ info. method_named models info d) o ≡ r
   by None there named = absurd cc
   by (Some info) there named = sym named
 

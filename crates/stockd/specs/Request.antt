@@ -43,21 +43,21 @@ abbrev pub is_caller : (user key : Data) → Bool
 is_caller user key = is_integer 2 user && is_text (codes "admin") key
 
 -- the method of a name that a model has: each can be read, searched and counted, has its fields told, and has rows deleted; rows are made of those of which a create makes any, and changed of those of which a write changes any
-abbrev pub method_named : ModelInfo → Data → Option Method
-method_named info d =
+abbrev pub method_named : List ModelInfo → ModelInfo → Data → Option Method
+method_named models info d =
     if is_text (codes "read") d then Some (method.Reads reading.Read)
     else if is_text (codes "search") d then Some (method.Reads reading.Search)
     else if is_text (codes "search_count") d then Some (method.Reads reading.SearchCount)
     else if is_text (codes "search_read") d then Some (method.Reads reading.SearchRead)
     else if is_text (codes "fields_get") d then Some (method.Reads reading.FieldsGet)
-    else if is_text (codes "create") d && is_creatable info then Some (method.Writes writing.Create)
+    else if is_text (codes "create") d && is_creatable models info then Some (method.Writes writing.Create)
     else if is_text (codes "write") d && is_writable info then Some (method.Writes writing.Write)
     else if is_text (codes "unlink") d then Some (method.Writes writing.Unlink)
     else None
 
 -- of the model of a number
 abbrev pub method_of : List ModelInfo → ModelNo → Data → Option Method
-method_of models model d = option_and_then (λ info. method_named info d) (model_at models model)
+method_of models model d = option_and_then (λ info. method_named models info d) (model_at models model)
 
 -- the arguments by name, which may be absent
 abbrev pub named_args : Items → Data

@@ -115,7 +115,7 @@ fn model_named(schema: &Schema, model: &Json) -> Option<ModelNo>
 /// The method of a name that a model has.
 fn method_named(schema: &Schema, model: ModelNo, method: &Json) -> Option<Method>
     requires model { HasModel schema.now model }
-    ensures { IfSome (model_at schema.now model) (λ info. result ≡ method_named info (view method.now)) }
+    ensures { IfSome (model_at schema.now model) (λ info. result ≡ method_named schema.now info (view method.now)) }
 {
     if is_text(method, "read") {
         Some(Method::Reads(ReadMethod::Read))

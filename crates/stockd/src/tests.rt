@@ -94,7 +94,7 @@ kept demo.line ids
 kept demo.line next 1
 
 == a commit that fails in the second of three calls
-fail keeper 17
+fail keeper 56
 2 demo.line create [{"name":"bolt"}]
 = 1
 2 demo.line create [{"name":"nut"}]

@@ -23,6 +23,18 @@ const ABSENT: &str = "module demo: Absent text\n";
 
 const SHUT: &str = "keeper fault\n";
 
+/// The report on no rows of the modules inside the program.
+const AUDITED: &str = r"product.category.complete_name 0 equal
+product.category.parent_path 0 equal
+stock.location.complete_name 0 equal
+stock.location.parent_path 0 equal
+stock.move.quantity 0 equal
+stock.move.line.done 0 equal
+stock.picking.name 0 equal
+stock.picking.state 0 equal
+audit equal
+";
+
 const USAGE: &str = "usage: stockd call|serve|audit|gen [options]\n";
 
 /// Gives these words, the program's name first, and this input. It takes no output where
@@ -147,7 +159,7 @@ fn words_come_after_the_name(rt: HostRuntime) {
         // One that isn't UTF-8.
         (&[b"stockd", b"call", b"\xff"], 2, USAGE),
         (&[], 2, USAGE),
-        (&[b"stockd", b"audit"], 0, "audit equal\n"),
+        (&[b"stockd", b"audit"], 0, AUDITED),
         // Stores whose files can't be opened.
         (&[b"stockd", b"call", b"--store", b":memory:"], 6, SHUT),
         (&[b"stockd", b"audit", b"--store=none/rows"], 6, SHUT),

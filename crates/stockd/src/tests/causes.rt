@@ -58,7 +58,7 @@ kept demo.line next 3
 status 0
 
 == only a commit is asked of the keeper once the store is open
-fail keeper 16
+fail keeper 55
 2 demo.line create [{"qty":1.5}]
 ! Request malformed at params.args.5.0.qty
 2 demo.line read [[1],["qty"]]
@@ -75,8 +75,8 @@ fn each_status_and_each_refusal(rt: HostRuntime) -> Result<(), Fail> {
 }
 
 const EACH_CALL_OF_THE_KEEPER_FAILS: &str = r#"
-# Opening asks three calls for each of the five models: the next id, the row 0, a page.
-== the first at opening
+# Opening asks three calls for each of the eighteen models: the next id, the row 0, a page.
+== the first call at opening
 fail keeper 1
 2 demo.line create [{}]
 < keeper fault
@@ -84,75 +84,48 @@ status 6
 kept demo.line ids
 kept demo.line next 1
 
-== the second at opening
+== the second
 fail keeper 2
 2 demo.line create [{}]
 < keeper fault
 status 6
+kept demo.line ids
+kept demo.line next 1
 
-== the third at opening
+== the third
 fail keeper 3
 2 demo.line create [{}]
 < keeper fault
 status 6
+kept demo.line ids
+kept demo.line next 1
 
-== the fourth at opening
-fail keeper 4
+== the first of demo.line
+fail keeper 46
+2 demo.line create [{}]
 < keeper fault
 status 6
+kept demo.line ids
+kept demo.line next 1
 
-== the fifth at opening
-fail keeper 5
+== the second of demo.line
+fail keeper 47
+2 demo.line create [{}]
 < keeper fault
 status 6
+kept demo.line ids
+kept demo.line next 1
 
-== the sixth at opening
-fail keeper 6
+== the third of demo.line
+fail keeper 48
+2 demo.line create [{}]
 < keeper fault
 status 6
-
-== the seventh at opening
-fail keeper 7
-< keeper fault
-status 6
-
-== the eighth at opening
-fail keeper 8
-< keeper fault
-status 6
-
-== the ninth at opening
-fail keeper 9
-< keeper fault
-status 6
-
-== the tenth at opening
-fail keeper 10
-< keeper fault
-status 6
-
-== the eleventh at opening
-fail keeper 11
-< keeper fault
-status 6
-
-== the twelfth at opening
-fail keeper 12
-< keeper fault
-status 6
-
-== the thirteenth at opening
-fail keeper 13
-< keeper fault
-status 6
-
-== the fourteenth at opening
-fail keeper 14
-< keeper fault
-status 6
+kept demo.line ids
+kept demo.line next 1
 
 == the last at opening
-fail keeper 15
+fail keeper 54
 2 demo.line create [{}]
 < keeper fault
 status 6
@@ -163,7 +136,7 @@ kept demo.line next 1
 2 demo.line create [{"qty":2,"price":3}]
 = 1
 status 0
-fail keeper 26
+fail keeper 104
 < keeper fault
 status 6
 2 demo.line read [[1],["subtotal"]]
@@ -171,7 +144,7 @@ status 6
 status 0
 
 == the commit of a create
-fail keeper 16
+fail keeper 55
 2 demo.line create [{}]
 ! Keeper keeper fault
 2 demo.line read [[1],["qty"]]
@@ -183,7 +156,7 @@ fail keeper 16
 status 0
 
 == two commits of three
-fail keeper 17 18
+fail keeper 56 57
 2 demo.line create [{}]
 = 1
 2 demo.line create [{}]

@@ -29,6 +29,14 @@ status 0
 words audit --store=rows --load demo --modules modules
 < demo.line.subtotal 1 equal
 < demo.task.days 0 equal
+< product.category.complete_name 0 equal
+< product.category.parent_path 0 equal
+< stock.location.complete_name 0 equal
+< stock.location.parent_path 0 equal
+< stock.move.quantity 0 equal
+< stock.move.line.done 0 equal
+< stock.picking.name 0 equal
+< stock.picking.state 0 equal
 < audit equal
 status 0
 words call --store call

@@ -115,19 +115,68 @@ module place name = "place"|[[model]]|name = "place.place"|parent = "parent_id"|
 status 0
 kept place.place next 3
 
-== parents, and a managed model
+== rows of parents
+words call --load client
+module client name = "client"|[[model]]|name = "client.person"|[model.field.name]|type = "char"|[model.field.age]|type = "integer"|default = 40
+  |[[model]]|name = "client.firm"|[model.field.name]|type = "char"|[model.field.rank]|type = "integer"|compute = "id"|depends = ["id"]
+  |[[model]]|name = "client.client"|inherits = [["client.person", "person_id"], ["client.firm", "firm_id"]]|[model.field.city]|type = "char"
+2 client.client create [{"name":"Acme","city":"Ghent"}]
+= 1
+2 client.client create [[{"firm_id":1,"city":"Lier","age":7},{"firm_id":1,"person_id":2,"name":"Acme NV"},{"person_id":false}]]
+= [2,3,4]
+2 client.client read [[1,2],["name","city","age","person_id","firm_id"]]
+= [{"age":40,"city":"Ghent","firm_id":1,"id":1,"name":"Acme NV","person_id":1},{"age":7,"city":"Lier","firm_id":1,"id":2,"name":"Acme NV","person_id":2}]
+2 client.client read [[3,4],["name","age","person_id","firm_id"]]
+= [{"age":7,"firm_id":1,"id":3,"name":"Acme NV","person_id":2},{"age":40,"firm_id":2,"id":4,"name":false,"person_id":3}]
+2 client.person search [[["name","=",false]]]
+= [1,2,3]
+2 client.client create [{"firm_id":3}]
+! Constraint.MissingRef client.client 5 firm_id
+2 client.client create [{"firm_id":1,"age":"x"}]
+! Request malformed at params.args.5.0.age
+2 client.client create [{"rank":1}]
+! Request malformed at params.args.5.0.rank
+2 client.client write [[1],{"city":"Gent"}]
+! Request malformed at params.args.4
+status 0
+kept client.person next 4
+kept client.firm next 3
+
+== parents whose ids are past the limit
 words call --load client
 module client name = "client"|[[model]]|name = "client.person"|[model.field.name]|type = "char"
-  |[[model]]|name = "client.client"|inherits = [["client.person", "person_id"]]|[model.field.note]|type = "char"|[[model]]|name = "client.log"|managed = true|[model.field.note]|type = "char"
+  |[[model]]|name = "client.client"|inherits = [["client.person", "person_id"]]|[model.field.note]|type = "char"
+hold client.person next 4294967295
+2 client.client create [[{},{}]]
+! Constraint.Limit client.person 4294967296 id
 2 client.client create [{}]
-! Request malformed at params.args.4
+= 1
+2 client.client create [{}]
+! Constraint.Limit client.person 4294967296 id
+2 client.client create [{"person_id":4294967295}]
+= 2
+status 0
+
+== a managed model, and parents whose rows no call changes
+words call --load client
+module client name = "client"|[[model]]|name = "client.log"|managed = true|[model.field.note]|type = "char"|[[model]]|name = "client.entry"|inherits = [["client.log", "log_id"]]|[model.field.name]|type = "char"
+  |[[model]]|name = "client.fixed"|[model.field.code]|type = "char"|fixed = true|[[model]]|name = "client.coded"|inherits = [["client.fixed", "fixed_id"]]|[model.field.name]|type = "char"
+  |[[model]]|name = "client.locked"|locked = "done"|[model.field.done]|type = "boolean"|[[model]]|name = "client.task"|inherits = [["client.locked", "locked_id"]]|[model.field.name]|type = "char"
 2 client.log create [{}]
 ! Request malformed at params.args.4
-2 client.client read [[1],["name"]]
-! Missing client.client 1 does not exist
+2 client.entry create [{}]
+! Request malformed at params.args.4
+2 client.coded create [{"code":"x"}]
+! Request malformed at params.args.5.0.code
+2 client.coded create [{}]
+= 1
+2 client.task create [{}]
+! Request malformed at params.args.4
+2 client.entry read [[1],["note"]]
+! Missing client.entry 1 does not exist
 2 client.log read [[2,1],[]]
 ! Missing client.log 1 does not exist
-2 client.client read [[1],["age"]]
+2 client.entry read [[1],["age"]]
 ! Request malformed at params.args.5.1.0
 status 0
 "#;

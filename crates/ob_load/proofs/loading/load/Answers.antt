@@ -6,10 +6,11 @@ use Rattle.ob_io.specs.Cause.{Rose}
 use Rattle.ob_definition.specs.declared.fault.SchemaFault.TheVariants as schema
 use Rattle.ob_load.specs.declared.fault.LoadFault.TheVariants as load
 use Rattle.ob_load.specs.Access.{declared_policy}
-use Rattle.ob_load.specs.AccessFaults.{access_fault}
 use Rattle.ob_load.specs.Loading.{all_models}
+use Rattle.ob_load.specs.Preset.{declared_preset}
 use Rattle.ob_load.specs.Reading.{Module}
 use Rattle.ob_load.specs.declared.loading.Loaded.{Loaded}
+use Rattle.ob_load.specs.RowFaults.{modules_fault}
 use Rattle.ob_load.specs.Rooms.{modules_in, numbered}
 use Rattle.ob_load.proofs.Loads.{access-told, cycle-refused, loaded-by, models-there, models-told, reading-told}
 use Rattle.ob_load.proofs.Told.{err_is, no-file, told-of-text}
@@ -33,8 +34,8 @@ returns-in-Some-clause-fault g c = λ faulty same.
     cycle-refused (g.F.Files.texts c.args.files.now) c.args.folder.now c.args.names.now (modules_in c.in_ok-modules.modules) c.in_ok-modules.ensures.read
     c.in-Some.number c.name.result.now c.refused.result faulty found c.name.ensures c.refused.ensures.fault (err_is c.refused.result (load.Module faulty) same)
 
-pub with_policy-requires : goal.with_policy-requires
-with_policy-requires g c =
+pub with_meaning-requires : goal.with_meaning-requires
+with_meaning-requires g c =
     let order = c.in_ok-taken.ensures in
     (order.0, rw c.deref-in-Ok.ensures.value order.1)
 
@@ -46,12 +47,14 @@ returns-in-Ok-clause-loaded g c =
     let are : numbered modules c.deref.result.now order.0 = rw c.deref.ensures.value order.1 in
     let own : numbered modules c.deref-in-Ok.result.now order.0 = rw c.deref-in-Ok.ensures.value order.1 in
     let all : c.as_slice.result.now ≡ all_models order.0 = c.as_slice.ensures ∙ c.in_ok-models.ensures order.0 are in
-    loaded-by (g.F.Files.texts c.args.files.now) c.args.folder.now c.args.names.now modules c.in_ok-modules.ensures.read acyclic order.0 order.2 c.as_slice.result.now all c.in-Ok.schema c.with_policy.result
-    c.in-Ok.ensures.built c.in-Ok.ensures.faultless c.with_policy.ensures.same
-    (IfOk-weaker c.with_policy.result (λ l. (taken : List Module) → numbered modules c.deref-in-Ok.result.now taken → access_fault c.in-Ok.schema taken ≡ None) (λ l. access_fault c.in-Ok.schema order.0 ≡ None)
-    (λ l f. f order.0 own) c.with_policy.ensures.fits)
-    (IfOk-weaker c.with_policy.result (λ (l : Loaded). (taken : List Module) → numbered modules c.deref-in-Ok.result.now taken → l.policy ≡ declared_policy c.in-Ok.schema taken)
-    (λ (l : Loaded). l.policy ≡ declared_policy c.in-Ok.schema order.0) (λ l f. f order.0 own) c.with_policy.ensures.declared)
+    loaded-by (g.F.Files.texts c.args.files.now) c.args.folder.now c.args.names.now modules c.in_ok-modules.ensures.read acyclic order.0 order.2 c.as_slice.result.now all c.in-Ok.schema c.with_meaning.result
+    c.in-Ok.ensures.built c.in-Ok.ensures.faultless c.with_meaning.ensures.same
+    (IfOk-weaker c.with_meaning.result (λ l. (taken : List Module) → numbered modules c.deref-in-Ok.result.now taken → modules_fault c.in-Ok.schema taken ≡ None) (λ l. modules_fault c.in-Ok.schema order.0 ≡ None)
+    (λ l f. f order.0 own) c.with_meaning.ensures.fits)
+    (IfOk-weaker c.with_meaning.result (λ (l : Loaded). (taken : List Module) → numbered modules c.deref-in-Ok.result.now taken → l.policy ≡ declared_policy c.in-Ok.schema taken)
+    (λ (l : Loaded). l.policy ≡ declared_policy c.in-Ok.schema order.0) (λ l f. f order.0 own) c.with_meaning.ensures.declared)
+    (IfOk-weaker c.with_meaning.result (λ (l : Loaded). (taken : List Module) → numbered modules c.deref-in-Ok.result.now taken → l.preset.rows ≡ declared_preset c.in-Ok.schema taken)
+    (λ (l : Loaded). l.preset.rows ≡ declared_preset c.in-Ok.schema order.0) (λ l f. f order.0 own) c.with_meaning.ensures.brought)
 
 pub returns-in-Ok-clause-fault : goal.returns-in-Ok-clause-fault
 returns-in-Ok-clause-fault g c = λ faulty same.
@@ -62,20 +65,20 @@ returns-in-Ok-clause-fault g c = λ faulty same.
     let own : numbered modules c.deref-in-Ok.result.now order.0 = rw c.deref-in-Ok.ensures.value order.1 in
     let all : c.as_slice.result.now ≡ all_models order.0 = c.as_slice.ensures ∙ c.in_ok-models.ensures order.0 are in
     access-told (g.F.Files.texts c.args.files.now) c.args.folder.now c.args.names.now modules c.in_ok-modules.ensures.read acyclic order.0 order.2 c.as_slice.result.now all c.in-Ok.schema faulty
-    c.in-Ok.ensures.built c.in-Ok.ensures.faultless (c.with_policy.ensures.fault order.0 own faulty same)
+    c.in-Ok.ensures.built c.in-Ok.ensures.faultless (c.with_meaning.ensures.fault order.0 own faulty same)
 
 pub returns-in-Ok-clause-absent : goal.returns-in-Ok-clause-absent
 returns-in-Ok-clause-absent g c =
-    told-of-text (g.F.Files.texts c.args.files.now) (Rose (g.F.Files.faults c.args.files.now) (g.F.Files.faults c.read_modules.new.files)) c.with_policy.result c.with_policy.ensures.read
+    told-of-text (g.F.Files.texts c.args.files.now) (Rose (g.F.Files.faults c.args.files.now) (g.F.Files.faults c.read_modules.new.files)) c.with_meaning.result c.with_meaning.ensures.read
 
 pub returns-in-Ok-clause-sound : goal.returns-in-Ok-clause-sound
 returns-in-Ok-clause-sound g c =
-    IfOk-weaker c.with_policy.result (λ (l : Loaded). l.schema ≡ c.in-Ok.schema) (λ (l : Loaded). IsRegistry l.schema) (λ l same. subst IsRegistry (sym same) c.in-Ok.ensures.sound) c.with_policy.ensures.same
+    IfOk-weaker c.with_meaning.result (λ (l : Loaded). l.schema ≡ c.in-Ok.schema) (λ (l : Loaded). IsRegistry l.schema) (λ l same. subst IsRegistry (sym same) c.in-Ok.ensures.sound) c.with_meaning.ensures.same
 
 pub returns-in-Ok-clause-cause : goal.returns-in-Ok-clause-cause
 returns-in-Ok-clause-cause g c = record {
   no_fall = c.read_modules.ensures.cause.no_fall;
-  cause = λ failed. absurd (no-file c.with_policy.result c.with_policy.ensures.read failed);
+  cause = λ failed. absurd (no-file c.with_meaning.result c.with_meaning.ensures.read failed);
 }
 
 pub returns-clause-fault : goal.returns-clause-fault

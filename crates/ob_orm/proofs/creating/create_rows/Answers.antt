@@ -3,7 +3,7 @@ use Rattle.std.proofs.lemmas.Result.{err_from_is_err_and}
 use Rattle.std.specs.Prelude.{All}
 use Rattle.ob_cache.specs.Calls.{standpoint}
 use Rattle.ob_schema.specs.declared.info.ModelInfo.{ModelInfo}
-use Rattle.ob_tables.specs.Fitting.{AreFitIn}
+use Rattle.ob_orm.specs.NewRowSteps.{IsTyped}
 use Rattle.ob_orm.specs.Create.{values_of}
 use Rattle.ob_orm.proofs.CreateAnswer.{GivesRows, outcome_answer, outcome_cause, rows_answer, rows_cause}
 use Rattle.ob_orm.proofs.creating.create_rows.Goals as goal
@@ -22,15 +22,15 @@ returns-in_err-rows-clause-answer g c =
     let gives = subst (λ (ms : List ModelInfo). GivesRows ms c.args.call.now (Err why)) c.schema-schema.ensures c.in_err-rows.ensures.value in
     rw (p.1, p.2) (rows_answer (standpoint g.K.Keeper c.args.engine.now) c.args.call.now why c.requires.model gives)
 
-pub make_rows-requires-clause-fit : goal.make_rows-requires-clause-fit
-make_rows-requires-clause-fit g c = subst (λ (ms : List ModelInfo). All (AreFitIn ms c.args.call.now.model) (values_of c.in_ok-rows.rows)) c.schema-schema.ensures c.in_ok-rows.ensures.fit
+pub make_asked-requires-clause-typed : goal.make_asked-requires-clause-typed
+make_asked-requires-clause-typed g c = subst (λ (ms : List ModelInfo). All (All (IsTyped ms c.args.call.now.model)) (values_of c.in_ok-rows.rows)) c.schema-schema.ensures c.in_ok-rows.ensures.typed
 
 pub returns-clause-answer : goal.returns-clause-answer
 returns-clause-answer g c =
     let gives = subst (λ (ms : List ModelInfo). GivesRows ms c.args.call.now (Ok c.in_ok-rows.rows)) c.schema-schema.ensures c.in_ok-rows.ensures.value in
-    outcome_answer (standpoint g.K.Keeper c.args.engine.now) (standpoint g.K.Keeper c.make_rows.new.engine) c.args.call.now c.in_ok-rows.rows gives c.make_rows.result c.make_rows.ensures.rests c.make_rows.ensures.settled c.make_rows.ensures.refused
+    outcome_answer (standpoint g.K.Keeper c.args.engine.now) (standpoint g.K.Keeper c.make_asked.new.engine) c.args.call.now c.in_ok-rows.rows gives c.make_asked.result c.make_asked.ensures.rests c.make_asked.ensures.settled c.make_asked.ensures.refused
 
 pub returns-clause-causes : goal.returns-clause-causes
 returns-clause-causes g c =
     let gives = subst (λ (ms : List ModelInfo). GivesRows ms c.args.call.now (Ok c.in_ok-rows.rows)) c.schema-schema.ensures c.in_ok-rows.ensures.value in
-    outcome_cause (standpoint g.K.Keeper c.args.engine.now) (standpoint g.K.Keeper c.make_rows.new.engine) c.args.call.now c.in_ok-rows.rows gives _ c.make_rows.result c.make_rows.ensures.causes
+    outcome_cause (standpoint g.K.Keeper c.args.engine.now) (standpoint g.K.Keeper c.make_asked.new.engine) c.args.call.now c.in_ok-rows.rows gives _ c.make_asked.result c.make_asked.ensures.causes

@@ -5,7 +5,7 @@ use Rattle.std.specs.Option.{option_map_or}
 use Rattle.std.proofs.lemmas.Result.{err_from_is_err_and}
 use Rattle.toml.specs.View.{view}
 use Rattle.ob_load.specs.Access.{group_ids}
-use Rattle.ob_load.specs.AccessFaults.{groups_at, name_is_free}
+use Rattle.ob_load.specs.AccessFaults.{groups_at, name_fits}
 use Rattle.ob_load.specs.Meaning.{texts_at}
 use Rattle.ob_load.specs.declared.fault.LoadFault.TheVariants as load
 use Rattle.ob_load.proofs.AccessForms.{entry-first, entry-second}
@@ -20,7 +20,7 @@ returns-in_err-test_groups-clause-fault c = λ faulty same.
     let d = view c.args.entry.value.now in
     let p = err_from_is_err_and c.from_residual.result c.from_residual.ensures.1 in
     let told : c.in_err-test_groups.field-0.0 ≡ load.Module faulty = sym p.2 ∙ err_is p.0 (load.Module faulty) (sym p.1 ∙ same) in
-    entry-first owner c.args.entry.table.now c.args.entry.number (groups_at (codes "implies") c.args.self.now.groups.now d) (name_is_free c.args.taken.now owner d) faulty (c.in_err-test_groups.ensures.fault faulty (ap Err told))
+    entry-first owner c.args.entry.table.now c.args.entry.number (groups_at (codes "implies") c.args.self.now.groups.now d) (name_fits c.args.taken.now owner d) faulty (c.in_err-test_groups.ensures.fault faulty (ap Err told))
 
 pub returns-in_err-name-clause-fault : goal.returns-in_err-name-clause-fault
 returns-in_err-name-clause-fault c = λ faulty same.
@@ -28,11 +28,11 @@ returns-in_err-name-clause-fault c = λ faulty same.
     let d = view c.args.entry.value.now in
     let p = err_from_is_err_and c.from_residual-in_err-name.result c.from_residual-in_err-name.ensures.1 in
     let told : c.in_err-name.field-0.0 ≡ load.Module faulty = sym p.2 ∙ err_is p.0 (load.Module faulty) (sym p.1 ∙ same) in
-    entry-second owner c.args.entry.table.now c.args.entry.number (groups_at (codes "implies") c.args.self.now.groups.now d) (name_is_free c.args.taken.now owner d) faulty c.in_ok-test_groups.ensures.fits
+    entry-second owner c.args.entry.table.now c.args.entry.number (groups_at (codes "implies") c.args.self.now.groups.now d) (name_fits c.args.taken.now owner d) faulty c.in_ok-test_groups.ensures.fits
     (c.in_err-name.ensures.fault faulty (ap Err told))
 
 pub returns-clause-fits : goal.returns-clause-fits
-returns-clause-fits c = group-fits c.args.self.now.groups.now c.args.taken.now c.args.self.now.owner.now (view c.args.entry.value.now) c.in_ok-test_groups.ensures.fits c.in_ok-name.ensures.free
+returns-clause-fits c = group-fits c.args.self.now.groups.now c.args.taken.now c.args.self.now.owner.now (view c.args.entry.value.now) c.in_ok-test_groups.ensures.fits c.in_ok-name.ensures.fits
 
 pub returns-clause-made : goal.returns-clause-made
 returns-clause-made c =

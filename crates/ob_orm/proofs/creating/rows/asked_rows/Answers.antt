@@ -1,22 +1,22 @@
-use Rattle.std.proofs.Common.{List, Option, Some, Vec, Global, option_map, refl}
+use Rattle.std.proofs.Common.{Option, Some, Vec, Global, option_map, refl}
 use Rattle.std.proofs.lemmas.Result.{err_from_is_err_and}
 use Rattle.ob_call.specs.Arguments.{IsFit}
 use Rattle.ob_call.specs.ArgumentsSteps.{all_given_of, given_of}
 use Rattle.ob_call.specs.Forms.{fields_at}
 use Rattle.ob_call.specs.declared.arguments.Given.{Given}
 use Rattle.ob_orm.specs.Objects.{objects_expected}
-use Rattle.ob_orm.proofs.CreateAnswer.{denied_rows, moment_passed, must_be_given, rows_passed}
+use Rattle.ob_orm.proofs.CreateAnswer.{denied_rows, must_be_given, rows_passed}
 use Rattle.ob_orm.proofs.FirstArguments.{sole_are, sole_fits}
 use Rattle.ob_orm.proofs.creating.rows.asked_rows.Goals as goal
 
 pub unreachable-requires : goal.unreachable-requires
 unreachable-requires c =
-    let p = objects_expected (fields_at c.args.schema.now c.args.call.now.model) in
+    let p = objects_expected c.args.schema.now (fields_at c.args.schema.now c.args.call.now.model) in
     must_be_given p c.index.result.now refl (sole_fits p c.in_ok-given.given.items c.index.result.now c.in_ok-given.ensures.fit c.index.ensures) c.in_default.is
 
 pub rows_in-requires-clause-form : goal.rows_in-requires-clause-form
 rows_in-requires-clause-form c =
-    let p = objects_expected (fields_at c.args.schema.now c.args.call.now.model) in
+    let p = objects_expected c.args.schema.now (fields_at c.args.schema.now c.args.call.now.model) in
     let own : IsFit p (option_map given_of (Some c.in-Some.vals)) = rw c.in-Some.is at (sole_fits p c.in_ok-given.given.items c.index.result.now c.in_ok-given.ensures.fit c.index.ensures) in own
 
 pub returns-in_err-given-clause-value : goal.returns-in_err-given-clause-value
@@ -27,6 +27,6 @@ returns-in_err-given-clause-value c =
 pub returns-clause-value : goal.returns-clause-value
 returns-clause-value c =
     let call = c.args.call.now in
-    let p = objects_expected (fields_at c.args.schema.now call.model) in
+    let p = objects_expected c.args.schema.now (fields_at c.args.schema.now call.model) in
     let one = sole_are p c.in_ok-given.given.items (Some c.in-Some.vals) c.in_ok-given.ensures.fit (rw c.in-Some.is at c.index.ensures) in
-    rows_passed c.args.schema.now call c.in_ok-given.given.items c.in-Some.vals _ c.rows_in.result (moment_passed call.now c.requires.moment) one c.in_ok-given.ensures.told c.rows_in.ensures.value
+    rows_passed c.args.schema.now call c.in_ok-given.given.items c.in-Some.vals c.rows_in.result one c.in_ok-given.ensures.told c.rows_in.ensures.value

@@ -1,9 +1,0 @@
--- What the modules so far declare is a part of what all do.
-use Rattle.std.proofs.Common.{List}
-use Rattle.ob_load.specs.Reading.{Module}
-use Rattle.ob_load.specs.Rooms.{modules_in, numbered}
-use Rattle.ob_load.proofs.DeclaredTo.{IsDeclaredTo}
-use Rattle.ob_load.proofs.policy.policy_of.Given as goal
-
-abbrev pub invariant-loop-number : goal.invariant-loop-number
-invariant-loop-number l = (all : List Module) → numbered (modules_in l.modules) l.taken all → IsDeclaredTo l.schema all l.number-index l.groups l.declared

@@ -1,0 +1,216 @@
+-- Rows that are made one behind another: what the edits that make them leave of tables, and the next ids behind them.
+use Rattle.std.proofs.Common.{◌≡◌, ◌<◌, ◌≤◌, ◌+◌, ◌∷◌, [], ◌++◌, ℕ, ℤ, Bool, true, false, cond, List, length, max, map, Option, Some, None, unwrap_or, is_some, length-append, refl, sym, ap, subst, ◌∙◌, arith}
+use Rattle.std.specs.Prelude.{All, IsSome, IsSomeAnd, ⊤}
+use Rattle.std.specs.List.{flat_map}
+use Rattle.std.specs.BTreeMap as tree
+use Rattle.std.specs.BTreeMap.{BTreeMap}
+use Rattle.std.specs.Cmp.{eq_by_cmp_equiv, nat_cmp_total}
+use Rattle.std.specs.FinMap as finite
+use Rattle.std.specs.Option.{option_map_or}
+use Rattle.std.specs.Ordering.{eq_by_cmp, nat_cmp}
+use Rattle.std.proofs.lemmas.Bool.{false≢true}
+use Rattle.std.proofs.lemmas.List.{length_push, map-append}
+use Rattle.std.proofs.lemmas.List.Elements.{All-append, All-head, All-map, All-nil, All-push, All-tail}
+use Rattle.std.proofs.lemmas.Option.{same_Some}
+use Rattle.ob_base.specs.declared.id.ModelNo.{ModelNo}
+use Rattle.ob_base.specs.declared.id.RecId.{RecId}
+use Rattle.ob_cache.specs.Standing.{max_next_id}
+use Rattle.ob_orm.proofs.Emptied.{after-then, set-next}
+use Rattle.ob_orm.proofs.WriteEdits.{one_edit}
+use Rattle.ob_orm.specs.NewRows.{Begun, MadeRows, Values, behind, changed_values, filled, linked, made_row, made_rows, making, parent_change, parents_of, with_parent, with_parents}
+use Rattle.ob_orm.specs.NewRowSteps.{HoldsNextIds, IsReady, MayFit, held_next, so_far}
+use Rattle.ob_orm.specs.declared.making.next_ids.Making.{Making}
+use Rattle.ob_orm.specs.Write.{row_edits}
+use Rattle.ob_schema.specs.Models.{HasModel, model_at}
+use Rattle.ob_schema.specs.Tables.{Tables, next_of}
+use Rattle.ob_schema.specs.declared.info.ModelInfo.{ModelInfo}
+use Rattle.ob_schema.specs.declared.info.ParentInfo.{ParentInfo}
+use Rattle.ob_tables.specs.After.{after, edited, row_of, with_row}
+use Rattle.ob_tables.specs.Fitting.{AreFitIn}
+use Rattle.ob_tables.specs.declared.edit.Edit.{Edit}
+use Rattle.ob_tables.specs.declared.edit.Edit.TheVariants as edit
+
+-- what is begun of a row, by the edits so far
+abbrev pub begun_by : List ModelInfo → Tables → Making → Values → Begun
+begun_by models old making given = record { tables = so_far models old making; given = given }
+
+-- ---- one more
+
+module _ (models : List ModelInfo) (now : ℤ) where
+  -- one parent more
+  pub with_parents-more : (model : ModelNo) (at : Begun) (parents : List ParentInfo) (parent : ParentInfo)
+      → with_parents models now model at (parents ++ parent ∷ []) ≡ with_parent models now model (with_parents models now model at parents) parent
+  with_parents-more model at [] parent = refl
+  with_parents-more model at (p ∷ parents) parent = with_parents-more model (with_parent models now model at p) parents parent
+
+  -- one row more
+  pub made_rows-more : (tables : Tables) (model : ModelNo) (each : List Values) (given : Values)
+      → made_rows models now tables model (each ++ given ∷ []) ≡ record {
+        tables = (made_row models now (made_rows models now tables model each).tables model given).tables;
+        ids = (made_rows models now tables model each).ids ++ (made_row models now (made_rows models now tables model each).tables model given).id ∷ [];
+      }
+  made_rows-more tables model [] given = refl
+  made_rows-more tables model (g ∷ each) given =
+      let one = made_row models now tables model g in
+      ap (λ (rest : MadeRows). record { tables = rest.tables; ids = one.id ∷ rest.ids }) (made_rows-more one.tables model each given)
+
+-- ---- next ids
+
+-- a next id, behind one more
+raised : (b : Bool) (n : ℕ) (old : Option ℕ) → unwrap_or (cond b (Some n) old) 1 ≡ cond b n (unwrap_or old 1)
+raised true n old = refl
+raised false n old = refl
+
+-- an id that is taken is followed by the next
+followed : (n : ℕ) → max n (n + 1) ≡ n + 1
+followed n = omega arith
+
+module _ (models : List ModelInfo) (tables : Tables) where
+  -- the next ids once a row is made under its model's next id
+  pub next-made : (model : ModelNo) (info : ModelInfo) → model_at models model ≡ Some info → (id : ℕ) (values : Values) → id ≡ next_of tables model → (other : ModelNo)
+      → next_of (edited models tables (edit.Make model (record { 0 = id }) values)) other ≡ cond (eq_by_cmp nat_cmp other.0 model.0) (id + 1) (next_of tables other)
+  next-made model info at id values is other =
+      ap (λ (o : Option ModelInfo). next_of (option_map_or (λ i. with_row models model (record { 0 = id }) (row_of i values) tables) o tables) other) at
+      ∙ ap (λ (o : Option ℕ). unwrap_or o 1) (finite.get-insert nat_cmp_total tables.next_ids model.0 (max (next_of tables model) (id + 1)) other.0)
+      ∙ raised (eq_by_cmp nat_cmp other.0 model.0) (max (next_of tables model) (id + 1)) (finite.get tables.next_ids other.0)
+      ∙ ap (λ (n : ℕ). cond (eq_by_cmp nat_cmp other.0 model.0) n (next_of tables other)) (ap (λ (n : ℕ). max n (id + 1)) (sym is) ∙ followed id)
+
+-- edits that only set values
+abbrev pub IsSet : Edit → Type 0
+IsSet (edit.Set cell v) = ⊤
+IsSet _ = ⊥
+
+module _ (models : List ModelInfo) where
+  -- leave the next ids
+  pub next-set : (tables : Tables) (edits : List Edit) → All IsSet edits → (other : ModelNo) → next_of (after models tables edits) other ≡ next_of tables other
+  next-set tables [] sets other = refl
+  next-set tables (edit.Set cell v ∷ edits) sets other =
+      next-set (edited models tables (edit.Set cell v)) edits (All-tail IsSet (edit.Set cell v) edits sets) other
+      ∙ ap (λ (ids : finite.FinMap nat_cmp ℕ). unwrap_or (finite.get ids other.0) 1) (set-next models tables cell v)
+  next-set tables (edit.Make m id values ∷ edits) sets other = absurd (All-head IsSet (edit.Make m id values) edits sets)
+  next-set tables (edit.Gone m id ∷ edits) sets other = absurd (All-head IsSet (edit.Gone m id) edits sets)
+
+-- ---- what is held behind a row that is made
+
+there_of : (o : Option ModelInfo) → IsSome o → (info : ModelInfo) × (o ≡ Some info)
+there_of None h = absurd (false≢true h)
+there_of (Some info) h = (info, refl)
+
+either : (b c : Bool) (n m : ℕ) (o : Option ℕ) → b ≡ c → o ≡ Some m → cond b (Some n) o ≡ Some (cond c n m)
+either true true n m o same is = refl
+either false false n m o same is = is
+either true false n m o same is = absurd (false≢true (sym same))
+either false true n m o same is = absurd (false≢true same)
+
+bounded : (b : Bool) (id low high : ℕ) (o : Option ℕ) → id < high → low ≤ high → IsSomeAnd o (λ n. n ≤ low) → IsSomeAnd (cond b (Some (id + 1)) o) (λ n. n ≤ high)
+bounded true id low high o within up held = omega arith
+bounded false id low high None within up held = absurd held
+bounded false id low high (Some n) within up held = omega arith
+
+-- one id is taken
+abbrev pub Raises : Making → Making → ModelNo → ℕ → Type 0
+Raises before now model id = (number : ℕ) → tree.get nat_cmp now.next_ids number ≡ cond (eq_by_cmp nat_cmp model.0 number) (Some (id + 1)) (tree.get nat_cmp before.next_ids number)
+
+module _ (models : List ModelInfo) (model : ModelNo) (before now : Making) (id : ℕ) (values : Values) (raises : Raises before now model id) (own : held_next before model ≡ Some id)
+    (pushed : now.edits.items ≡ before.edits.items ++ edit.Make model (record { 0 = id }) values ∷ []) where
+  module _ (old : Tables) (info : ModelInfo) (at : model_at models model ≡ Some info) (holds : HoldsNextIds models old before) where
+    -- the id is the next one
+    pub id-next : id ≡ next_of (so_far models old before) model
+    id-next = same_Some id (next_of (so_far models old before) model) (sym own ∙ holds model (ap is_some at))
+
+    -- the row is made
+    pub so_far-made : so_far models old now ≡ edited models (so_far models old before) (edit.Make model (record { 0 = id }) values)
+    so_far-made = ap (after models old) pushed ∙ after-then models old before.edits.items (edit.Make model (record { 0 = id }) values ∷ [])
+
+    -- and the next ids are held still
+    pub holds-made : HoldsNextIds models old now
+    holds-made other there =
+        raises other.0
+        ∙ either (eq_by_cmp nat_cmp model.0 other.0) (eq_by_cmp nat_cmp other.0 model.0) (id + 1) (next_of (so_far models old before) other) (held_next before other) ((eq_by_cmp_equiv nat_cmp_total).symm model.0 other.0) (holds other there)
+        ∙ sym (ap (λ (t : Tables). Some (next_of t other)) so_far-made ∙ ap Some (next-made models (so_far models old before) model info at id values id-next other))
+
+  -- so a row is made of what is given
+  pub one-made : (moment : ℤ) (given : Values) → values ≡ filled models moment true model given → HasModel models model → (old : Tables) → HoldsNextIds models old before
+      → (so_far models old now ≡ edited models (so_far models old before) (making models moment (so_far models old before) model given)) × (id ≡ next_of (so_far models old before) model) × HoldsNextIds models old now
+  one-made moment given are there old holds =
+      let (info, at) = there_of (model_at models model) there in
+      let t = so_far models old before in
+      let next = id-next old info at holds in (
+        so_far-made old info at holds ∙ ap (λ (vs : Values). edited models t (edit.Make model (record { 0 = id }) vs)) are ∙ ap (λ (n : ℕ). edited models t (edit.Make model (record { 0 = n }) (filled models moment true model given))) next,
+        next,
+        holds-made old info at holds,
+      )
+
+  -- they are few enough
+  pub ready-made : AreFitIn models model values → id ≤ max_next_id + length before.edits.items → IsReady models before → IsReady models now
+  ready-made fit low ready =
+      let longer : length now.edits.items ≡ length before.edits.items + 1 = ap length pushed ∙ length_push before.edits.items (edit.Make model (record { 0 = id }) values) in record {
+        held = λ other there.
+            subst (λ (o : Option ℕ). IsSomeAnd o (λ n. n ≤ max_next_id + length now.edits.items)) (sym (raises other.0))
+            (bounded (eq_by_cmp nat_cmp model.0 other.0) id (max_next_id + length before.edits.items) (max_next_id + length now.edits.items) (held_next before other) (omega arith) (omega arith) (ready.held other there));
+        fit = subst (All (MayFit models)) (sym pushed) (All-push (MayFit models) before.edits.items (edit.Make model (record { 0 = id }) values) ready.fit fit);
+      }
+
+-- ---- and behind changes of other rows
+
+module _ (models : List ModelInfo) (before now : Making) (changes : List Edit) (same : now.next_ids ≡ before.next_ids) (appended : now.edits.items ≡ before.edits.items ++ changes) where
+  -- the changes are made
+  pub so_far-changed : (old : Tables) → so_far models old now ≡ after models (so_far models old before) changes
+  so_far-changed old = ap (after models old) appended ∙ after-then models old before.edits.items changes
+
+  pub holds-changed : (old : Tables) → All IsSet changes → HoldsNextIds models old before → HoldsNextIds models old now
+  holds-changed old sets holds other there =
+      ap (λ (ids : BTreeMap ℕ ℕ). tree.get nat_cmp ids other.0) same ∙ holds other there
+      ∙ sym (ap (λ (t : Tables). Some (next_of t other)) (so_far-changed old) ∙ ap Some (next-set models (so_far models old before) changes sets other))
+
+  pub ready-changed : All (MayFit models) changes → IsReady models before → IsReady models now
+  ready-changed fit ready =
+      let longer : length now.edits.items ≡ length before.edits.items + length changes = ap length appended ∙ length-append before.edits.items changes in record {
+        held = λ other there.
+            subst (λ (o : Option ℕ). IsSomeAnd o (λ n. n ≤ max_next_id + length now.edits.items)) (sym (ap (λ (ids : BTreeMap ℕ ℕ). tree.get nat_cmp ids other.0) same))
+            (bounded false 0 (max_next_id + length before.edits.items) (max_next_id + length now.edits.items) (held_next before other) (omega arith) (omega arith) (ready.held other there));
+        fit = subst (All (MayFit models)) (sym appended) (All-append (MayFit models) before.edits.items changes ready.fit fit);
+      }
+
+-- ---- what is changed of parents
+
+All-flat_map : {X Y : Type 0} (P : Y → Type 0) (f : X → List Y) (xs : List X) → ((x : X) → All P (f x)) → All P (flat_map f xs)
+All-flat_map P f [] each = All-nil P
+All-flat_map P f (x ∷ xs) each = All-append P (f x) (flat_map f xs) (each x) (All-flat_map P f xs each)
+
+module _ (models : List ModelInfo) (now : ℤ) (model : ModelNo) (given : Values) where
+  -- values are set
+  sets-one : (parent : ParentInfo) → All IsSet (parent_change models now model given parent)
+  sets-one parent = by (linked given parent.link) where
+    by : (o : Option RecId) → All IsSet (option_map_or (λ id. row_edits parent.model (changed_values models now parent.model (behind models model parent.link given)) id.0) o [])
+    by None = All-nil IsSet
+    by (Some id) = All-map IsSet (one_edit parent.model id.0) (changed_values models now parent.model (behind models model parent.link given)) (λ k d lt. tt)
+
+  pub sets-parents : (parents : List ParentInfo) → All IsSet (flat_map (parent_change models now model given) parents)
+  sets-parents parents = All-flat_map IsSet (parent_change models now model given) parents sets-one
+
+-- ---- a whole row, and rows behind it
+
+module _ (models : List ModelInfo) (now : ℤ) (model : ModelNo) (old : Tables) where
+  -- a row is made once its parents are and what it changes of others follows
+  pub row-made-so : (first second third last : Making) (given more : Values) (changes : List Edit) (id : ℕ) → changes ≡ flat_map (parent_change models now model given) (parents_of models model)
+      → record { tables = so_far models old second; given = more } ≡ with_parents models now model (record { tables = so_far models old first; given = given }) (parents_of models model)
+      → so_far models old third ≡ edited models (so_far models old second) (making models now (so_far models old second) model more) → id ≡ next_of (so_far models old second) model → so_far models old last ≡ after models (so_far models old third) changes
+      → (so_far models old last ≡ (made_row models now (so_far models old first) model given).tables) × (id ≡ (made_row models now (so_far models old first) model given).id)
+  row-made-so first second third last given more changes id changes_are parents one next ends = (
+    ends ∙ ap (λ (t : Tables). after models t changes) one ∙ ap (λ (b : Begun). after models (edited models b.tables (making models now b.tables model b.given)) changes) parents
+        ∙ ap (after models (let b = with_parents models now model (record { tables = so_far models old first; given = given }) (parents_of models model) in edited models b.tables (making models now b.tables model b.given))) changes_are,
+    next ∙ ap (λ (b : Begun). next_of b.tables model) parents,
+  )
+
+  -- one row more
+  pub rows-made-so : (first before last : Making) (each : List Values) (given : Values) (ids more : List RecId) (id : RecId) → so_far models old before ≡ (made_rows models now (so_far models old first) model each).tables
+      → map (λ i. i.0) ids ≡ (made_rows models now (so_far models old first) model each).ids → so_far models old last ≡ (made_row models now (so_far models old before) model given).tables
+      → id.0 ≡ (made_row models now (so_far models old before) model given).id → more ≡ ids ++ id ∷ []
+      → (so_far models old last ≡ (made_rows models now (so_far models old first) model (each ++ given ∷ [])).tables) × (map (λ i. i.0) more ≡ (made_rows models now (so_far models old first) model (each ++ given ∷ [])).ids)
+  rows-made-so first before last each given ids more id far far_ids one own pushed =
+      let all = made_rows-more models now (so_far models old first) model each given in (
+        one ∙ ap (λ (t : Tables). (made_row models now t model given).tables) far ∙ sym (ap (λ (r : MadeRows). r.tables) all),
+        ap (map (λ (i : RecId). i.0)) pushed ∙ map-append (λ (i : RecId). i.0) ids (id ∷ []) ∙ ap (λ (ns : List ℕ). ns ++ id.0 ∷ []) far_ids
+            ∙ ap (λ (n : ℕ). (made_rows models now (so_far models old first) model each).ids ++ n ∷ []) (own ∙ ap (λ (t : Tables). (made_row models now t model given).id) far) ∙ sym (ap (λ (r : MadeRows). r.ids) all),
+      )

@@ -1,0 +1,10 @@
+use Rattle.std.specs.Prelude.{IfSome}
+use Rattle.serde_json.specs.View.{members_view}
+use Rattle.ob_schema.specs.Models.{model_at}
+use Rattle.ob_orm.specs.ObjectSteps.{object_place}
+use Rattle.ob_orm.proofs.GivenFields.{GivenSoFar}
+use Rattle.ob_orm.proofs.creating.given.given_values.Given as goal
+
+-- the values of the fields so far, as they are meant
+abbrev pub invariant-loop-index : goal.invariant-loop-index
+invariant-loop-index l = IfSome (model_at l.schema l.model) (λ info. GivenSoFar l.schema (object_place l.object) (members_view l.members.entries) l.model info l.index l.values)

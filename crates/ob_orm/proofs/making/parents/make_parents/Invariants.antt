@@ -1,0 +1,17 @@
+use Rattle.std.proofs.Common.{◌≡◌, take}
+use Rattle.std.specs.Prelude.{All}
+use Rattle.ob_orm.specs.NewRows.{with_parents}
+use Rattle.ob_orm.specs.NewRowSteps.{HoldsNextIds, IsReady, IsTyped, so_far}
+use Rattle.ob_orm.proofs.NewRows.{begun_by}
+use Rattle.ob_orm.proofs.making.parents.make_parents.Given as goal
+use Rattle.ob_schema.specs.Tables.{Tables}
+
+-- the parents so far are made
+abbrev pub invariant-loop-parent : goal.invariant-loop-parent
+invariant-loop-parent l = record {
+  ready : IsReady l.maker.schema.now l.making;
+  typed : All (IsTyped l.maker.schema.now l.model) l.given.items;
+  made : (old : Tables) → HoldsNextIds l.maker.schema.now old l.fn.making
+      → (begun_by l.maker.schema.now old l.making l.given.items ≡ with_parents l.maker.schema.now l.maker.now l.model (begun_by l.maker.schema.now old l.fn.making l.fn.given.items) (take l.parent-index l.parents))
+      × HoldsNextIds l.maker.schema.now old l.making;
+}
