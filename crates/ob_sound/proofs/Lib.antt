@@ -1,0 +1,14 @@
+pub mod Unedited
+pub mod Chained
+pub mod InTrees
+pub mod Ties
+pub mod Sets
+pub mod Found
+pub mod DepthsAdd
+pub mod Named
+pub mod Alone
+pub mod Touching
+pub mod Outcomes
+pub mod Unchanged
+pub mod Everything
+pub mod Passing

@@ -1,0 +1,5 @@
+-- What contracts of public functions cite.
+pub mod EditsBreak
+pub mod FormulasBreak
+pub mod Lists
+pub mod Touched
