@@ -27,6 +27,8 @@ BEYOND = {"res.groups", "res.users"}
 SERVERS = {"id", "create_date", "write_date", "subtotal", "total", "parent_path", "owner_id"}
 USERS = {"create_uid", "write_uid"}
 MOMENTS = {"create_date", "write_date"}
+# Calls that the program serves and the earlier state doesn't.
+LATER = ("write", "unlink", "fields_get", "search", "search_count", "search_read", "read_group")
 
 
 def parts(line):
@@ -42,7 +44,7 @@ def parts(line):
 def unrelated(line):
     """The request, where it isn't of a model with relations, nor a call that that state doesn't serve."""
     found = parts(line)
-    unserved = found and any(method in found[2] for method in ("write", "unlink", "fields_get", "search", "search_count", "search_read"))
+    unserved = found and any(method in found[2] for method in LATER)
     several = found and "create" in found[2] and isinstance(argument(found[2], 0, "vals"), list)
     return None if unserved or several or found and isinstance(found[3], str) and found[3] in RELATED else line
 

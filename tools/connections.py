@@ -10,7 +10,6 @@ messages.py; here are the peers that cut, go away, stall and drip, how serving e
 taken. Prints each case that differs; the status is 1 where one does. PROGRAM is by default the proved one.
 """
 import concurrent.futures
-import os
 import random
 import re
 import socket
@@ -20,8 +19,9 @@ import sys
 import time
 
 import messages as m
+import process
+from process import TOP, read_out
 
-TOP = os.path.dirname(os.path.dirname(os.path.abspath(__file__)))
 # How many seconds a read or a write may wait, with the one behind it at the close, and room for other work beside.
 PATIENCE, CLOSING, ROOM = 5, 1, 6
 # A count that grows by less isn't told from the allocator's own.
@@ -53,7 +53,7 @@ class Server:
     """A server that must end by itself with status 0, behind its last connection."""
 
     def __init__(self, cases, name, connections):
-        self.cases, self.name, self.port = cases, name, free_port()
+        self.cases, self.name, self.port = cases, name, process.free_port()
         self.words = cases.words("serve", f"--listen=127.0.0.1:{self.port}", "--connections", str(connections))
 
     def __enter__(self):
@@ -72,53 +72,16 @@ class Server:
 
     def connected(self, room=None):
         """A new connection; with a room for so many bytes that come back."""
-        for _ in range(400):
-            peer = socket.socket()
-            if room:
-                peer.setsockopt(socket.SOL_SOCKET, socket.SO_RCVBUF, room)
-            peer.setsockopt(socket.IPPROTO_TCP, socket.TCP_NODELAY, 1)
-            peer.settimeout(60)
-            try:
-                peer.connect(("127.0.0.1", self.port))
-                return peer
-            except OSError:
-                peer.close()
-                time.sleep(0.02)
-        sys.exit("the server doesn't listen")
+        return process.connected(self.port, room=room) or sys.exit("the server doesn't listen")
 
     def exchanged(self, *pieces, pause=0):
         """Sends these pieces, with a pause between, and gives what came back."""
-        with self.connected() as peer:
-            try:
-                for number, piece in enumerate(pieces):
-                    time.sleep(pause if number else 0)
-                    peer.sendall(piece)
-                peer.shutdown(socket.SHUT_WR)
-            except OSError:
-                pass
-            return read_out(peer)
+        return process.exchanged(self.connected(), pieces, pause)
 
     def memory(self):
         """The kilobytes of the process that are in memory."""
         with open(f"/proc/{self.process.pid}/status") as it:
             return int(re.search(r"VmRSS:\s*(\d+)", it.read())[1])
-
-
-def free_port():
-    with socket.socket() as listener:
-        listener.bind(("127.0.0.1", 0))
-        return listener.getsockname()[1]
-
-
-def read_out(peer):
-    """What comes back until the other side ends."""
-    got = b""
-    try:
-        while piece := peer.recv(1 << 20):
-            got += piece
-    except OSError:
-        pass
-    return got
 
 
 def read_bytes(peer, count):
@@ -349,10 +312,7 @@ def long(cases):
 
 
 def main():
-    program = sys.argv[1] if len(sys.argv) > 1 else subprocess.run([f"{TOP}/tools/build.sh", "proved"], stdout=subprocess.PIPE, text=True).stdout.strip()
-    if not program:
-        return 1
-    cases = Cases(os.path.abspath(program))
+    cases = Cases(process.program(*sys.argv[1:2]))
     (long if sys.argv[2:] == ["long"] else gate)(cases)
     print(f"{cases.bad} differ; {cases.count} cases")
     return 1 if cases.bad else 0

@@ -14,10 +14,15 @@ POST = "POST /jsonrpc HTTP/1.1"
 WORKED = ("Host: 127.0.0.1:8069", "Content-Type: application/json")
 
 
+def called(number, model, method, elements, user="2"):
+    """The body of a call of this method; what stands behind it is JSON."""
+    return (f'{{"jsonrpc":"2.0","method":"call","params":{{"service":"object","method":"execute_kw","args":["stock",{user},"admin","{model}","{method}",'
+            f'{elements}]}},"id":{number}}}').encode()
+
+
 def asked(number, method, *args, model="demo.line"):
     """The body of a call of this method; each argument is JSON."""
-    return (f'{{"jsonrpc":"2.0","method":"call","params":{{"service":"object","method":"execute_kw","args":["stock",2,"admin","{model}","{method}",'
-            f'[{",".join(args)}]]}},"id":{number}}}').encode()
+    return called(number, model, method, f"[{','.join(args)}]")
 
 
 def told(number, result):

@@ -40,5 +40,6 @@ case_is 'two stores' "$("$program" "${demo[@]}" --store "$top/none/a" --store "$
 case_is 'a folder in place of a store' "$("$program" "${demo[@]}" --store "$top" </dev/null; echo "$?")" $'keeper fault\n6'
 case_is 'a shut input' "$("$program" "${demo[@]}" <&-; echo "$?")" $'read fault\n4'
 case_is 'a shut output' "$("$program" "${demo[@]}" <"$top/examples/first.jsonl" 2>&1 >&-; echo "$?")" 5
+case_is 'other words and a shut output' "$("$program" later 2>&1 >&-; echo "$?")" 2
 case_is 'a shut output of an audit' "$("$program" audit "${demo[@]:1}" 2>&1 >&-; echo "$?")" 5
 exit "$failed"

@@ -21,23 +21,26 @@ import sys
 import tempfile
 import time
 
-TOP = os.path.dirname(os.path.dirname(os.path.abspath(__file__)))
+import messages as m
+from process import TOP, program
+
 FAULT = ("keeper fault\n", 6)
-# The lines of an audit behind those of demo.line, where there are no rows of other computed fields.
-OTHERS = "".join(f"{field} 0 equal\n" for field in (
-    "demo.order.total", "demo.place.parent_path", "product.category.complete_name", "product.category.parent_path",
-    "stock.location.complete_name", "stock.location.parent_path", "stock.move.quantity", "stock.move.line.done",
-    "stock.picking.name", "stock.picking.state"))
+# The lines of an audit behind those of demo.line, where there are no other rows than those of a new store.
+OTHERS = "".join(f"{field} {count} equal\n" for field, count in (
+    ("demo.order.total", 0), ("demo.place.parent_path", 0), ("product.category.complete_name", 1), ("product.category.parent_path", 1),
+    ("stock.location.complete_name", 7), ("stock.location.parent_path", 7), ("stock.move.quantity", 0), ("stock.move.line.done", 0),
+    ("stock.picking.name", 0), ("stock.picking.state", 0)))
 TABLES = [
     "CREATE TABLE kept(model INTEGER, id INTEGER, body BLOB, PRIMARY KEY(model, id)) STRICT",
     "CREATE TABLE link(model INTEGER, field INTEGER, target INTEGER, id INTEGER, PRIMARY KEY(model, field, target, id)) STRICT",
     "CREATE TABLE counter(model INTEGER PRIMARY KEY, next INTEGER) STRICT",
     "CREATE INDEX link_row ON link(model, id)",
 ]
-# The body of a line named Al with 3 pieces at 25 and no order, made and changed at one moment. It is longer than any other there.
+# The body of a line named Al with 3 pieces at 25 and no order, made and changed at one moment.
 LINE = ("010007" "0b6372656174655f6461746505{0}" "046e616d650300000002416c" "086f726465725f696400" "057072696365020000000000000019" "03717479020000000000000003"
         "08737562746f74616c02000000000000004b" "0a77726974655f6461746505{0}")
-LINES = "length(body) = (SELECT max(length(body)) FROM kept)"
+LINES = "instr(body, CAST('subtotal' AS BLOB)) > 0"
+SHIPS = "instr(body, CAST('line_id' AS BLOB)) > 0"
 FEW_KILLS = 10
 MANY = 100_000
 
@@ -67,9 +70,17 @@ class Cases:
         return subprocess.Popen(self.words("call", path), stdin=subprocess.PIPE, stdout=subprocess.PIPE, text=True, bufsize=1)
 
 
+def written(value):
+    """A value as JSON without blanks."""
+    return json.dumps(value, separators=(",", ":"))
+
+
+def line(body):
+    return f"{body.decode()}\n"
+
+
 def request(number, model, method, *args):
-    params = {"service": "object", "method": "execute_kw", "args": ["stock", 2, "admin", model, method, list(args)]}
-    return json.dumps({"jsonrpc": "2.0", "method": "call", "params": params, "id": number}) + "\n"
+    return line(m.asked(number, method, *map(written, args), model=model))
 
 
 def create(number, **vals):
@@ -77,12 +88,11 @@ def create(number, **vals):
 
 
 def created(number, result):
-    return json.dumps({"id": number, "jsonrpc": "2.0", "result": result}, separators=(",", ":")) + "\n"
+    return line(m.told(number, written(result)))
 
 
 def refused(number):
-    data = {"message": "keeper fault", "name": "Keeper"}
-    return json.dumps({"error": {"code": 200, "data": data, "message": "Odoo Server Error"}, "id": number, "jsonrpc": "2.0"}, separators=(",", ":")) + "\n"
+    return line(m.refused(number, "Keeper", "keeper fault"))
 
 
 def equal(rows):
@@ -154,11 +164,11 @@ def look_inside(cases, path):
     cases.differ("PRAGMA integrity_check", ask("PRAGMA integrity_check"), ["ok"])
     cases.differ("the tables", [text for text in ask("SELECT replace(sql, 'IF NOT EXISTS ', '') FROM sqlite_schema") if text], TABLES)
     moments = ask(f"SELECT lower(hex(substr(body, 17, 8))) FROM kept WHERE {LINES}")
-    bodies = ask("SELECT lower(hex(body)) FROM kept ORDER BY length(body) DESC")
+    bodies = ask(f"SELECT lower(hex(body)) FROM kept WHERE {LINES}")
     cases.differ("the body of a line", bodies[:1], [LINE.format(moments[0])])
-    model, ship = ask("SELECT model FROM kept ORDER BY length(body) DESC")
-    cases.differ("next ids", ask("SELECT model, next FROM counter ORDER BY next, model = " + ship), [f"{model}|2", f"{ship}|2"])
-    cases.differ("links", ask("SELECT model, target, id FROM link"), [f"{ship}|1|1"])
+    model, ship = (ask(f"SELECT model FROM kept WHERE {of}")[0] for of in (LINES, SHIPS))
+    cases.differ("next ids", ask(f"SELECT model, next FROM counter WHERE model IN ({model}, {ship}) ORDER BY model = {ship}"), [f"{model}|2", f"{ship}|2"])
+    cases.differ("links", ask(f"SELECT model, target, id FROM link WHERE model = {ship}"), [f"{ship}|1|1"])
 
 
 def two_processes(cases):
@@ -238,8 +248,8 @@ def many_rows(cases):
     path = f"{cases.folder}/many"
     cases.differ("the first of many rows", cases.run("call", path, [create(1, name="Al", qty=3, price=25)]), (created(1, 1), 0))
     alter(path, "WITH RECURSIVE more(id) AS (SELECT 2 UNION ALL SELECT id + 1 FROM more WHERE id < ?) "
-          "INSERT INTO kept SELECT model, more.id, body FROM kept, more WHERE kept.id = 1", MANY)
-    alter(path, "UPDATE counter SET next = ?", MANY + 1)
+          f"INSERT INTO kept SELECT model, more.id, body FROM kept, more WHERE {LINES}", MANY)
+    alter(path, f"UPDATE counter SET next = ? WHERE model = (SELECT model FROM kept WHERE {LINES} LIMIT 1)", MANY + 1)
     cases.differ("one row more", cases.run("call", path, [create(1, name="Bo", qty=2, price=7)]), (created(1, MANY + 1), 0))
     rows = [{"id": 1, "name": "Al", "subtotal": 75}, {"id": MANY, "name": "Al", "subtotal": 75}, {"id": MANY + 1, "name": "Bo", "subtotal": 14}]
     read = request(2, "demo.line", "read", [1, MANY, MANY + 1], ["name", "subtotal"])
@@ -290,16 +300,9 @@ def rows_of(cases, path, most):
 
 
 def main():
-    kills = int(sys.argv[1]) if len(sys.argv) > 1 else FEW_KILLS
-    if len(sys.argv) > 2:
-        program = os.path.abspath(sys.argv[2])
-    else:
-        told = subprocess.run([f"{TOP}/tools/build.sh", "proved", "stockd"], stdout=subprocess.PIPE, text=True)
-        if told.returncode:
-            sys.exit(1)
-        program = told.stdout.strip()
+    kills, path = int(sys.argv[1]) if len(sys.argv) > 1 else FEW_KILLS, program(*sys.argv[2:3])
     with tempfile.TemporaryDirectory(prefix="stores-") as folder:
-        cases = Cases(program, folder)
+        cases = Cases(path, folder)
         kept_rows(cases)
         two_processes(cases)
         no_stores(cases)

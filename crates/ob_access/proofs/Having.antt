@@ -1,12 +1,11 @@
 -- Being one of a list of groups.
 use mathlib.Core.Path.{fun_ext}
-use Rattle.std.proofs.Common.{◌≡◌, ◌<◌, ◌&&◌, ◌||◌, ◌==◌, ◌↔◌, ℕ, zero, suc, Bool, true, false, List, [], ◌∷◌, refl, ap, sym, subst, ◌∙◌, arith, eq-eqb}
+use Rattle.std.proofs.Common.{◌≡◌, ◌<◌, ◌||◌, ◌==◌, ◌↔◌, ℕ, zero, suc, Bool, true, false, List, [], ◌∷◌, refl, ap, sym, subst, arith, eq-eqb}
 use Rattle.std.proofs.lemmas.Bool.{eqb-true}
 use Rattle.std.proofs.lemmas.Map.Views.{Contains-from_any}
 use Rattle.std.specs.Prelude.{Contains, length, slice_index_or}
-use Rattle.std.specs.List.{list_any}
 use Rattle.ob_base.specs.declared.id.RecId.{RecId}
-use Rattle.ob_access.specs.Groups.{has_group, has_some, is_open_to}
+use Rattle.ob_access.specs.Groups.{has_group}
 
 -- ids of one number are the same
 pub same_id : (a b : RecId) → (a.0 == b.0) ≡ true → a ≡ b

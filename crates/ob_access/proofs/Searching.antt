@@ -1,7 +1,6 @@
 -- What one step of the search for groups keeps.
-use Rattle.std.proofs.Common.{◌≡◌, ◌<◌, ◌≤◌, ◌↔◌, ◌+◌, ◌&&◌, ◌||◌, ◌==◌, ◌++◌, ◌⊎◌, ℕ, suc, Bool, true, false, not, cond, List, [], ◌∷◌, length, get_or, drop, refl, ap, sym, subst, inl, inr, ◌∙◌, arith}
+use Rattle.std.proofs.Common.{◌≡◌, ◌<◌, ◌≤◌, ◌↔◌, ◌+◌, ◌&&◌, ◌||◌, ◌==◌, ◌++◌, ◌⊎◌, ℕ, Bool, true, false, not, cond, List, [], ◌∷◌, length, get_or, drop, refl, ap, sym, subst, inl, inr, ◌∙◌, arith}
 use Rattle.std.specs.Prelude.{All, Contains}
-use Rattle.std.specs.List.{list_any}
 use Rattle.std.proofs.lemmas.List.{at_drop_more, drop_all}
 use Rattle.std.proofs.lemmas.List.Elements.{All-get_or, Contains-push}
 use Rattle.std.proofs.lemmas.List.Folds.{list_any-append}

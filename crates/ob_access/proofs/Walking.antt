@@ -1,6 +1,6 @@
 -- The walks over rules, a step at a time.
-use Rattle.std.proofs.Common.{◌≡◌, ◌<◌, ◌+◌, ◌&&◌, ◌||◌, ℕ, Bool, true, false, cond, not, List, [], ◌∷◌, ◌++◌, Option, Some, None, length, get_or, drop, refl, ap, sym, subst, ◌∙◌}
-use Rattle.std.specs.Prelude.{All, filter, find, option_map, slice_get}
+use Rattle.std.proofs.Common.{◌≡◌, ◌<◌, ◌+◌, ◌||◌, ℕ, Bool, true, false, cond, List, ◌∷◌, Option, Some, None, length, get_or, drop, refl, ap, sym, subst, ◌∙◌}
+use Rattle.std.specs.Prelude.{All, filter, find, option_map}
 use Rattle.std.specs.List.{cons_option, list_any}
 use Rattle.std.specs.Option.{option_or}
 use Rattle.std.proofs.lemmas.List.{at_drop_more}

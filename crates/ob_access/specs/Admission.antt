@@ -1,5 +1,5 @@
 -- Which rows rules admit, and which rule denies a row.
-use Rattle.std.specs.Prelude.{◌&&◌, ◌||◌, ◌==◌, if◌then◌else◌, Bool, true, false, not, List, [], Option, None, ℕ, filter, find, is_none, option_map, slice_get}
+use Rattle.std.specs.Prelude.{◌&&◌, ◌||◌, ◌==◌, if◌then◌else◌, Bool, true, false, not, List, [], Option, None, ℕ, filter, find, is_none, option_map}
 use Rattle.std.specs.List.{list_all, list_any}
 use Rattle.std.specs.Option.{option_map_or, option_or}
 use Rattle.ob_base.specs.declared.id.ModelNo.{ModelNo}

@@ -7,3 +7,4 @@ pub mod Index
 pub mod Ops
 pub mod Policies
 pub mod Rights
+pub mod Users

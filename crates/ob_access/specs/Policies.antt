@@ -1,5 +1,5 @@
 -- A policy as contracts see it, and which data is a policy over a registry.
-use Rattle.std.specs.Prelude.{◌≡◌, ◌≢◌, ℕ, suc, List, [], ◌∷◌, All, Option, Some, None, IfSome, IsSome, map, option_map, position}
+use Rattle.std.specs.Prelude.{◌≡◌, ◌≢◌, ℕ, suc, List, [], All, Option, Some, None, IfSome, IsSome, map, option_map, position}
 use Rattle.std.specs.List.{AllPairs, filter_map}
 use Rattle.std.specs.Str.{bytes_eq}
 use Rattle.ob_base.specs.declared.id.ModelNo.{ModelNo}

@@ -5,7 +5,7 @@
 //!
 //! Rooms: `policy` has what modules declare and the policy made of it, `ops` sets of
 //! operations, `index` the lines and rules by model and operation; `groups` finds a user's
-//! groups, `fitting` tests what a policy asks of its data, `rights` asks lines and fields, `admission` asks rules, `laws` says what the
+//! groups, `fitting` tests what a policy asks of its data, `rights` asks lines and fields, `users` asks the rows of users, `admission` asks rules, `laws` says what the
 //! definitions give. A new way to grant or to refuse gets its definition in specs/ first.
 #![tactic(auto)]
 
@@ -17,6 +17,7 @@ mod laws;
 mod ops;
 mod policy;
 mod rights;
+mod users;
 
 pub use fitting::fits;
 pub use groups::GroupSet;
@@ -26,3 +27,4 @@ pub use laws::{
 };
 pub use ops::Ops;
 pub use policy::{AccessLine, Group, Policy, Rule};
+pub use users::Users;

@@ -13,3 +13,7 @@ IsCutShort part whole = (rest : List ℕ) × (rest ≢ []) × (whole ≡ part ++
 -- a front of these bytes was written, and not all of them
 abbrev pub WrotePart : (before now : Option (List (List ℕ))) → List ℕ → Type 0
 WrotePart before now bytes = (part : List ℕ) × IsCutShort part bytes × Wrote before now part
+
+-- these bytes were written but for the last ones, which still wait
+abbrev pub WroteFront : (before now : Option (List (List ℕ))) → (bytes waiting : List ℕ) → Type 0
+WroteFront before now bytes waiting = (front : List ℕ) × (bytes ≡ front ++ waiting) × Wrote before now front

@@ -6,7 +6,7 @@
 //! Rooms: `inlet` (what comes in), `held` (what was read ahead), `lines` (where a head ends),
 //! `head` (the checks of a head), `fields` (what its fields say), `length` (the numbers that
 //! they give), `text` (parts of texts), `request` (the next message), `reply` (the bytes of
-//! replies) and `laws` (what is known of the items).
+//! replies), `writing` (in how few writes they go) and `laws` (what is known of the items).
 #![tactic(auto)]
 
 mod fields;
@@ -19,6 +19,7 @@ mod lines;
 mod reply;
 mod request;
 mod text;
+mod writing;
 
 pub use held::Held;
 pub use inlet::{HttpFault, Inlet};

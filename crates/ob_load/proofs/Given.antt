@@ -48,6 +48,10 @@ either-some : {X : Type 0} (a b : Option X) (x : X) → first_of a b ≡ Some x 
 either-some None b x is = inr is
 either-some (Some y) b x is = inl is
 
+none-of : {X : Type 0} (o : Option X) → is_none o ≡ true → o ≡ None
+none-of None is = refl
+none-of (Some x) is = absurd (false≢true is)
+
 -- a field that leads to rows of the model
 leads-by : (relation : Option ModelNo) (model : ModelNo) → option_map_or (λ own. nat_eq own.0 model.0) relation false ≡ true → relation ≡ Some model
 leads-by None model is = absurd (false≢true is)
@@ -121,7 +125,7 @@ module _ (models : List ModelInfo) (groups : List (List ℕ)) (first : ℕ) (ref
     rows-fit (array items) is v given =
         let own = if-some (is_none field.mirror) (Some (preset.Rows (rising (references models groups first refs field (listed items))))) v given in
         subst (IsPresetOf before field) (same_Some (preset.Rows (rising (references models groups first refs field (listed items)))) v own.1)
-        (is, fold-all (IsTargetOf before field) (references models groups first refs field (listed items)) [] (All-nil (IsTargetOf before field)) (references-targets (listed items)))
+        (is, none-of field.mirror own.0, fold-all (IsTargetOf before field) (references models groups first refs field (listed items)) [] (All-nil (IsTargetOf before field)) (references-targets (listed items)))
     rows-fit _ is v given = absurd (let e : ◌≡◌ {A = Option PresetValue} None (Some v) = given in cc)
 
     -- a plain value

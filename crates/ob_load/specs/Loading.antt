@@ -59,10 +59,6 @@ module _ (text : List ℕ → Option (List ℕ)) (names : List (List ℕ)) where
     pub declared : policy ≡ declared_policy schema taken
     pub brought : preset ≡ declared_preset schema taken
 
-  -- the registry is that of modules which are loaded
-  abbrev pub HasRegistry : Schema → Type 0
-  HasRegistry schema = (policy : PolicyData) × (preset : List PresetRow) × IsLoaded schema policy preset
-
   -- the first fault of their models, told in the module that has the entry
   pub record IsModelsFault (why : SchemaFault) (faulty : FaultyModule) : Type 0 where
     pub taken : List Module

@@ -46,3 +46,12 @@ pub mod CreateMade
 pub mod Filled
 pub mod GivenFields
 pub mod ParentFields
+pub mod BroughtIds
+pub mod PlacedRows
+pub mod PresetRows
+pub mod RowOwners
+pub mod ForbiddenRows
+pub mod ForbiddenValues
+pub mod GivenCells
+pub mod NewStores
+pub mod InstalledRows

@@ -1,5 +1,5 @@
 -- Rows that are made one behind another: what the edits that make them leave of tables, and the next ids behind them.
-use Rattle.std.proofs.Common.{◌≡◌, ◌<◌, ◌≤◌, ◌+◌, ◌∷◌, [], ◌++◌, ℕ, ℤ, Bool, true, false, cond, List, length, max, map, Option, Some, None, unwrap_or, is_some, length-append, refl, sym, ap, subst, ◌∙◌, arith}
+use Rattle.std.proofs.Common.{◌≡◌, ◌<◌, ◌≤◌, ◌+◌, ◌∷◌, [], ◌++◌, ℕ, ℤ, Bool, true, false, cond, List, length, max, map, Option, Some, None, unwrap_or, is_some, length-append, append_assoc, refl, sym, ap, subst, ◌∙◌, arith}
 use Rattle.std.specs.Prelude.{All, IsSome, IsSomeAnd, ⊤}
 use Rattle.std.specs.List.{flat_map}
 use Rattle.std.specs.BTreeMap as tree
@@ -9,7 +9,7 @@ use Rattle.std.specs.FinMap as finite
 use Rattle.std.specs.Option.{option_map_or}
 use Rattle.std.specs.Ordering.{eq_by_cmp, nat_cmp}
 use Rattle.std.proofs.lemmas.Bool.{false≢true}
-use Rattle.std.proofs.lemmas.List.{length_push, map-append}
+use Rattle.std.proofs.lemmas.List.{append-nil, length_push, map-append}
 use Rattle.std.proofs.lemmas.List.Elements.{All-append, All-head, All-map, All-nil, All-push, All-tail}
 use Rattle.std.proofs.lemmas.Option.{same_Some}
 use Rattle.ob_base.specs.declared.id.ModelNo.{ModelNo}
@@ -18,7 +18,7 @@ use Rattle.ob_cache.specs.Standing.{max_next_id}
 use Rattle.ob_orm.proofs.Emptied.{after-then, set-next}
 use Rattle.ob_orm.proofs.WriteEdits.{one_edit}
 use Rattle.ob_orm.specs.NewRows.{Begun, MadeRows, Values, behind, changed_values, filled, linked, made_row, made_rows, making, parent_change, parents_of, with_parent, with_parents}
-use Rattle.ob_orm.specs.NewRowSteps.{HoldsNextIds, IsReady, MayFit, held_next, so_far}
+use Rattle.ob_orm.specs.NewRowSteps.{AddsEdits, HoldsNextIds, IsReady, MayFit, held_next, so_far}
 use Rattle.ob_orm.specs.declared.making.next_ids.Making.{Making}
 use Rattle.ob_orm.specs.Write.{row_edits}
 use Rattle.ob_schema.specs.Models.{HasModel, model_at}
@@ -26,7 +26,6 @@ use Rattle.ob_schema.specs.Tables.{Tables, next_of}
 use Rattle.ob_schema.specs.declared.info.ModelInfo.{ModelInfo}
 use Rattle.ob_schema.specs.declared.info.ParentInfo.{ParentInfo}
 use Rattle.ob_tables.specs.After.{after, edited, row_of, with_row}
-use Rattle.ob_tables.specs.Fitting.{AreFitIn}
 use Rattle.ob_tables.specs.declared.edit.Edit.{Edit}
 use Rattle.ob_tables.specs.declared.edit.Edit.TheVariants as edit
 
@@ -53,6 +52,14 @@ module _ (models : List ModelInfo) (now : ℤ) where
   made_rows-more tables model (g ∷ each) given =
       let one = made_row models now tables model g in
       ap (λ (rest : MadeRows). record { tables = rest.tables; ids = one.id ∷ rest.ids }) (made_rows-more one.tables model each given)
+
+-- ---- edits that are added
+
+pub adds-none : (making : Making) → AddsEdits making making
+adds-none making = ([], sym (append-nil making.edits.items))
+
+pub adds-then : (first mid last : Making) → AddsEdits first mid → AddsEdits mid last → AddsEdits first last
+adds-then first mid last one more = (one.0 ++ more.0, more.1 ∙ ap (λ (es : List Edit). es ++ more.0) one.1 ∙ append_assoc first.edits.items one.0 more.0)
 
 -- ---- next ids
 
@@ -142,7 +149,7 @@ module _ (models : List ModelInfo) (model : ModelNo) (before now : Making) (id :
       )
 
   -- they are few enough
-  pub ready-made : AreFitIn models model values → id ≤ max_next_id + length before.edits.items → IsReady models before → IsReady models now
+  pub ready-made : MayFit models (edit.Make model (record { 0 = id }) values) → id ≤ max_next_id + length before.edits.items → IsReady models before → IsReady models now
   ready-made fit low ready =
       let longer : length now.edits.items ≡ length before.edits.items + 1 = ap length pushed ∙ length_push before.edits.items (edit.Make model (record { 0 = id }) values) in record {
         held = λ other there.

@@ -70,13 +70,13 @@ module _ (models : List ModelInfo) where
   there_of (Some info) h = (info, refl)
 
   makes-model : (one : Edit) (row : RowKey) → MayFit models one → MakesRow row one → HasModel models row.model
-  makes-model (edit.Make m id values) row fit is = subst (λ (r : RowKey). HasModel models r.model) (sym is) (its_model (model_at models m) (λ info. AreFitValues info values) fit)
+  makes-model (edit.Make m id values) row fit is = subst (λ (r : RowKey). HasModel models r.model) (sym is) (its_model (model_at models m) (λ info. AreFitValues info values) fit.1)
   makes-model (edit.Set cell v) row fit is = absurd is
   makes-model (edit.Gone m id) row fit is = absurd is
 
   makes-row : (tables : Tables) (one : Edit) (row : RowKey) → MayFit models one → MakesRow row one → IsSome (row_at (edited models tables one) row.model row.id)
   makes-row tables (edit.Make m id values) row fit is =
-      let (info, at) = there_of (model_at models m) (its_model (model_at models m) (λ info. AreFitValues info values) fit) in
+      let (info, at) = there_of (model_at models m) (its_model (model_at models m) (λ info. AreFitValues info values) fit.1) in
       subst (λ (r : RowKey). IsSome (row_at (edited models tables (edit.Make m id values)) r.model r.id)) (sym is) (ap is_some (row-made models tables m id values info at))
   makes-row tables (edit.Set cell v) row fit is = absurd is
   makes-row tables (edit.Gone m id) row fit is = absurd is
@@ -99,7 +99,7 @@ module _ (models : List ModelInfo) where
   -- ---- within the limit
 
   within-fit : (one : Edit) → MayFit models one → MakesWithin one → IsFitEdit models one
-  within-fit (edit.Make m id values) fit low = (omega arith, fit)
+  within-fit (edit.Make m id values) fit low = fit
   within-fit (edit.Set cell v) fit low = fit
   within-fit (edit.Gone m id) fit low = absurd fit
 

@@ -10,6 +10,7 @@ pub mod Locks
 pub mod Deletion
 pub mod Unlink
 pub mod FieldsGet
+pub mod Install
 pub mod RefusalText
 pub mod Faults
 pub mod ObjectSteps
@@ -19,3 +20,4 @@ pub mod WriteSteps
 pub mod LockSteps
 pub mod DeletionSteps
 pub mod FieldsGetSteps
+pub mod InstallSteps

@@ -1,5 +1,5 @@
 -- What the steps that make rows say of their results.
-use Rattle.std.specs.Prelude.{◌≡◌, ◌+◌, ◌≤◌, ◌<◌, ◌∷◌, [], ℕ, List, All, length, Option, Some, IsSomeAnd, ⊤}
+use Rattle.std.specs.Prelude.{◌≡◌, ◌+◌, ◌++◌, ◌≤◌, ◌<◌, ◌∷◌, [], ℕ, List, All, length, Option, Some, IsSomeAnd, ⊤}
 use Rattle.std.specs.BTreeMap as tree
 use Rattle.std.specs.Ordering.{nat_cmp}
 use Rattle.ob_base.specs.Limits.{max_id}
@@ -39,11 +39,10 @@ HasTargetKeysFrom models _ field = ⊤
 abbrev pub HasTargetKeys : List ModelInfo → FieldInfo → Type 0
 HasTargetKeys models field = HasTargetKeysFrom models field.origin field
 
--- an edit that may be asked for, whatever the id of a row that it makes; no row goes
+-- an edit that may be asked for; no row goes
 abbrev pub MayFit : List ModelInfo → Edit → Type 0
-MayFit models (edit.Make model id values) = AreFitIn models model values
-MayFit models (edit.Set cell v) = IsFitEdit models (edit.Set cell v)
 MayFit models (edit.Gone model id) = ⊥
+MayFit models one = IsFitEdit models one
 
 -- the id that a model's next row takes, as it is held
 abbrev pub held_next : Making → ModelNo → Option ℕ
@@ -53,6 +52,10 @@ held_next making model = tree.get nat_cmp making.next_ids model.0
 pub record IsReady (models : List ModelInfo) (making : Making) : Type 0 where
   pub held : (model : ModelNo) → HasModel models model → IsSomeAnd (held_next making model) (λ next. next ≤ max_next_id + length making.edits.items)
   pub fit : All (MayFit models) making.edits.items
+
+-- edits are only added behind those so far
+abbrev pub AddsEdits : Making → Making → Type 0
+AddsEdits old new = (more : List Edit) × (new.edits.items ≡ old.edits.items ++ more)
 
 -- the tables with the edits so far
 abbrev pub so_far : List ModelInfo → Tables → Making → Tables

@@ -15,7 +15,7 @@ ghost use Rattle.ob_orm.specs.FieldsGet.{GetsFields, GetsFieldsCause, fields_dat
 ghost use Rattle.ob_orm.specs.FieldsGetSteps.{AreAsked, IsTold};
 ghost use Rattle.ob_schema.specs.Models.{HasField, HasModel, model_at};
 
-mod attributes;
+pub(crate) mod attributes;
 mod fields_form;
 
 use crate::fields::attributes::{Attributes, attributes_in, described};

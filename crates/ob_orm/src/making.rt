@@ -10,7 +10,7 @@ ghost use Rattle.std.specs.Prelude.{◌≡◌, All, IfOk, OnOk, map};
 ghost use Rattle.ob_base.specs.Times.{IsMoment};
 ghost use Rattle.ob_orm.specs.NewRows as spec;
 ghost use Rattle.ob_orm.specs.NewRows.{made_row, made_rows};
-ghost use Rattle.ob_orm.specs.NewRowSteps.{HoldsNextIds, IsReady, IsTyped, so_far};
+ghost use Rattle.ob_orm.specs.NewRowSteps.{AddsEdits, HoldsNextIds, IsReady, IsTyped, so_far};
 ghost use Rattle.ob_schema.specs.Models.{HasModel};
 ghost use Rattle.ob_schema.specs.Tables.{Tables, next_of};
 ghost use Rattle.ob_tables.specs.Fitting.{IsFitId};
@@ -73,6 +73,8 @@ pub(crate) fn make_row(
     requires moment { IsMoment maker.now.now }
     requires typed { All (IsTyped maker.now.schema.now model) given.items }
     requires ready { IsReady maker.now.schema.now making.old }
+    ensures low { IfOk result IsFitId }
+    ensures adds { OnOk result (AddsEdits making.old making.new) }
     ensures ready { OnOk result (IsReady maker.entry.now.schema.now making.new) }
     ensures made { IfOk result (λ id. (old : Tables) → HoldsNextIds maker.entry.now.schema.now old making.old
         → (so_far maker.entry.now.schema.now old making.new ≡ (made_row maker.entry.now.schema.now maker.entry.now.now (so_far maker.entry.now.schema.now old making.old) model given.items).tables)
@@ -99,6 +101,7 @@ pub(crate) fn make_one(
     requires typed { All (IsTyped maker.now.schema.now model) given.now }
     requires ready { IsReady maker.now.schema.now making.old }
     ensures low { IfOk result IsFitId }
+    ensures adds { OnOk result (AddsEdits making.old making.new) }
     ensures ready { OnOk result (IsReady maker.entry.now.schema.now making.new) }
     ensures made { IfOk result (λ id. (old : Tables) → HoldsNextIds maker.entry.now.schema.now old making.old
         → (so_far maker.entry.now.schema.now old making.new ≡ edited maker.entry.now.schema.now (so_far maker.entry.now.schema.now old making.old) (spec.making maker.entry.now.schema.now maker.entry.now.now (so_far maker.entry.now.schema.now old making.old) model given.now))

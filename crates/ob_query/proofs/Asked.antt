@@ -77,11 +77,6 @@ module _ {K : Type 0} (g : Ghosts K) where
     count = omega (arith, first.count, second.count);
   }
 
-  -- one that has no answer behind others has none from the first on
-  pub unanswered_later : (a b c : Engine K) (why : KeepFault) → OnlyAsked g a b → IsUnanswered g b c why → IsUnanswered g a c why
-  unanswered_later a b c keep_fault.Failed first risen = rose_later (g.faults a.keeper.now) (g.faults b.keeper.now) (g.faults c.keeper.now) first.count risen
-  unanswered_later a b c keep_fault.NoMemory first risen = tt
-
   -- what holds of all that was told holds of all that is, and the other way round
   pub told_on : (a b : Engine K) (P : Told → Type 0) → OnlyAsked g a b → OfAllTold (TellsOf g a) P → OfAllTold (TellsOf g b) P
   told_on a b P asked h told tells = h told (tells.0, asked.same.only tells.0 tells.1, tells.2, tells.3)
@@ -98,10 +93,6 @@ module _ {K : Type 0} (g : Ghosts K) where
   pub tells_tables : (a : Engine K) (tables : Tables) → HasTables (standpoint g a) tables → TellsOf g a (told_by a.held.models tables)
   tells_tables a tables rests = (resting a.held.models tables, rests, rested, refl)
 
-  -- what is sought is of the same models
-  pub over_on : (a b : Engine K) (sought : Sought) → OnlyAsked g a b → IsSoughtOver a.held.models sought → IsSoughtOver b.held.models sought
-  over_on a b sought asked over = subst (λ (models : List ModelInfo). IsSoughtOver models sought) (sym asked.same.models) over
-
-  -- which are sound
+  -- the models are sound
   pub sound_at : (a : Engine K) (tables : Tables) → HasTables (standpoint g a) tables → AreSound a.held.models tables
   sound_at a tables rests = sound_of (g.kept a.keeper.now) a.held.models tables rests.over

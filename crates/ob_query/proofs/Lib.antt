@@ -11,3 +11,14 @@ pub mod SearchLoops
 pub mod SearchFields
 pub mod SearchAnswers
 pub mod SearchReadAnswers
+pub mod PeriodDays
+pub mod Distinct
+pub mod Amounts
+pub mod GroupItems
+pub mod GroupTexts
+pub mod GroupKeys
+pub mod GatheredRows
+pub mod ToldGroups
+pub mod HeldTexts
+pub mod GroupsAsked
+pub mod GroupsAnswers

@@ -37,7 +37,7 @@ unset_alike : unset_last value.Nil value.Nil ≡ Equal
 unset_alike = tied_itself unset_last_total value.Nil
 
 -- two keys of one term are ordered by its direction
-same_term : (descending : Bool) (v w : Value) → key_order (record { descending = descending; value = v }) (record { descending = descending; value = w }) ≡ by_direction descending v w
+pub same_term : (descending : Bool) (v w : Value) → key_order (record { descending = descending; value = v }) (record { descending = descending; value = w }) ≡ by_direction descending v w
 same_term false v w = ap (ordering_then (unset_last v w)) unset_alike ∙ then_none (unset_last v w)
 same_term true v w = ap (λ (o : Ordering). ordering_then o (unset_last w v)) unset_alike
 

@@ -66,9 +66,6 @@ everywhere : {M : Type 0} (found : Option M) (P : M → Type 0) → ((m : M) →
 everywhere None P each = tt
 everywhere (Some m) P each = each m
 
-pub unanswered_in : {M : Type 0} (found : Option M) (rose : Type 0) (P : M → Refusal → Type 0) (fault : KeepFault) (why : Refusal) → IsRefusalOf fault why → (fault ≡ keep_fault.Failed → rose) → IfSome found (λ m. Refuses rose (P m) why)
-unanswered_in found rose P fault why is cause = everywhere found (λ m. Refuses rose (P m) why) (λ m. unanswered_refuses rose (P m) fault why is cause)
-
 -- ---- answers
 
 module _ (models : List ModelInfo) (tables : Tables) (call : Call) (info : ModelInfo) (sought : Sought) (user : sought.user ≡ call.caller) (model : sought.model ≡ call.model) where

@@ -42,26 +42,12 @@ found_named models model name number f named at = by (model_at models model) nam
   by None named found = absurd cc
   by (Some info) named found = record { named = sym named; own = named_one info name number f named found }
 
--- no field has the name
-pub none_named : (models : List ModelInfo) (model : ModelNo) (name : List ℕ) → IsSome (model_at models model) → IfSome (model_at models model) (λ info. None ≡ field_named info.fields name) → field_named (fields_at models model) name ≡ None
-none_named models model name there named = by (model_at models model) there named where
-  by : (o : Option ModelInfo) → IsSome o → IfSome o (λ info. None ≡ field_named info.fields name) → field_named (option_map_or (λ info. info.fields) o []) name ≡ None
-  by None there named = absurd cc
-  by (Some info) there named = sym named
-
 -- ---- what each of a list gives, one after another
 
 module _ {A B : Type 0} (f : A → Option B) where
   -- what those of a list give, by what those before a place gave
   abbrev pub IsGivenTo : List A → ℕ → List B → Type 0
   IsGivenTo xs i ys = all_some (map f xs) ≡ option_map (λ rest. ys ++ rest) (all_some (map f (drop i xs)))
-
-  as_is : (o : Option (List B)) → o ≡ option_map (λ rest. [] ++ rest) o
-  as_is None = refl
-  as_is (Some l) = refl
-
-  pub given-none : (xs : List A) → IsGivenTo xs 0 []
-  given-none xs = as_is (all_some (map f xs))
 
   -- what is left at a place
   left : (xs : List A) (i : ℕ) (d : A) → i < length xs → map f (drop i xs) ≡ f (get_or xs i d) ∷ map f (drop (i + 1) xs)

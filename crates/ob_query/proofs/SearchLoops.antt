@@ -65,20 +65,6 @@ module _ {A : Type 0} where
   take-front [] ys = refl
   take-front (x ∷ xs) ys = ap (λ (l : List A). x ∷ l) (take-front xs ys)
 
-  take-all : (n : ℕ) (xs : List A) → length xs ≤ n → take n xs ≡ xs
-  take-all zero [] low = refl
-  take-all (suc n) [] low = refl
-  take-all zero (x ∷ xs) low = absurd (omega arith)
-  take-all (suc n) (x ∷ xs) low = ap (λ (l : List A). x ∷ l) (take-all n xs (omega arith))
-
-  -- all rows were gathered, which are no more than are asked for
-  pub first-all : (limit : ℕ) (all ids front : List A) → all ≡ ids ++ front → front ≡ [] → (limit ≢ 0 → length ids < limit) → ids ≡ limited limit all
-  first-all zero all ids front are none fewer = sym (append-nil ids) ∙ ap (λ (l : List A). ids ++ l) (sym none) ∙ sym are
-  first-all (suc n) all ids front are none fewer =
-      let whole : all ≡ ids = are ∙ ap (λ (l : List A). ids ++ l) none ∙ append-nil ids in
-      let low = fewer (λ e. cc) in
-      sym (ap (take (suc n)) whole ∙ take-all (suc n) ids (omega arith))
-
   -- one more was gathered
   pub first-more : (all ids front new : List A) (x : A) → all ≡ ids ++ front → front ≡ x ∷ new → all ≡ (ids ++ x ∷ []) ++ new
   first-more all ids front new x are taken = are ∙ ap (λ (l : List A). ids ++ l) taken ∙ sym (append_assoc ids (x ∷ []) new)

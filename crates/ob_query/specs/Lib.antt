@@ -3,6 +3,10 @@ pub mod Read
 pub mod SearchForms
 pub mod SearchOrder
 pub mod Search
+pub mod GroupPeriods
+pub mod GroupAmounts
+pub mod GroupForms
+pub mod Groups
 -- Private: the words by which the rooms of the crate are joined.
 pub mod ReadForm
 pub mod ReadParts
@@ -10,3 +14,5 @@ pub mod ReadRows
 pub mod SearchKeys
 pub mod SearchQuestions
 pub mod SearchParts
+pub mod GroupParts
+pub mod GroupValues

@@ -9,9 +9,11 @@
 //! crate `ob_call`.
 #![tactic(auto)]
 
+mod grouping;
 mod reading;
 mod searching;
 mod told_rows;
 
+pub use grouping::read_group;
 pub use reading::read;
 pub use searching::{search, search_count, search_read};

@@ -21,14 +21,14 @@ ghost use Rattle.ob_query.specs.SearchQuestions.{OnlyAsked};
 ghost use Rattle.ob_schema.specs.Models.{HasField, HasModel, model_at};
 ghost use Rattle.ob_schema.specs.Tables.{Tables};
 
-mod forms;
-mod found;
+pub(crate) mod forms;
+pub(crate) mod found;
 mod objects;
-mod order;
-mod questions;
-mod searched;
-mod sought;
-mod walk;
+pub(crate) mod order;
+pub(crate) mod questions;
+pub(crate) mod searched;
+pub(crate) mod sought;
+pub(crate) mod walk;
 
 use crate::searching::forms::{count_parameters, search_parameters, search_read_parameters};
 use crate::searching::found::{count_found, sought_ids};
@@ -266,7 +266,7 @@ fn asked_objects(alloc: Global, schema: &Schema, call: &Call<'_>) -> Result<Soug
 }
 
 /// The refusal of a call whose question has no answer.
-fn refusal_of(fault: KeepFault) -> Refusal
+pub(crate) fn refusal_of(fault: KeepFault) -> Refusal
     ensures { IsRefusalOf fault result }
 {
     match fault {
@@ -287,7 +287,7 @@ fn ids_told(alloc: Global, ids: &[RecId]) -> Result<Json, Refusal>
 }
 
 /// The JSON of ids.
-fn ids_json(alloc: Global, ids: &[RecId]) -> Result<Json, NoMemory>
+pub(crate) fn ids_json(alloc: Global, ids: &[RecId]) -> Result<Json, NoMemory>
     ensures { IfOk result (λ json. view json ≡ list_json (map id_json ids.now)) }
 {
     let mut items = Vec::new(alloc);

@@ -1,5 +1,5 @@
 -- Rows that modules bring: each fits its model, and names only rows before it.
-use Rattle.std.specs.Prelude.{◌≡◌, ◌≢◌, ◌++◌, ◌∷◌, ℕ, List, All, IsSomeAnd, Some, slice_get, false}
+use Rattle.std.specs.Prelude.{◌≡◌, ◌≢◌, ◌++◌, ◌∷◌, ℕ, List, All, IsSomeAnd, Some, None, slice_get, false}
 use Rattle.std.specs.List.{AllPairs}
 use Rattle.ob_definition.specs.Types.{is_relation}
 use Rattle.ob_definition.specs.declared.field_type.FieldType.TheVariants as type
@@ -16,11 +16,11 @@ use Rattle.ob_schema.specs.declared.preset.PresetValue.TheVariants as preset
 abbrev pub IsTargetOf : List PresetRow → FieldInfo → ℕ → Type 0
 IsTargetOf before field n = IsSomeAnd (slice_get before n) (λ row. field.relation ≡ Some row.model)
 
--- a value that a row behind these may give to a field: one of the field's own, within its limits; an earlier row for a many2one; earlier rows for a many2many
+-- a value that a row behind these may give to a field: one of the field's own, within its limits; an earlier row for a many2one; earlier rows for a many2many that is no mirror
 abbrev pub IsPresetOf : List PresetRow → FieldInfo → PresetValue → Type 0
 IsPresetOf before field (preset.Plain v) = Holds field v × (is_relation field.field_type ≡ false)
 IsPresetOf before field (preset.Row n) = (field.field_type ≡ type.Many2one) × IsTargetOf before field n
-IsPresetOf before field (preset.Rows numbers) = (field.field_type ≡ type.Many2many) × All (IsTargetOf before field) numbers
+IsPresetOf before field (preset.Rows numbers) = (field.field_type ≡ type.Many2many) × (field.mirror ≡ None) × All (IsTargetOf before field) numbers
 
 -- the values of a row behind these fit fields of its model, no two of them the same
 pub record FitsModel (before : List PresetRow) (info : ModelInfo) (row : PresetRow) : Type 0 where

@@ -16,6 +16,8 @@ pub mod ReceptionOn
 pub mod ReportWritten
 pub mod WholeCall
 pub mod ReceptionOpened
+pub mod Filling
+pub mod OpeningServed
 pub mod WrittenParts
 pub mod Others
 pub mod SixElements

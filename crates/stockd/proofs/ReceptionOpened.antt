@@ -48,64 +48,9 @@ ends_serving first why limit moments before now written others h =
       others = others;
     }
 
--- a reception over a keeper that tells what another told, from a later count of its faults on, is one from that one on
-reception_from : (models : List ModelInfo) (first : Tables) (why : Ending) (limit : ℕ) (moments : ℕ → ℤ) (door door_now : Doorway) (before : Surroundings) (faults : ℕ) (kept : Option Store) (now : Surroundings)
-    → before.faults ≤ faults → kept ≡ before.kept → Reception models first why limit moments door door_now (record before { faults = faults; kept = kept }) now
-    → Reception models first why limit moments door door_now before now
-reception_from models first why limit moments door door_now before faults kept now count same r = record {
-  visits = r.visits;
-  few = r.few;
-  to_come = r.to_come;
-  came = r.came;
-  coming = r.coming;
-  written = r.written;
-  state = r.state;
-  each = each_from models (state_at before first moments) (state_at (record before { faults = faults }) first moments) r.state r.visits door.faults door_now.faults (record { tables = refl; moments = refl; count = count }) r.each;
-  ends = r.ends;
-  faults = r.faults;
-  rest = r.rest;
-  store = r.store;
-  kept = r.kept;
-  stands = r.stands;
-  others = subst (λ (k : Option Store). OthersStay models k now.kept) same r.others;
-}
-
-module _ {D : Type 0} (faults : D → ℕ) (kept : D → Option Store) where
-  -- what a keeper, a clock and a sink tell
-  abbrev telling : D → Option (ℕ → ℤ) → Option (List ℕ) → Surroundings
-  telling keeper coming written = record { faults = faults keeper; kept = kept keeper; coming = coming; written = written }
-
-  -- An engine was opened over a keeper, and rested; connections were served over it, and the keeper is as they left it.
-  pub receiving_served : (models : List ModelInfo) (held : Holding) (store : Store) (moments : ℕ → ℤ) (coming coming_now : Option (ℕ → ℤ)) (written : Option (List ℕ))
-      (before opened last after : D) (why : Ending) (limit : ℕ) (door door_now : Doorway)
-      → after ≡ last → held.models ≡ models → (IsSome (kept before) → (tables : Tables) × RestsAt (kept opened) held tables) → kept opened ≡ kept before → faults before ≤ faults opened
-      → ((first : Tables) → RestsAt (kept opened) held first → Reception held.models first why limit moments door door_now (telling opened coming written) (telling last coming_now written))
-      → kept before ≡ Some store
-      → (first : Tables) × StandsFor models first store × Reception models first why limit moments door door_now (telling before coming written) (telling after coming_now written)
-  receiving_served models held store moments coming coming_now written before opened last after why limit door door_now ends same rests kept_is count serves told =
-      let first = rests (is_there (kept before) store told) in
-      let from = telling before coming written in
-      let reception = subst (λ (m : List ModelInfo). Reception m first.0 why limit moments door door_now (telling opened coming written) (telling last coming_now written)) same (serves first.0 first.1) in
-      let ended = subst (λ (d : D). Reception models first.0 why limit moments door door_now (telling opened coming written) (telling d coming_now written)) (sym ends) reception in (
-        first.0,
-        stands_for models held (kept opened) store first.0 same (kept_is ∙ told) first.1,
-        reception_from models first.0 why limit moments door door_now from (faults opened) (kept opened) (telling after coming_now written) count kept_is ended,
-      )
-
--- the modules were loaded; what the opening and the connections did is what serving did
-pub ends_received : (command : Command) (why : Ending) (store : Store) (moments : ℕ → ℤ) (before after : Outside) (models : List ModelInfo)
-    → AreLoadedBy command before.texts models → after.left ≡ before.left → after.standing.written ≡ before.standing.written
-    → (EndsOpening models store (Rose before.standing.faults after.standing.faults) why × (after.standing.kept ≡ before.standing.kept) × (after.standing.coming ≡ before.standing.coming) × (after.door ≡ before.door))
-    ⊎ ((first : Tables) × StandsFor models first store × Reception models first why command.limit moments before.door after.door before.standing after.standing)
-    → EndsServe command why store moments before after
-ends_received command why store moments before after models loaded left written (inl (stops, kept, coming, door)) =
-    inr (inl (record { models = models; loaded = loaded; stops = stops; same = record { left = left; kept = kept; coming = coming; written = written } }, door))
-ends_received command why store moments before after models loaded left written (inr (first, stands, reception)) =
-    inr (inr (record { models = models; loaded = loaded; first = first; stands = stands; reception = reception; left = left; written = written }))
-
 -- what serving did is what the action did
 pub served : (action : Action) (command : Command) (why : Ending) (store : Store) (before after : Outside) → action ≡ serve
-    → ((streams : List (List ℕ)) (moments : ℕ → ℤ) → before.door.coming ≡ Some streams → before.standing.coming ≡ Some moments → EndsServe command why store moments before after)
+    → ((streams : List (List ℕ)) (moments : ℕ → ℤ) → before.door.coming ≡ Some streams → before.standing.coming ≡ Some moments → EndsServe command why store before after)
     → EndsAction action command why store before after
 served action command why store before after is ends = rw is ends
 

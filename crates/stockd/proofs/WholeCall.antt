@@ -48,27 +48,6 @@ pub loading_stops : (told : Option FileTexts) (folder : List ℕ) (names : List 
 loading_stops told folder names rose faulty why (texts, agree, first) tells =
     (texts, agree, stops_told (text_in texts folder) names rose faulty why first tells)
 
--- a session over a keeper that tells what another told, from a later count of its faults on, is one from that one on
-session_from : (models : List ModelInfo) (first : Tables) (why : Ending) (left left_now : Option (List ℕ)) (before : Surroundings) (faults : ℕ) (kept : Option Store) (now : Surroundings)
-    → before.faults ≤ faults → kept ≡ before.kept → Session models first why left left_now (record before { faults = faults; kept = kept }) now → Session models first why left left_now before now
-session_from models first why left left_now before faults kept now count same s = record {
-  bodies = s.bodies;
-  replies = s.replies;
-  tables = s.tables;
-  moments = s.moments;
-  rest = s.rest;
-  run = run_from models (state_at before first s.moments) (state_at (record before { faults = faults }) first s.moments) _ s.bodies s.replies (record { tables = refl; moments = refl; count = count }) s.run;
-  gives = s.gives;
-  store = s.store;
-  kept_is = s.kept_is;
-  stands = s.stands;
-  others = subst (λ (k : Option Store). OthersStay models k now.kept) same s.others;
-  takes_in = s.takes_in;
-  written = s.written;
-  written_is = s.written_is;
-  writes = s.writes;
-}
-
 -- an engine that rests over a store rests at sound tables that are kept
 pub stands_for : (models : List ModelInfo) (held : Holding) (kept : Option Store) (store : Store) (tables : Tables) → held.models ≡ models → kept ≡ Some store → RestsAt kept held tables → StandsFor models tables store
 stands_for models held kept store tables same is rests =
@@ -79,28 +58,7 @@ pub is_there : (kept : Option Store) (store : Store) → kept ≡ Some store →
 is_there kept store is = ap is_some is
 
 module _ {D : Type 0} (faults : D → ℕ) (kept : D → Option Store) where
-  -- what a keeper, a clock and a sink tell
-  abbrev telling : D → Option (ℕ → ℤ) → Option (List ℕ) → Surroundings
-  telling keeper coming written = record { faults = faults keeper; kept = kept keeper; coming = coming; written = written }
-
-  -- An engine was opened over a keeper, and rested; a session was served over it, and the keeper is as the session left it.
-  pub opening_served : (models : List ModelInfo) (held : Holding) (store : Store) (left left_now : Option (List ℕ)) (coming coming_now : Option (ℕ → ℤ)) (written written_now : Option (List ℕ))
-      (before opened last after : D) (why : Ending)
-      → after ≡ last → held.models ≡ models → (IsSome (kept before) → (tables : Tables) × RestsAt (kept opened) held tables) → kept opened ≡ kept before → faults before ≤ faults opened
-      → ((first : Tables) → RestsAt (kept opened) held first → Session held.models first why left left_now (telling opened coming written) (telling last coming_now written_now))
-      → kept before ≡ Some store
-      → (first : Tables) × StandsFor models first store × Session models first why left left_now (telling before coming written) (telling after coming_now written_now)
-  opening_served models held store left left_now coming coming_now written written_now before opened last after why ends same rests kept_is count serves told =
-      let first = rests (is_there (kept before) store told) in
-      let from = telling before coming written in
-      let session = subst (λ (m : List ModelInfo). Session m first.0 why left left_now (telling opened coming written) (telling last coming_now written_now)) same (serves first.0 first.1) in
-      let ended = subst (λ (d : D). Session models first.0 why left left_now (telling opened coming written) (telling d coming_now written_now)) (sym ends) session in (
-        first.0,
-        stands_for models held (kept opened) store first.0 same (kept_is ∙ told) first.1,
-        session_from models first.0 why left left_now from (faults opened) (kept opened) (telling after coming_now written_now) count kept_is ended,
-      )
-
-  -- so other rows stay
+  -- an engine was opened over a keeper and used, and the keeper is as that left it: rows of other models stay
   pub others_served : (models served : List ModelInfo) (before opened last after : D) → after ≡ last → served ≡ models → kept opened ≡ kept before
       → OthersStay served (kept opened) (kept last) → OthersStay models (kept before) (kept after)
   others_served models served before opened last after ends same kept_is stay =
@@ -108,26 +66,8 @@ module _ {D : Type 0} (faults : D → ℕ) (kept : D → Option Store) where
       subst (λ (k : Option Store). OthersStay models k (kept after)) kept_is (subst (λ (m : List ModelInfo). OthersStay m (kept opened) (kept after)) same ended)
 
 -- a fault of reading has its reason
-read_reason : (audits source output keeper : Type 0) (why : Ending) → HasReason audits source output keeper why → why ≡ ending.ReadFault → source
+pub read_reason : (audits source output keeper : Type 0) (why : Ending) → HasReason audits source output keeper why → why ≡ ending.ReadFault → source
 read_reason audits source output keeper why reason is = subst (λ (w : Ending). HasReason audits source output keeper w) is reason
-
--- the modules were loaded; what the opening did is what the call did
-pub ends_opened : (command : Command) (why : Ending) (store : Store) (audits source output keeper : Type 0) (before after : Outside) (models : List ModelInfo)
-    → AreLoadedBy command before.texts models → (source → Rose before.source_faults after.source_faults)
-    → (EndsOpening models store (Rose before.standing.faults after.standing.faults) why × IsUntouched before.left after.left before.standing after.standing)
-    ⊎ ((first : Tables) × StandsFor models first store × Session models first why before.left after.left before.standing after.standing)
-    → HasReason audits source output keeper why → EndsCall command why store before after
-ends_opened command why store audits source output keeper before after models loaded rose (inl stopped) reason =
-    inr (inl (record { models = models; loaded = loaded; stops = stopped.0; same = stopped.1 }))
-ends_opened command why store audits source output keeper before after models loaded rose (inr opened) reason =
-    inr (inr (record {
-      models = models;
-      loaded = loaded;
-      first = opened.0;
-      stands = opened.1;
-      session = opened.2;
-      read_fault = λ is. rose (read_reason audits source output keeper why reason is);
-    }))
 
 -- where memory is wanting before anything is done, nothing is
 pub not_begun : (action : Action) (command : Command) (store : Store) (before after : Outside) → IsUntouched before.left after.left before.standing after.standing → after.door ≡ before.door

@@ -19,4 +19,6 @@ pub mod Exchange
 pub mod ExchangeSteps
 pub mod Reception
 pub mod ReceptionSteps
+pub mod Opening
+pub mod OpeningSteps
 pub mod Program

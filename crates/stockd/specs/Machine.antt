@@ -9,6 +9,8 @@ use Rattle.ob_orm.specs.Create.{CreateCause, Creates}
 use Rattle.ob_orm.specs.FieldsGet.{GetsFields, GetsFieldsCause}
 use Rattle.ob_orm.specs.Unlink.{UnlinkCause, Unlinks}
 use Rattle.ob_orm.specs.Write.{WriteCause, Writes}
+use Rattle.ob_query.specs.GroupForms.{groups_of}
+use Rattle.ob_query.specs.Groups.{Groups}
 use Rattle.ob_query.specs.Read.{ReadCause, Reads}
 use Rattle.ob_query.specs.Search.{IsMalformed, SearchCounts, SearchReads, Searches}
 use Rattle.ob_query.specs.SearchForms.{counted_of, objects_of, sought_of}
@@ -36,6 +38,7 @@ Tells reading.Read = Reads
 Tells reading.Search = Searches
 Tells reading.SearchCount = SearchCounts
 Tells reading.SearchRead = SearchReads
+Tells reading.ReadGroup = Groups
 Tells reading.FieldsGet = GetsFields
 
 -- what a method that writes makes of tables
@@ -50,6 +53,7 @@ TellsCause reading.Read models c = ReadCause c
 TellsCause reading.Search models c = IsMalformed (sought_of models c)
 TellsCause reading.SearchCount models c = IsMalformed (counted_of models c)
 TellsCause reading.SearchRead models c = IsMalformed (objects_of models c)
+TellsCause reading.ReadGroup models c = IsMalformed (groups_of models c)
 TellsCause reading.FieldsGet models c = GetsFieldsCause c
 
 -- when a method that writes may

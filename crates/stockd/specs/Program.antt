@@ -3,13 +3,16 @@ use Rattle.std.specs.Prelude.{◌≡◌, ℕ, ℤ, ◌≤◌, ◌⊎◌, ◌++�
 use Rattle.ob_cache.specs.Kept.{OthersStay}
 use Rattle.ob_io.specs.Cause.{Rose}
 use Rattle.ob_io.specs.Store.{Store}
-use Rattle.ob_load.specs.Loading.{HasRegistry}
+use Rattle.ob_access.specs.Policies.{PolicyData}
+use Rattle.ob_load.specs.Loading.{IsLoaded}
 use Rattle.ob_load.specs.Texts.{AgreesWith, FileTexts, text_in}
-use Rattle.ob_schema.specs.Tables.{Tables}
+use Rattle.ob_schema.specs.Tables.{Tables, empty_tables}
 use Rattle.ob_schema.specs.declared.info.ModelInfo.{ModelInfo}
+use Rattle.ob_schema.specs.declared.preset.PresetRow.{PresetRow}
 use Rattle.stockd.specs.declared.ending.Ending.{Ending}
 use Rattle.stockd.specs.declared.ending.Ending.TheVariants as ending
 use Rattle.stockd.specs.Ending.{status_of, last_line, WritesLast}
+use Rattle.stockd.specs.Opening.{Opening, StopsFilling, TakesMoment}
 use Rattle.stockd.specs.Outside.{Outside, Surroundings}
 use Rattle.stockd.specs.Session.{StandsFor, Session}
 use Rattle.stockd.specs.Audit.{TellsReport}
@@ -17,9 +20,9 @@ use Rattle.stockd.specs.Reception.{Reception}
 use Rattle.stockd.specs.Store.{EndsLoading, EndsOpening}
 use Rattle.stockd.specs.Words.{Action, Command, audit, call, serve}
 
--- these are the models of the modules that are asked for, in texts that the files tell, where they do
-abbrev pub AreLoadedBy : Command → Option FileTexts → List ModelInfo → Type 0
-AreLoadedBy command told models = (texts : FileTexts) × AgreesWith told texts × HasRegistry (text_in texts command.folder) command.names models
+-- the modules that are asked for have these models and bring these rows, in texts that the files tell, where they do
+abbrev pub AreLoadedBy : Command → Option FileTexts → List ModelInfo → List PresetRow → Type 0
+AreLoadedBy command told models preset = (texts : FileTexts) × AgreesWith told texts × (policy : PolicyData) × IsLoaded (text_in texts command.folder) command.names models policy preset
 
 -- nothing was read, written or taken from the clock, and what is kept stays
 pub record IsUntouched (left_before left_now : Option (List ℕ)) (before now : Surroundings) : Type 0 where
@@ -38,27 +41,48 @@ pub record Unloaded (command : Command) (why : Ending) (before after : Outside) 
 -- the store wasn't opened: nothing was read, written or taken from the clock, and what is kept stays
 pub record Stopped (command : Command) (why : Ending) (store : Store) (before after : Outside) : Type 0 where
   pub models : List ModelInfo
-  pub loaded : AreLoadedBy command before.texts models
+  pub preset : List PresetRow
+  pub loaded : AreLoadedBy command before.texts models preset
   pub stops : EndsOpening models store (Rose before.standing.faults after.standing.faults) why
   pub same : IsUntouched before.left after.left before.standing after.standing
 
--- a store that stands for sound tables was opened, and a session served from these on, which ends with a fault of reading only where the source failed
+-- a new store didn't get the rows that modules bring: nothing was read or written, what is kept stays, and a moment was taken from the clock
+pub record Unfilled (command : Command) (why : Ending) (store : Store) (before after : Outside) : Type 0 where
+  pub models : List ModelInfo
+  pub preset : List PresetRow
+  pub loaded : AreLoadedBy command before.texts models preset
+  pub new : StandsFor models (empty_tables models) store
+  pub moment : ℤ
+  pub takes : TakesMoment moment before.standing.coming after.standing.coming
+  pub stops : StopsFilling models preset moment (Rose before.standing.faults after.standing.faults) why
+  pub same : IsUntouched before.left after.left (record before.standing { coming = after.standing.coming }) after.standing
+
+-- a store that stands for sound tables was opened, and a session served from those on that it then had, which ends with a fault of reading only where the source failed
 pub record Opened (command : Command) (why : Ending) (store : Store) (before after : Outside) : Type 0 where
   pub models : List ModelInfo
-  pub loaded : AreLoadedBy command before.texts models
+  pub preset : List PresetRow
+  pub loaded : AreLoadedBy command before.texts models preset
   pub first : Tables
   pub stands : StandsFor models first store
-  pub session : Session models first why before.left after.left before.standing after.standing
+  pub begun : Tables
+  pub opened : Surroundings
+  pub opening : Opening models preset first begun before.standing opened
+  pub session : Session models begun why before.left after.left opened after.standing
   pub read_fault : why ≡ ending.ReadFault → Rose before.source_faults after.source_faults
+
+-- the store wasn't opened, or a new one didn't get its rows
+abbrev pub EndsBefore : Command → Ending → Store → (before after : Outside) → Type 0
+EndsBefore command why store before after = Stopped command why store before after ⊎ Unfilled command why store before after
 
 -- what `call` did up to its last line
 abbrev pub EndsCall : Command → Ending → Store → (before after : Outside) → Type 0
-EndsCall command why store before after = Unloaded command why before after ⊎ (Stopped command why store before after ⊎ Opened command why store before after)
+EndsCall command why store before after = Unloaded command why before after ⊎ (EndsBefore command why store before after ⊎ Opened command why store before after)
 
 -- the rows were audited: nothing was read or taken from the clock, what is kept stays, and of the report this was written
 pub record Audited (command : Command) (why : Ending) (store : Store) (before after : Outside) : Type 0 where
   pub models : List ModelInfo
-  pub loaded : AreLoadedBy command before.texts models
+  pub preset : List PresetRow
+  pub loaded : AreLoadedBy command before.texts models preset
   pub written : List ℕ
   pub tells : TellsReport models store (Rose before.standing.faults after.standing.faults) why written
   pub same : IsUntouched before.left after.left (record before.standing { written = option_map (λ w. w ++ written) before.standing.written }) after.standing
@@ -67,32 +91,39 @@ pub record Audited (command : Command) (why : Ending) (store : Store) (before af
 abbrev pub EndsAudit : Command → Ending → Store → (before after : Outside) → Type 0
 EndsAudit command why store before after = Unloaded command why before after ⊎ Audited command why store before after
 
--- a store that stands for sound tables was opened, and connections were served from these on; nothing was read or written elsewhere
-pub record Received (command : Command) (why : Ending) (store : Store) (moments : ℕ → ℤ) (before after : Outside) : Type 0 where
+-- a store that stands for sound tables was opened, and connections were served from those on that it then had, by the moments that were still to come;
+-- nothing was read or written elsewhere
+pub record Received (command : Command) (why : Ending) (store : Store) (before after : Outside) : Type 0 where
   pub models : List ModelInfo
-  pub loaded : AreLoadedBy command before.texts models
+  pub preset : List PresetRow
+  pub loaded : AreLoadedBy command before.texts models preset
   pub first : Tables
   pub stands : StandsFor models first store
-  pub reception : Reception models first why command.limit moments before.door after.door before.standing after.standing
+  pub begun : Tables
+  pub opened : Surroundings
+  pub opening : Opening models preset first begun before.standing opened
+  pub moments : ℕ → ℤ
+  pub moments_are : opened.coming ≡ Some moments
+  pub reception : Reception models begun why command.limit moments before.door after.door opened after.standing
   pub left : after.left ≡ before.left
   pub written : after.standing.written ≡ before.standing.written
 
 -- what `serve` did up to its last line
-abbrev pub EndsServe : Command → Ending → Store → (ℕ → ℤ) → (before after : Outside) → Type 0
-EndsServe command why store moments before after =
+abbrev pub EndsServe : Command → Ending → Store → (before after : Outside) → Type 0
+EndsServe command why store before after =
     (Unloaded command why before after × (after.door ≡ before.door))
-    ⊎ ((Stopped command why store before after × (after.door ≡ before.door)) ⊎ Received command why store moments before after)
+    ⊎ ((EndsBefore command why store before after × (after.door ≡ before.door)) ⊎ Received command why store before after)
 
 -- what a run did up to its last line, by its action; serving, where the door tells what connections will send and the clock its moments
 abbrev pub EndsAction : Action → Command → Ending → Store → (before after : Outside) → Type 0
 EndsAction call command why store before after = EndsCall command why store before after
 EndsAction serve command why store before after =
-    (streams : List (List ℕ)) (moments : ℕ → ℤ) → before.door.coming ≡ Some streams → before.standing.coming ≡ Some moments → EndsServe command why store moments before after
+    (streams : List (List ℕ)) (moments : ℕ → ℤ) → before.door.coming ≡ Some streams → before.standing.coming ≡ Some moments → EndsServe command why store before after
 EndsAction audit command why store before after = EndsAudit command why store before after
 
 -- what is kept stays; or of rows under numbers that no model of the modules has all do
 abbrev pub KeepsOthers : Command → (texts : Option FileTexts) → (before now : Option Store) → Type 0
-KeepsOthers command texts before now = (now ≡ before) ⊎ ((models : List ModelInfo) × AreLoadedBy command texts models × OthersStay models before now)
+KeepsOthers command texts before now = (now ≡ before) ⊎ ((models : List ModelInfo) × (preset : List PresetRow) × AreLoadedBy command texts models preset × OthersStay models before now)
 
 -- what a run told before its last line was written
 abbrev pub before_last : Outside → (written : Option (List ℕ)) → (sink_faults : ℕ) → Outside

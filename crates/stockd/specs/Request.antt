@@ -49,6 +49,7 @@ method_named models info d =
     else if is_text (codes "search") d then Some (method.Reads reading.Search)
     else if is_text (codes "search_count") d then Some (method.Reads reading.SearchCount)
     else if is_text (codes "search_read") d then Some (method.Reads reading.SearchRead)
+    else if is_text (codes "read_group") d then Some (method.Reads reading.ReadGroup)
     else if is_text (codes "fields_get") d then Some (method.Reads reading.FieldsGet)
     else if is_text (codes "create") d && is_creatable models info then Some (method.Writes writing.Create)
     else if is_text (codes "write") d && is_writable info then Some (method.Writes writing.Write)

@@ -32,7 +32,7 @@ use ob_cache::Engine;
 use ob_call::Call;
 use ob_io::{Clock, KeepFault, Keeper};
 use ob_orm::{create, fields_get, refusal_text, unlink, write};
-use ob_query::{read, search, search_count, search_read};
+use ob_query::{read, read_group, search, search_count, search_read};
 use ob_rpc::{EnvFault, Envelope, Json, Outcome, Served, envelope, no_memory_reply, reply_text};
 use ob_schema::Schema;
 use serde_json::Map;
@@ -325,6 +325,7 @@ fn tell<K: Keeper, L: Ledger>(
         ReadMethod::Search => search(alloc, engine, call, steps),
         ReadMethod::SearchCount => search_count(alloc, engine, call, steps),
         ReadMethod::SearchRead => search_read(alloc, engine, call, steps),
+        ReadMethod::ReadGroup => read_group(alloc, engine, call, steps),
         ReadMethod::FieldsGet => fields_get(alloc, engine, call, steps),
     }
 }

@@ -226,6 +226,3 @@ pub fn is_blank(line: &[u8]) -> bool
     line.iter()
         .all(|byte| matches!(*byte, b' ' | b'\t' | b'\r'))
 }
-
-#[cfg(test)]
-mod tests;

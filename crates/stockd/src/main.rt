@@ -17,6 +17,7 @@ mod auditing;
 mod connection;
 mod ending;
 mod lines;
+mod opening;
 mod output;
 mod places;
 mod request;
@@ -25,8 +26,6 @@ mod service;
 mod serving;
 mod session;
 mod start;
-#[cfg(test)]
-mod tests;
 mod words;
 
 pub use answer::{Reply, answer};

@@ -24,6 +24,7 @@ pub(crate) enum ReadMethod {
     Search,
     SearchCount,
     SearchRead,
+    ReadGroup,
     FieldsGet,
 }
 
@@ -125,6 +126,8 @@ fn method_named(schema: &Schema, model: ModelNo, method: &Json) -> Option<Method
         Some(Method::Reads(ReadMethod::SearchCount))
     } else if is_text(method, "search_read") {
         Some(Method::Reads(ReadMethod::SearchRead))
+    } else if is_text(method, "read_group") {
+        Some(Method::Reads(ReadMethod::ReadGroup))
     } else if is_text(method, "fields_get") {
         Some(Method::Reads(ReadMethod::FieldsGet))
     } else if is_text(method, "create") && is_creatable(schema, model) {

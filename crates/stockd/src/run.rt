@@ -8,25 +8,25 @@ ghost use Rattle.ob_cache.specs.Opening.{ShowsField};
 ghost use Rattle.ob_io.specs.Cause.{Rose};
 ghost use Rattle.ob_io.specs.Store.{Store};
 ghost use Rattle.ob_load.specs.Texts.{AgreesWith, FileTexts, text_in};
+ghost use Rattle.ob_schema.specs.Presets.{IsPreset};
 ghost use Rattle.ob_schema.specs.Tables.{Tables};
 ghost use Rattle.stockd.specs.Ending.{HasReason, WritesLast, last_line, status_of};
+ghost use Rattle.stockd.specs.Opening.{ServesDoor, ServesLines};
 ghost use Rattle.stockd.specs.Outside.{Doorway, doorway, outside, surroundings};
 ghost use Rattle.stockd.specs.Program.{AreLoadedBy, EndsAction, EndsAudit, EndsCall, EndsServe, HasCauses, IsUntouched, KeepsOthers, Runs};
-ghost use Rattle.stockd.specs.Reception.{Reception};
-ghost use Rattle.stockd.specs.Session.{Session, StandsFor};
+ghost use Rattle.stockd.specs.Session.{StandsFor};
 ghost use Rattle.stockd.specs.Store.{IsOpeningEnding, MayEndLoading, MayEndOpening, EndsLoading, EndsOpening, TellsFault};
 ghost use Rattle.stockd.specs.WordPieces.{command_view};
 ghost use Rattle.stockd.specs.Words.{Command as Asked, IsUsage, audit, command_of, serve};
 
 use crate::auditing::audited;
 use crate::ending::Ending;
-use crate::serving::serve_connections;
-use crate::session::serve_lines;
+use crate::opening::{filled_connections, filled_lines};
 use crate::words::{Action, Command, command_of};
 use ob_base::{NoMemory, Word};
 use ob_cache::{Engine, OpenFault};
 use ob_io::{Clock, Door, Files, Keeper, Sink, Source};
-use ob_load::{FaultyModule, LoadFault, load};
+use ob_load::{FaultyModule, LoadFault, Loaded, load};
 use ob_orm::cell_text;
 use ob_schema::Schema;
 use std::alloc::Global;
@@ -136,7 +136,7 @@ fn serve<F: Files, K: Keeper, D: Door, C: Clock>(
     // connections were served.
     ensures outcome { (store : Store) (streams : List (List ℕ)) (moments : ℕ → ℤ) (left written : Option (List ℕ)) (source_faults sink_faults : ℕ) → K.kept keeper.old ≡ Some store
         → D.coming door.old ≡ Some streams → C.coming clock.old ≡ Some moments
-        → EndsServe (command_view command.now) result store moments
+        → EndsServe (command_view command.now) result store
         (record {
           texts = F.texts files.old;
           left = left;
@@ -161,7 +161,7 @@ fn serve<F: Files, K: Keeper, D: Door, C: Clock>(
     ensures texts { F.texts files.new ≡ F.texts files.old }
 {
     match loaded(alloc, files, command) {
-        Ok(schema) => received(alloc, keeper, door, clock, &schema, command.limit),
+        Ok(loaded) => received(alloc, keeper, door, clock, &loaded, command.limit),
         Err(ending) => ending,
     }
 }
@@ -203,7 +203,7 @@ fn audit<F: Files, K: Keeper, W: Sink>(
     ensures output_count { W.faults output.old ≤ W.faults output.new }
 {
     match loaded(alloc, files, command) {
-        Ok(schema) => audited(alloc, keeper, output, &schema),
+        Ok(loaded) => audited(alloc, keeper, output, &loaded.schema),
         Err(ending) => ending,
     }
 }
@@ -230,21 +230,22 @@ fn call<F: Files, K: Keeper, S: Source, W: Sink, C: Clock>(
     ensures output_count { W.faults output.old ≤ W.faults output.new }
 {
     match loaded(alloc, files, command) {
-        Ok(schema) => opened(alloc, keeper, input, output, clock, &schema),
+        Ok(loaded) => opened(alloc, keeper, input, output, clock, &loaded),
         Err(ending) => ending,
     }
 }
 
-/// The registry of the modules.
-fn loaded<F: Files>(alloc: Global, files: &mut F, command: &Command<'_>) -> Result<Schema, Ending>
-    ensures ok { IfOk result (AreLoadedBy (command_view command.now) (F.texts files.old)) }
+/// What the modules mean.
+fn loaded<F: Files>(alloc: Global, files: &mut F, command: &Command<'_>) -> Result<Loaded, Ending>
+    ensures ok { IfOk result (λ loaded. AreLoadedBy (command_view command.now) (F.texts files.old) loaded.schema loaded.preset.rows) }
+    ensures preset { IfOk result (λ loaded. IsPreset loaded.schema loaded.preset.rows) }
     ensures told { IfErr result (λ why. (texts : FileTexts) × AgreesWith (F.texts files.old) texts
         × EndsLoading (text_in texts command.now.folder.now) command.now.names (Rose (F.faults files.old) (F.faults files.new)) why) }
     ensures err { IfErr result (MayEndLoading (Rose (F.faults files.old) (F.faults files.new))) }
     ensures texts { F.texts files.new ≡ F.texts files.old }
 {
     match load(alloc, files, command.folder, command.names.as_slice()) {
-        Ok(loaded) => Ok(loaded.schema),
+        Ok(loaded) => Ok(loaded),
         Err(LoadFault::File) => Err(Ending::ReadFault),
         Err(LoadFault::Module(faulty)) => Err(module_fault(alloc, &faulty)),
         Err(LoadFault::NoMemory) => Err(Ending::NoMemory),
@@ -268,27 +269,28 @@ fn opened<K: Keeper, S: Source, W: Sink, C: Clock>(
     input: &mut S,
     output: &mut W,
     clock: &mut C,
-    schema: &Schema,
+    loaded: &Loaded,
 ) -> Ending
-    // A store that doesn't stand for tables stops it; else it is a session.
+    requires preset { IsPreset loaded.now.schema loaded.now.preset.rows }
+    // A store that doesn't stand for tables stops it, and one that can't be filled; else it is a session.
     ensures outcome { let before = surroundings K.Keeper W.Sink C.Clock keeper.old output.old clock.old in let now = surroundings K.Keeper W.Sink C.Clock keeper.new output.new clock.new in
         (store : Store) → K.kept keeper.old ≡ Some store
-        → (EndsOpening schema.now store (Rose (K.faults keeper.old) (K.faults keeper.new)) result × IsUntouched (S.left input.old) (S.left input.new) before now)
-        ⊎ ((first : Tables) × StandsFor schema.now first store × Session schema.now first result (S.left input.old) (S.left input.new) before now) }
+        → (EndsOpening loaded.now.schema store (Rose (K.faults keeper.old) (K.faults keeper.new)) result × IsUntouched (S.left input.old) (S.left input.new) before now)
+        ⊎ ((first : Tables) × StandsFor loaded.now.schema first store × ServesLines loaded.now.schema loaded.now.preset.rows first result (S.left input.old) (S.left input.new) before now) }
     ensures reason { HasReason ⊥ (Rose (S.faults input.old) (S.faults input.new))
         (Rose (W.faults output.old) (W.faults output.new))
         (Rose (K.faults keeper.old) (K.faults keeper.new)) result }
     ensures output_count { W.faults output.old ≤ W.faults output.new }
-    ensures others { OthersStay schema.now (K.kept keeper.old) (K.kept keeper.new) }
+    ensures others { OthersStay loaded.now.schema (K.kept keeper.old) (K.kept keeper.new) }
 {
-    match Engine::begin(alloc, &mut *keeper, schema, CAPACITY) {
+    match Engine::begin(alloc, &mut *keeper, &loaded.schema, CAPACITY) {
         Ok(mut engine) => {
-            let ending = serve_lines(alloc, &mut engine, input, output, clock);
+            let ending = filled_lines(alloc, &mut engine, &loaded.preset, input, output, clock);
             // What the keeper tells is known where it is given back.
             engine.close();
             ending
         }
-        Err(unopened) => opening_fault(alloc, schema, unopened.fault),
+        Err(unopened) => opening_fault(alloc, &loaded.schema, unopened.fault),
     }
 }
 
@@ -298,28 +300,29 @@ fn received<K: Keeper, D: Door, C: Clock>(
     keeper: &mut K,
     door: &mut D,
     clock: &mut C,
-    schema: &Schema,
+    loaded: &Loaded,
     most: u32,
 ) -> Ending
-    // A store that doesn't stand for tables stops it; else connections are served.
+    requires preset { IsPreset loaded.now.schema loaded.now.preset.rows }
+    // A store that doesn't stand for tables stops it, and one that can't be filled; else connections are served.
     ensures outcome { (store : Store) (streams : List (List ℕ)) (moments : ℕ → ℤ) (written : Option (List ℕ)) → K.kept keeper.old ≡ Some store
         → D.coming door.old ≡ Some streams → C.coming clock.old ≡ Some moments
-        → (EndsOpening schema.now store (Rose (K.faults keeper.old) (K.faults keeper.new)) result × (K.kept keeper.new ≡ K.kept keeper.old) × (C.coming clock.new ≡ C.coming clock.old)
+        → (EndsOpening loaded.now.schema store (Rose (K.faults keeper.old) (K.faults keeper.new)) result × (K.kept keeper.new ≡ K.kept keeper.old) × (C.coming clock.new ≡ C.coming clock.old)
         × (doorway D.Door door.new ≡ doorway D.Door door.old))
-        ⊎ ((first : Tables) × StandsFor schema.now first store × Reception schema.now first result most moments (doorway D.Door door.old) (doorway D.Door door.new)
+        ⊎ ((first : Tables) × StandsFor loaded.now.schema first store × ServesDoor loaded.now.schema loaded.now.preset.rows first result most (doorway D.Door door.old) (doorway D.Door door.new)
         (record { faults = K.faults keeper.old; kept = K.kept keeper.old; coming = C.coming clock.old; written = written })
         (record { faults = K.faults keeper.new; kept = K.kept keeper.new; coming = C.coming clock.new; written = written })) }
     ensures reason { HasReason ⊥ (Rose (D.next_faults door.old) (D.next_faults door.new)) ⊥ (Rose (K.faults keeper.old) (K.faults keeper.new)) result }
-    ensures others { OthersStay schema.now (K.kept keeper.old) (K.kept keeper.new) }
+    ensures others { OthersStay loaded.now.schema (K.kept keeper.old) (K.kept keeper.new) }
 {
-    match Engine::begin(alloc, &mut *keeper, schema, CAPACITY) {
+    match Engine::begin(alloc, &mut *keeper, &loaded.schema, CAPACITY) {
         Ok(mut engine) => {
-            let ending = serve_connections(alloc, &mut engine, door, clock, most);
+            let ending = filled_connections(alloc, &mut engine, &loaded.preset, door, clock, most);
             // What the keeper tells is known where it is given back.
             engine.close();
             ending
         }
-        Err(unopened) => opening_fault(alloc, schema, unopened.fault),
+        Err(unopened) => opening_fault(alloc, &loaded.schema, unopened.fault),
     }
 }
 

@@ -140,6 +140,3 @@ fn no_memory<R: Print>(rt: &R) -> u8
     }
     Ending::NoMemory.status()
 }
-
-#[cfg(test)]
-mod tests;

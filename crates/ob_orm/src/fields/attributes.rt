@@ -232,7 +232,7 @@ fn choice_json(alloc: Global, choice: &Choice) -> Result<Json, NoMemory>
 }
 
 /// Whether calls never give a field's value: `id`, what an expression gives, and managed fields.
-fn is_readonly(schema: &Schema, field: &FieldInfo) -> bool
+pub(crate) fn is_readonly(schema: &Schema, field: &FieldInfo) -> bool
     ensures { result ≡ is_readonly schema.now field.now }
 {
     matches!(field.origin, Origin::Id) || is_computed(schema, &field.origin) || field.managed

@@ -6,7 +6,7 @@ ghost use Rattle.std.specs.List.{flat_map};
 ghost use Rattle.ob_base.specs.Times.{IsMoment};
 ghost use Rattle.ob_orm.specs.NewRows as spec;
 ghost use Rattle.ob_orm.specs.NewRows.{field_behind, linked, parent_change, parents_of, with_parent, with_parents};
-ghost use Rattle.ob_orm.specs.NewRowSteps.{HoldsNextIds, IsReady, IsTyped, MayFit, so_far};
+ghost use Rattle.ob_orm.specs.NewRowSteps.{AddsEdits, HoldsNextIds, IsReady, IsTyped, MayFit, so_far};
 ghost use Rattle.ob_schema.specs.Models.{HasModel, IsParentIn};
 ghost use Rattle.ob_schema.specs.Tables.{Tables};
 
@@ -30,6 +30,7 @@ pub(crate) fn make_parents(
     requires typed { All (IsTyped maker.now.schema.now model) given.old.items }
     requires ready { IsReady maker.now.schema.now making.old }
     ensures typed { OnOk result (All (IsTyped maker.entry.now.schema.now model) given.new.items) }
+    ensures adds { OnOk result (AddsEdits making.old making.new) }
     ensures ready { OnOk result (IsReady maker.entry.now.schema.now making.new) }
     ensures made { OnOk result ((old : Tables) → HoldsNextIds maker.entry.now.schema.now old making.old
         → (record { tables = so_far maker.entry.now.schema.now old making.new; given = given.new.items }
@@ -57,6 +58,7 @@ fn make_parent(
     requires typed { All (IsTyped maker.now.schema.now model) given.old.items }
     requires ready { IsReady maker.now.schema.now making.old }
     ensures typed { OnOk result (All (IsTyped maker.entry.now.schema.now model) given.new.items) }
+    ensures adds { OnOk result (AddsEdits making.old making.new) }
     ensures ready { OnOk result (IsReady maker.entry.now.schema.now making.new) }
     ensures made { OnOk result ((old : Tables) → HoldsNextIds maker.entry.now.schema.now old making.old
         → (record { tables = so_far maker.entry.now.schema.now old making.new; given = given.new.items }

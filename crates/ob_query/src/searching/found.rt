@@ -174,7 +174,7 @@ fn keys_of<K: Keeper>(
 }
 
 /// The next row that is found.
-fn next_found<K: Keeper>(
+pub(crate) fn next_found<K: Keeper>(
     alloc: Global,
     engine: &mut Engine<'_, K>,
     sought: &Sought,

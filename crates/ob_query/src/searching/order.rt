@@ -12,6 +12,7 @@ ghost use Rattle.ob_base.specs.declared.id.FieldNo.{FieldNo};
 ghost use Rattle.ob_base.specs.declared.id.RecId.{RecId};
 ghost use Rattle.ob_base.specs.declared.value.Value.{Value};
 ghost use Rattle.ob_schema.specs.declared.info.OrderTerm.{OrderTerm};
+ghost use Rattle.ob_query.specs.GroupValues.{rising};
 ghost use Rattle.ob_query.specs.SearchKeys.{AreKeyed, key_order, key_order_total};
 ghost use Rattle.ob_query.specs.SearchOrder.{AreOrdered, unset_last, window};
 
@@ -68,6 +69,16 @@ impl Ord for Key {
     }
 }
 
+/// The key of a value by which rows rise.
+pub(crate) fn rising(value: Value) -> Key
+    ensures { result ≡ rising value }
+{
+    Key {
+        descending: false,
+        value,
+    }
+}
+
 /// By size; what is unset comes last.
 fn unset_last(a: &Value, b: &Value) -> Ordering
     ensures { result ≡ unset_last a.now b.now }
@@ -104,7 +115,7 @@ pub(crate) fn ids_in_order(
 }
 
 /// Some of these rows: from one on, at most so many, 0 being no limit.
-fn window_of(rows: &[Ranked], offset: u64, limit: u64) -> &[Ranked]
+pub(crate) fn window_of<T>(rows: &[T], offset: u64, limit: u64) -> &[T]
     ensures { result.now ≡ window offset limit rows.now }
 {
     let rest = &rows[rows.len().min(offset as usize)..];

@@ -3,6 +3,7 @@
 
 ghost use Rattle.std.specs.Prelude.{◌≡◌, true, IfErr, IfOk};
 ghost use Rattle.ob_cache.specs.Calls.{models_at, standpoint};
+ghost use Rattle.ob_codec.specs.Held.{HasText};
 ghost use Rattle.ob_domain.specs.Holding.{holds};
 ghost use Rattle.ob_domain.specs.Over.{IsOver};
 ghost use Rattle.ob_domain.specs.Trees.{tree_of_domain};
@@ -49,6 +50,7 @@ pub(crate) fn value_in<K: Keeper>(
     requires field { HasField (models_at (standpoint K.Keeper engine.old)) model field }
     requires known { OfAllTold (TellsOf K.Keeper engine.old) (λ told. told.knows model id ≡ true) }
     ensures told { IfOk result (λ value. OfAllTold (TellsOf K.Keeper engine.old) (λ told. value ≡ held_of told model field id)) }
+    ensures text { IfOk result HasText }
     ensures asked { OnlyAsked K.Keeper engine.old engine.new }
     ensures causes { IfErr result (IsUnanswered K.Keeper engine.old engine.new) }
 {

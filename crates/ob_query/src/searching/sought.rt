@@ -203,7 +203,7 @@ fn own_order(
 }
 
 /// The number of rows that is given; 0 where none is.
-fn count_given(given: Option<Given<'_>>) -> u64
+pub(crate) fn count_given(given: Option<Given<'_>>) -> u64
     ensures { result ≡ count_given (option_map given_of given.entry) }
 {
     match given {

@@ -1,5 +1,5 @@
 -- A group is apart from those before it exactly where none of them has its name.
-use Rattle.std.proofs.Common.{◌≡◌, ap, refl, subst, sym, ◌∙◌, true, false}
+use Rattle.std.proofs.Common.{ap, refl, subst, sym, ◌∙◌}
 use Rattle.std.proofs.lemmas.List.{take_all}
 use Rattle.ob_access.specs.Policies.{AreNamedApart}
 use Rattle.ob_access.specs.declared.policy.Group.{Group}

@@ -1,5 +1,5 @@
 -- What the policy sees of each rule fits exactly where each rule does.
-use Rattle.std.proofs.Common.{◌≡◌, All, ap, refl, subst, sym, ◌∙◌, true, false}
+use Rattle.std.proofs.Common.{All, refl, subst, sym, ◌∙◌}
 use Rattle.std.proofs.lemmas.List.{take_all}
 use Rattle.std.proofs.lemmas.List.Elements.{All-map, All-more}
 use Rattle.ob_access.specs.Policies.{IsRuleOver, rule_data}

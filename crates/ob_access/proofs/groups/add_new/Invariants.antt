@@ -1,5 +1,5 @@
 -- Those found so far and those that are left are as many as before; so are those that are pending; and fewer are still to be found.
-use Rattle.std.proofs.Common.{◌≡◌, ◌≤◌, ◌+◌, ◌&&◌, ◌||◌, ℕ, Bool, not, All, drop, length}
+use Rattle.std.proofs.Common.{◌≡◌, ◌≤◌, ◌+◌, ◌&&◌, ◌||◌, ℕ, not, All, drop, length}
 use Rattle.ob_base.specs.declared.id.RecId.{RecId}
 use Rattle.ob_access.specs.Finding.{IsUpTo, unfound}
 use Rattle.ob_access.specs.Groups.{has_group}

@@ -1,5 +1,5 @@
 -- One group that is pending gives way to those that it implies.
-use Rattle.std.proofs.Common.{◌≡◌, ◌||◌, ◌&&◌, ◌+◌, ℕ, Bool, List, All, length, not, ap, sym, subst, ◌∙◌, arith, length-append, [], ◌∷◌}
+use Rattle.std.proofs.Common.{◌≡◌, ◌||◌, ◌&&◌, List, All, length, not, ap, sym, subst, ◌∙◌, arith, length-append, [], ◌∷◌}
 use Rattle.ob_base.specs.declared.id.RecId.{RecId}
 use Rattle.ob_access.specs.Finding.{IsUpTo}
 use Rattle.ob_access.specs.Groups.{has_group}

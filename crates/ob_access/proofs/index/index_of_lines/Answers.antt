@@ -1,5 +1,5 @@
 -- One line more.
-use Rattle.std.proofs.Common.{◌++◌, List, sym, ap, ◌∙◌, drop, filter, map}
+use Rattle.std.proofs.Common.{◌++◌, List, sym, ap, ◌∙◌, filter, map}
 use Rattle.std.proofs.lemmas.List.{append-nil, drop_all}
 use Rattle.ob_access.specs.Index.{asks_for, list_at}
 use Rattle.ob_access.specs.declared.policy.AccessLine.{AccessLine}

@@ -1,5 +1,5 @@
 -- One rule more.
-use Rattle.std.proofs.Common.{◌++◌, List, sym, ap, ◌∙◌, drop, filter, map}
+use Rattle.std.proofs.Common.{◌++◌, List, sym, ap, ◌∙◌, filter, map}
 use Rattle.std.proofs.lemmas.List.{append-nil, drop_all}
 use Rattle.ob_access.specs.Index.{asks_for, list_at, rules_at}
 use Rattle.ob_access.specs.Policies.{RuleData, rule_data}

@@ -1,5 +1,5 @@
 -- A rule denies exactly where its name is told.
-use Rattle.std.proofs.Common.{◌≡◌, true, false, Bool, Option, Some, None, refl, ap, sym, ◌∙◌}
+use Rattle.std.proofs.Common.{◌≡◌, true, Option, Some, None, refl, sym, ◌∙◌}
 use Rattle.std.specs.Prelude.{is_none, option_map}
 use Rattle.ob_access.specs.Admission.{denying, is_met, rules_for}
 use Rattle.ob_access.specs.Groups.{is_superuser}

@@ -1,5 +1,4 @@
 -- More groups pass each test that fewer pass.
-use Rattle.std.proofs.Common.{◌||◌, Bool}
 use Rattle.std.specs.List.{list_any}
 use Rattle.ob_access.specs.Groups.{is_superuser}
 use Rattle.ob_access.specs.Rights.{field_access_at, is_for, lines_for}

@@ -1,5 +1,5 @@
 -- The first place of the name, counted from 1.
-use Rattle.std.proofs.Common.{◌≡◌, ◌+◌, ℕ, suc, Option, Some, rules, tests, ap, sym, ◌∙◌, add-one}
+use Rattle.std.proofs.Common.{ℕ, suc, Some, rules, tests, ap, sym, ◌∙◌, add-one}
 use Rattle.std.proofs.lemmas.Iterator.{YieldsList-from_slice}
 use Rattle.std.proofs.lemmas.Iterator.Search.{position_from_yields_List}
 use Rattle.std.specs.Prelude.{bytes_eq, option_map}

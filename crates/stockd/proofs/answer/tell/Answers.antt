@@ -60,6 +60,20 @@ returns-in-SearchRead-clause-same g c = let (info, is) = known_model _ c.require
 pub returns-in-SearchRead-clause-count : goal.returns-in-SearchRead-clause-count
 returns-in-SearchRead-clause-count g c = let (info, is) = known_model _ c.requires.model in (known _ info _ is c.search_read.ensures.call).count
 
+pub returns-in-ReadGroup-clause-call : goal.returns-in-ReadGroup-clause-call
+returns-in-ReadGroup-clause-call g c =
+    let before = standpoint g.K.Keeper c.args.engine.now in
+    let after = standpoint g.K.Keeper c.read_group.new.engine in
+    let call = c.args.call.now in
+    let result = result_view c.read_group.result in
+    tells_as before after call c.args.method reading.ReadGroup c.in-ReadGroup.is result c.read_group.ensures.call
+
+pub returns-in-ReadGroup-clause-same : goal.returns-in-ReadGroup-clause-same
+returns-in-ReadGroup-clause-same g c = let (info, is) = known_model _ c.requires.model in (known _ info _ is c.read_group.ensures.call).same
+
+pub returns-in-ReadGroup-clause-count : goal.returns-in-ReadGroup-clause-count
+returns-in-ReadGroup-clause-count g c = let (info, is) = known_model _ c.requires.model in (known _ info _ is c.read_group.ensures.call).count
+
 pub returns-in-FieldsGet-clause-call : goal.returns-in-FieldsGet-clause-call
 returns-in-FieldsGet-clause-call g c =
     let before = standpoint g.K.Keeper c.args.engine.now in

@@ -6,7 +6,8 @@ pub returns-in-Ok-clause-outcome : goal.returns-in-Ok-clause-outcome
 returns-in-Ok-clause-outcome g c = λ store left door coming source_faults kept.
     let (written, tells, now) = c.audited.ensures.told store kept in
     inr (record {
-      models = c.in-Ok.schema;
+      models = c.in-Ok.loaded.schema;
+      preset = c.in-Ok.loaded.preset.rows;
       loaded = c.in-Ok.ensures.ok;
       written = written;
       tells = tells;

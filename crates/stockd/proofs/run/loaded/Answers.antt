@@ -7,7 +7,7 @@ pub returns-in-Ok-clause-ok : goal.returns-in-Ok-clause-ok
 returns-in-Ok-clause-ok g c =
     let names = c.as_slice.ensures in
     let loaded = rw names at c.in-Ok.ensures.loaded in
-    (loaded.0, loaded.1, (c.in-Ok.loaded.policy, c.in-Ok.loaded.preset.rows, loaded.2))
+    (loaded.0, loaded.1, c.in-Ok.loaded.policy, loaded.2)
 
 pub returns-in-Err-File-clause-told : goal.returns-in-Err-File-clause-told
 returns-in-Err-File-clause-told g c = let texts = some_texts (g.F.Files.texts c.args.files.now) in (texts.0, texts.1, search rules)

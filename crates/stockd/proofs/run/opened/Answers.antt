@@ -1,15 +1,16 @@
--- What an opened store is: the rows of sound tables, and so a session from these on.
+-- What an opened store is: the rows of sound tables, and so lines served over those on that it then had.
 use Rattle.std.proofs.Common.{inr, rules}
-use Rattle.stockd.proofs.WholeCall.{opening_served, others_served}
+use Rattle.stockd.proofs.OpeningServed.{lines_opened}
+use Rattle.stockd.proofs.WholeCall.{others_served}
 use Rattle.stockd.proofs.run.opened.Goals as goal
 
 pub returns-in-Ok-clause-others : goal.returns-in-Ok-clause-others
 returns-in-Ok-clause-others g c =
     let opened = c.in-Ok.ensures in
-    others_served g.K.Keeper.faults g.K.Keeper.kept _ _ _ _ c.serve_lines-ending.new.engine.keeper.now _ (search rules) opened.rests.models_are opened.same c.serve_lines-ending.ensures.others
+    others_served g.K.Keeper.faults g.K.Keeper.kept _ _ _ _ c.filled_lines-ending.new.engine.keeper.now _ (search rules) opened.rests.models_are opened.same c.filled_lines-ending.ensures.others
 
 pub returns-in-Ok-clause-outcome : goal.returns-in-Ok-clause-outcome
 returns-in-Ok-clause-outcome g c = λ store kept.
     let opened = c.in-Ok.ensures in
-    inr (opening_served g.K.Keeper.faults g.K.Keeper.kept _ c.in-Ok.engine.held store _ _ _ _ _ _ _ c.in-Ok.engine.keeper.now c.serve_lines-ending.new.engine.keeper.now _ _ (search rules)
-    opened.rests.models_are opened.stands opened.same opened.count c.serve_lines-ending.ensures.session kept)
+    inr (lines_opened g.K.Keeper.faults g.K.Keeper.kept _ _ c.in-Ok.engine.held store _ _ _ _ _ c.in-Ok.engine.keeper.now c.filled_lines-ending.new.engine.keeper.now _ _ (search rules)
+    opened.rests.models_are opened.stands opened.same opened.count kept _ _ c.filled_lines-ending.ensures.outcome)

@@ -1,18 +1,16 @@
--- What an opened store is: the rows of sound tables, and so connections served from these on.
+-- What an opened store is: the rows of sound tables, and so connections served over those on that it then had.
 use Rattle.std.proofs.Common.{inr, rules}
-use Rattle.ob_schema.specs.Tables.{Tables}
-use Rattle.stockd.proofs.ReceptionOpened.{receiving_served}
+use Rattle.stockd.proofs.OpeningServed.{door_opened}
 use Rattle.stockd.proofs.WholeCall.{others_served}
 use Rattle.stockd.proofs.run.received.Goals as goal
 
 pub returns-in-Ok-clause-others : goal.returns-in-Ok-clause-others
 returns-in-Ok-clause-others g c =
     let opened = c.in-Ok.ensures in
-    others_served g.K.Keeper.faults g.K.Keeper.kept _ _ _ _ c.serve_connections-ending.new.engine.keeper.now _ (search rules) opened.rests.models_are opened.same c.serve_connections-ending.ensures.other_rows
+    others_served g.K.Keeper.faults g.K.Keeper.kept _ _ _ _ c.filled_connections-ending.new.engine.keeper.now _ (search rules) opened.rests.models_are opened.same c.filled_connections-ending.ensures.others
 
 pub returns-in-Ok-clause-outcome : goal.returns-in-Ok-clause-outcome
 returns-in-Ok-clause-outcome g c = λ store streams moments written told coming given.
     let opened = c.in-Ok.ensures in
-    let serves = λ (first : Tables). c.serve_connections-ending.ensures.reception first streams moments written coming given in
-    inr (receiving_served g.K.Keeper.faults g.K.Keeper.kept _ c.in-Ok.engine.held store moments _ _ written _ c.in-Ok.engine.keeper.now c.serve_connections-ending.new.engine.keeper.now _ _ c.args.most _ _ (search rules)
-    opened.rests.models_are opened.stands opened.same opened.count serves told)
+    inr (door_opened g.K.Keeper.faults g.K.Keeper.kept _ _ c.in-Ok.engine.held store _ _ written written _ c.in-Ok.engine.keeper.now c.filled_connections-ending.new.engine.keeper.now _ _ (search rules)
+    opened.rests.models_are opened.stands opened.same opened.count told c.args.most _ _ (λ first rests. c.filled_connections-ending.ensures.outcome first streams moments written coming given rests))

@@ -1,5 +1,5 @@
 -- The lines that are listed are the model's for the operation.
-use Rattle.std.proofs.Common.{◌≡◌, ◌||◌, Bool, List, Option, [], ◌∷◌, map, filter, refl, ap, sym, ◌∙◌}
+use Rattle.std.proofs.Common.{◌≡◌, ◌||◌, Bool, List, [], ◌∷◌, map, filter, refl, ap, sym, ◌∙◌}
 use Rattle.std.specs.List.{list_any}
 use Rattle.ob_base.specs.declared.id.RecId.{RecId}
 use Rattle.ob_access.specs.Index.{asks_for}

@@ -1,7 +1,7 @@
-use Rattle.std.proofs.Common.{◌≡◌, ◌∷◌, [], ◌++◌, ◌+◌, take, get_or, sym, ap, ◌∙◌}
+use Rattle.std.proofs.Common.{◌≡◌, ◌∷◌, [], ◌++◌, ◌+◌, take, get_or, refl, sym, ap, ◌∙◌}
 use Rattle.std.proofs.lemmas.List.{take_more}
 use Rattle.ob_orm.specs.NewRows.{Begun, with_parent, with_parents}
-use Rattle.ob_orm.proofs.NewRows.{begun_by, with_parents-more}
+use Rattle.ob_orm.proofs.NewRows.{adds-none, adds-then, begun_by, with_parents-more}
 use Rattle.ob_orm.proofs.making.parents.make_parents.Goals as goal
 use Rattle.ob_schema.specs.declared.info.ParentInfo.{ParentInfo}
 
@@ -15,6 +15,7 @@ loop-parent-preserved c =
     let none : ParentInfo = record { link = record { 0 = 0 }; model = record { 0 = 0 } } in
     let parent = get_or parents i none in
     record {
+      adds = adds-then c.args.making.now c.loop-parent.making c.make_parent.new.making c.loop-parent.invariant.adds c.in_ok-make_parent.ensures.adds;
       ready = c.in_ok-make_parent.ensures.ready;
       typed = c.in_ok-make_parent.ensures.typed;
       made = λ old holds.
@@ -25,3 +26,6 @@ loop-parent-preserved c =
           ap (with_parents models now model start) (take_more parents i none c.loop-parent-test.true) ∙ with_parents-more models now model start (take i parents) parent in
           (one.0 ∙ ap (λ (b : Begun). with_parent models now model b parent) far.0 ∙ sym all, one.1);
     }
+
+pub loop-parent-init : goal.loop-parent-init
+loop-parent-init c = record { adds = adds-none c.args.making.now; ready = c.requires.ready; typed = c.requires.typed; made = λ old holds. (refl, holds) }

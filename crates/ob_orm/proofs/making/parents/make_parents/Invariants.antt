@@ -1,7 +1,7 @@
 use Rattle.std.proofs.Common.{◌≡◌, take}
 use Rattle.std.specs.Prelude.{All}
 use Rattle.ob_orm.specs.NewRows.{with_parents}
-use Rattle.ob_orm.specs.NewRowSteps.{HoldsNextIds, IsReady, IsTyped, so_far}
+use Rattle.ob_orm.specs.NewRowSteps.{AddsEdits, HoldsNextIds, IsReady, IsTyped, so_far}
 use Rattle.ob_orm.proofs.NewRows.{begun_by}
 use Rattle.ob_orm.proofs.making.parents.make_parents.Given as goal
 use Rattle.ob_schema.specs.Tables.{Tables}
@@ -9,6 +9,7 @@ use Rattle.ob_schema.specs.Tables.{Tables}
 -- the parents so far are made
 abbrev pub invariant-loop-parent : goal.invariant-loop-parent
 invariant-loop-parent l = record {
+  adds : AddsEdits l.fn.making l.making;
   ready : IsReady l.maker.schema.now l.making;
   typed : All (IsTyped l.maker.schema.now l.model) l.given.items;
   made : (old : Tables) → HoldsNextIds l.maker.schema.now old l.fn.making

@@ -1,0 +1,28 @@
+-- Each piece goes after what is done, and a write that fails leaves what is done.
+use Rattle.std.proofs.Common.{rules, refl, ◌∙◌}
+use Rattle.ob_http.proofs.WrittenParts.{at_any_error, front_so_far, more_so_far, wrote_nothing}
+use Rattle.ob_http.proofs.writing.write_all.Goals as goal
+
+pub loop-done-init : goal.loop-done-init
+loop-done-init g c = record {
+  done = search rules;
+  written = wrote_nothing _;
+  coming = refl;
+  left = refl;
+  faults = search rules;
+  next_faults = refl;
+}
+
+pub returns-in_err-done-clause-err : goal.returns-in_err-done-clause-err
+returns-in_err-done-clause-err g c =
+    at_any_error _ (front_so_far _ _ c.loop-done.done _ (search rules) (c.in_err-done.ensures.failed ∙ c.loop-done.invariant.written))
+
+pub loop-done-preserved : goal.loop-done-preserved
+loop-done-preserved g c = record {
+  done = search rules;
+  written = more_so_far _ _ _ c.loop-done.done c.in_ok-done.field-0 c.args.bytes.now c.loop-done.invariant.written c.in_ok-done.ensures.writes;
+  coming = c.in_ok-done.ensures.others.0 ∙ c.loop-done.invariant.coming;
+  left = c.in_ok-done.ensures.others.1 ∙ c.loop-done.invariant.left;
+  faults = search rules;
+  next_faults = c.in_ok-done.ensures.count ∙ c.loop-done.invariant.next_faults;
+}

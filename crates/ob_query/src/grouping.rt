@@ -1,0 +1,150 @@
+//! `read_group`: the rows of a model that a domain finds, by groups of what they hold for some of
+//! its fields, with the number of each group's rows and what they sum up to.
+//!
+//! Rooms: `period` (the periods of days and moments), `groupings` and `aggregates` (as they are
+//! named), `parted` (texts in two parts), `written` (which groupings there are, before the arguments are judged), `terms` (the
+//! order of groups), `forms` (the forms of the arguments), `asked` (what these ask for), `gathered`
+//! (the rows by their groups), `amounts` (what rows sum up to) and `told_groups` (the objects of
+//! groups). What the call means is `Groups`, and it is refused only for its arguments: a change
+//! begins with these.
+
+ghost use Rattle.std.specs.Prelude.{◌≡◌, false, map, IfErr, IfOk, IfSome, List};
+ghost use Rattle.serde_json.specs.View.{view};
+ghost use Rattle.serde_json.specs.Written.{has_float};
+ghost use Rattle.ob_base.specs.declared.id.FieldNo.{FieldNo};
+ghost use Rattle.ob_base.specs.declared.id.RecId.{RecId};
+ghost use Rattle.ob_base.specs.declared.value.Value.{Value};
+ghost use Rattle.ob_cache.specs.Calls.{HasTables, IsAsked, IsResting, KeeperRose, Refuses, TellsBy, models_at, standpoint};
+ghost use Rattle.ob_call.specs.Called.{called_by, result_view};
+ghost use Rattle.ob_call.specs.Results.{IsResultOf};
+ghost use Rattle.ob_query.specs.GroupForms.{groups_of};
+ghost use Rattle.ob_query.specs.GroupParts.{AreGathered, AreSome, IsAskedOver, TellsGroups, asked_view};
+ghost use Rattle.ob_query.specs.Groups.{Groups};
+ghost use Rattle.ob_query.specs.Search.{IsMalformed};
+ghost use Rattle.ob_query.specs.SearchQuestions.{OnlyAsked};
+ghost use Rattle.ob_schema.specs.Models.{HasModel, model_at};
+ghost use Rattle.ob_schema.specs.Tables.{Tables};
+
+mod aggregates;
+mod amounts;
+mod asked;
+mod forms;
+mod gathered;
+mod groupings;
+mod handed;
+mod parted;
+mod period;
+mod terms;
+mod told_groups;
+mod written;
+
+use crate::grouping::asked::{AskedGroups, GroupsArguments, groups_by};
+use crate::grouping::forms::groups_parameters;
+use crate::grouping::gathered::{Groups, gathered};
+use crate::grouping::told_groups::group_objects;
+use crate::searching::refusal_of;
+use ob_base::{Ledger, NoMemory, Refusal, Steps};
+use ob_cache::Engine;
+use ob_call::{Call, Json, arguments_of};
+use ob_io::Keeper;
+use ob_schema::Schema;
+use std::alloc::Global;
+
+/// Answers one object for each group of the rows that meet a domain. Rows are of one group where
+/// they hold the same for each grouping, of a day or a moment the first day of its period. The
+/// object has the groupings as they are written, the number of the group's rows, and the
+/// aggregates. Groups go by what they have for the groupings, rising and unset last, or as
+/// `orderby` says, from `offset` on and at most `limit` of them. With `lazy`, which is so where
+/// it isn't said, the first grouping alone is used; without groupings there is one group, also of
+/// no rows. Refused are arguments of another form, at their place. The caller sees to it that
+/// the engine rests.
+pub fn read_group<K: Keeper, L: Ledger>(
+    alloc: Global,
+    engine: &mut Engine<'_, K>,
+    call: &Call<'_>,
+    _steps: &mut Steps<L>,
+) -> Result<Json, Refusal>
+    requires model { HasModel (models_at (standpoint K.Keeper engine.old)) call.now.model }
+    requires rest { IsResting (standpoint K.Keeper engine.old) }
+
+    // It is the machine's grouping of the model's rows, whatever the tables.
+    ensures call { let before = standpoint K.Keeper engine.old in let models = models_at before in
+        IfSome (model_at models call.entry.now.model) (λ info. let c = called_by call.entry.now info in
+        IsAsked (Groups models c) before (standpoint K.Keeper engine.new) (IsMalformed (groups_of models c)) (result_view result)) }
+    ensures plain { IfOk result (λ json. has_float (view json) ≡ false) }
+
+    // It counts no evaluation.
+    ensures ticks { _steps.new ≡ _steps.old }
+    ensures lender { engine.new.keeper.ghost_name ≡ engine.old.keeper.ghost_name }
+{
+    grouped_rows(alloc, engine, call)
+}
+
+/// The groups for which a call asks.
+fn grouped_rows<K: Keeper>(
+    alloc: Global,
+    engine: &mut Engine<'_, K>,
+    call: &Call<'_>,
+) -> Result<Json, Refusal>
+    requires model { HasModel (models_at (standpoint K.Keeper engine.old)) call.now.model }
+    requires rest { IsResting (standpoint K.Keeper engine.old) }
+
+    // Over a keeper that tells its rows it is the machine's.
+    ensures answer { let before = standpoint K.Keeper engine.old in let models = models_at before in (tables : Tables) → HasTables before tables
+        → IfSome (model_at models call.entry.now.model) (λ info. TellsBy (Groups models (called_by call.entry.now info)) before (standpoint K.Keeper engine.new) tables (result_view result)) }
+
+    // Over any keeper each refusal has its cause.
+    ensures causes { IfErr result (Refuses (KeeperRose (standpoint K.Keeper engine.old) (standpoint K.Keeper engine.new))
+        (λ why. IfSome (model_at (models_at (standpoint K.Keeper engine.old)) call.entry.now.model) (λ info. IsMalformed (groups_of (models_at (standpoint K.Keeper engine.old)) (called_by call.entry.now info)) why))) }
+    ensures plain { IfOk result (λ json. has_float (view json) ≡ false) }
+    ensures asked { OnlyAsked K.Keeper engine.old engine.new }
+{
+    let asked = asked_groups(alloc, engine.schema(), call)?;
+    match gathered(alloc, engine, &asked) {
+        Ok(groups) => groups_json(alloc, &asked, groups),
+        Err(fault) => Err(refusal_of(fault)),
+    }
+}
+
+/// What a call asks for, or the first place that is wrong.
+fn asked_groups<'c>(
+    alloc: Global,
+    schema: &Schema,
+    call: &Call<'c>,
+) -> Result<AskedGroups<'c>, Refusal>
+    requires { HasModel schema.now call.now.model }
+    ensures asked { IfSome (model_at schema.now call.entry.now.model) (λ info. IsResultOf asked_view result (groups_of schema.now (called_by call.entry.now info))) }
+    ensures user { IfOk result (λ asked. asked.sought.user ≡ call.entry.now.caller) }
+    ensures model { IfOk result (λ asked. asked.sought.model ≡ call.entry.now.model) }
+    ensures over { IfOk result (IsAskedOver schema.now) }
+{
+    let expected = groups_parameters(schema, call.model, call.args, call.kw);
+    let given = arguments_of(alloc, &expected, call.args, call.kw)?;
+    let arguments = GroupsArguments {
+        domain: given[0],
+        fields: given[1],
+        groupby: given[2],
+        offset: given[3],
+        limit: given[4],
+        order: given[5],
+        lazy: given[6],
+    };
+    match groups_by(alloc, schema, call, arguments) {
+        Ok(asked) => Ok(asked),
+        Err(NoMemory) => Err(Refusal::NoMemory),
+    }
+}
+
+/// The answer that has the objects of groups.
+fn groups_json(alloc: Global, asked: &AskedGroups<'_>, groups: Groups) -> Result<Json, Refusal>
+    requires { AreSome groups }
+    ensures told { IfOk result (λ json. (held : FieldNo → RecId → Value) → (ids : List RecId) → AreGathered held (asked_view asked.now) ids groups
+        → TellsGroups held (asked_view asked.now) ids (view json)) }
+    ensures causes { IfErr result (λ why. why ≡ Refusal.NoMemory) }
+    ensures plain { IfOk result (λ json. has_float (view json) ≡ false) }
+{
+    match group_objects(alloc, asked, groups) {
+        Ok(objects) => Ok(Json::Array(objects)),
+        Err(NoMemory) => Err(Refusal::NoMemory),
+    }
+}
