@@ -98,18 +98,21 @@ def modules(n):
 
 
 def registry(n):
-    """So many models in a ring, each of whose rows has an owner in the one before; three of the 256 fields are automatic. The names of a model's fields stand in no order."""
+    """So many models in a ring, the users among them, each of whose rows has an owner in the one before; five of the 256 fields are automatic. The names of a model's fields stand in no order."""
+    def model(k):
+        return "m.%d" % (k % n) if k % n else "res.users"
+
     def name(i):
-        return "f%03d" % (i * 89 % 249)
+        return "f%03d" % (i * 89 % 247)
 
     def entry(k):
-        parts = ["name=m.%d order=name,qty\\sdesc check=some:qty\\s>=\\s0" % k, "qty integer default=int:1", "name char required=yes string=Name",
-                 "owner many2one relation=m.%d ondelete=cascade" % ((k - 1) % n), "rows one2many relation=m.%d inverse=owner" % ((k + 1) % n)]
-        for i in range(249):
+        parts = ["name=%s order=name,qty\\sdesc check=some:qty\\s>=\\s0" % model(k), "qty integer default=int:1", "name char required=yes string=Name",
+                 "owner many2one relation=%s ondelete=cascade" % model(k - 1), "rows one2many relation=%s inverse=owner" % model(k + 1)]
+        for i in range(247):
             of = name(i - 1) if i else ""
             parts.append(name(i) + (" integer store=yes compute=%s\\s*\\sowner.qty depends=%s:owner.qty" % (of, of) if i % 8 == 2 else
                                     " integer store=yes compute=%s\\s+\\ssum(rows,\\sqty) depends=%s:rows.qty" % (of, of) if i % 8 == 3 else
-                                    " many2one relation=m.%d" % ((k * 7 + i) % n) if i % 8 == 4 else " integer"))
+                                    " many2one relation=" + model(k * 7 + i) if i % 8 == 4 else " integer"))
         return " | ".join(parts)
 
     return "schema " + " || ".join(map(entry, range(n)))

@@ -10,6 +10,7 @@ import sys
 import time
 
 UPSERT = "INSERT INTO kept(model, id, body) VALUES(?1, ?2, ?3) ON CONFLICT(model, id) DO UPDATE SET body = excluded.body"
+LINK = "INSERT OR IGNORE INTO link(model, field, target, id) VALUES(?1, ?2, ?3, ?4)"
 NEXT = "INSERT INTO counter(model, next) VALUES(?1, ?2) ON CONFLICT(model) DO UPDATE SET next = excluded.next"
 
 
@@ -27,10 +28,13 @@ def upserts(path, count):
     rows.close()
 
 
-def fill(path, count):
+def fill(path, count, told=lambda body, number: body):
+    """Makes so many rows of the one line of a store, with links as it has them."""
     with sqlite3.connect(path) as rows:
-        model, body = rows.execute("SELECT model, body FROM kept").fetchone()
-        rows.executemany(UPSERT, ((model, number, body) for number in range(1, count + 1)))
+        model, line, body = rows.execute("SELECT model, id, body FROM kept WHERE instr(body, CAST('subtotal' AS BLOB)) > 0").fetchone()
+        links = rows.execute("SELECT field, target FROM link WHERE model = ? AND id = ?", (model, line)).fetchall()
+        rows.executemany(UPSERT, ((model, number, told(body, number)) for number in range(1, count + 1)))
+        rows.executemany(LINK, ((model, field, target, number) for field, target in links for number in range(1, count + 1)))
         rows.execute(NEXT, (model, count + 1))
     rows.close()
 
@@ -50,11 +54,7 @@ def with_figures(body, number):
 
 
 def vary(path, count):
-    with sqlite3.connect(path) as rows:
-        model, body = rows.execute("SELECT model, body FROM kept").fetchone()
-        rows.executemany(UPSERT, ((model, number, with_figures(body, number)) for number in range(1, count + 1)))
-        rows.execute(NEXT, (model, count + 1))
-    rows.close()
+    fill(path, count, with_figures)
 
 
 # What SQLite is asked for each search of lines.py.

@@ -2,9 +2,9 @@
 # Compares the programs with an independent machine of the same rules:
 #
 #   tools/compare.sh requests [SEEDS [COUNT]]   random streams of requests to stockd, so many in
-#       each (by default 1-8 and 60), on the models of a module demo: the machine's own, without
-#       relations (`mixed`, `hostile`), and modules/demo.toml (`orm`); tools/compare_requests.py
-#       says which requests are taken. Prints how many streams differ, for each kind of stream.
+#       each (by default 1-8 and 60), on the models of the machine's own module demo, and what all
+#       rows hold behind them; tools/compare_requests.py says which kinds of streams there are and
+#       which requests are taken. Prints how many streams differ, for each kind.
 #   tools/compare.sh http [SEEDS [CONNECTIONS]]   random connections to `stockd serve`, so many of
 #       each seed (by default 1-20 and 30): heads with something wrong in them, messages behind one
 #       another, ends and changed bytes at any place, in pieces of any length, each with a request
@@ -47,7 +47,7 @@ requests)
     seeds=${1:-1-8} count=${2:-60}
     program=$(tools/build.sh proved stockd) || exit 1
     status=0
-    for profile in mixed hostile orm; do
+    for profile in mixed hostile orm groups; do
         echo "$profile: seeds $seeds, $count requests each"
         python3 tools/compare_requests.py "$oracle" "$program" "$seeds" "$count" "$profile" || status=1
     done

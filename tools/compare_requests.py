@@ -2,95 +2,86 @@
 
     compare_requests.py ORACLE PROGRAM SEEDS COUNT PROFILE
 
-SEEDS is A-B or one number, and each seed gives a stream. PROFILE says of which state of the
-machine it is. `mixed` and `hostile` are of the one that knows the one caller and serves the models
-without relations and conditions alone, so requests on other models are left out, and each create of
-a list; the rows that are kept aren't compared: that state
-knows no models of stock, by which the program's have other numbers. `orm` is of a
-later state, which serves all models, and much that the program doesn't yet: of it are taken `read`
-and `fields_get` of named fields, `search`, `search_count` and `search_read` that don't ask of moments
-(of which the machine has one alone), `create` of objects of plain values, `write` of such values but to rows
-of parents, and `unlink`, as calls of the one caller. Where libfaketime is installed both have
-one clock, so that moments and the bytes of kept rows are compared; else moments are left out. Prints what
-differs and how many streams do; the status is 1 where one does.
+SEEDS is A-B or one number, and each seed gives a stream, on the models of demo. PROFILE says how it is made and of
+which state of the machine it is. `mixed`, `hostile` and `orm` are of the one that knows callers by their rows and
+asks no rights; `groups` is of the one that also tells rows by groups, and asks rights: so its callers are all the
+first user, who needs none, and the users' secret keys aren't asked for. Left out is what the program doesn't serve yet: commands on lists, writes to fields of
+parents, creates and writes of managed models, and values for fields that calls don't give (the machine names another
+refusal). Where libfaketime is installed both have one clock, so that moments are compared; else moments are left
+out. Prints what differs and how many streams do; the status is 1 where one does.
 """
+import glob
 import json
-import os
 import subprocess
 import sys
 import tempfile
 
-RELATED = {"demo.client", "demo.note", "demo.order", "demo.place", "demo.ship", "res.groups", "res.users"}
-# Models with rows that the machine makes by itself.
-BEYOND = {"res.groups", "res.users"}
-# Fields that calls don't give (the machine names another refusal), or that name users.
-SERVERS = {"id", "create_date", "write_date", "subtotal", "total", "parent_path", "owner_id"}
-USERS = {"create_uid", "write_uid"}
-MOMENTS = {"create_date", "write_date"}
-# Calls that the program serves and the earlier state doesn't.
-LATER = ("write", "unlink", "fields_get", "search", "search_count", "search_read", "read_group")
+# The states of the machine.
+BY_ROWS, BY_GROUPS = "5", "8"
+MOMENTS = ("create_date", "write_date")
+# Models of parents, whose fields a write doesn't set yet, and managed ones.
+OF_PARENTS, MANAGED = ("demo.client",), ("res.groups",)
+# Fields that calls don't give.
+SERVERS = ("id", "create_date", "create_uid", "write_date", "write_uid", "subtotal", "total", "parent_path")
+# What the names of lists have in them.
+LISTS = ("_ids", "groups_id")
+LATER = ("read_group",)
 
 
-def parts(line):
-    """The elements of a request, with its whole and its parameters; none where there are none."""
+def elements_of(line):
+    """A request and the elements of its call; none where there are none."""
     try:
         whole = json.loads(line)
-        params = whole["params"]
-        return whole, params, params["args"], params["args"][3]
+        elements = whole["params"]["args"]
+        return whole, elements if isinstance(elements, list) and len(elements) > 4 else None
     except (ValueError, LookupError, TypeError, RecursionError):
-        return None
+        return None, None
 
 
-def unrelated(line):
-    """The request, where it isn't of a model with relations, nor a call that that state doesn't serve."""
-    found = parts(line)
-    unserved = found and any(method in found[2] for method in LATER)
-    several = found and "create" in found[2] and isinstance(argument(found[2], 0, "vals"), list)
-    return None if unserved or several or found and isinstance(found[3], str) and found[3] in RELATED else line
+def takes_groups(elements):
+    """Takes the groups of a user who is made out of a call, since they are given by a command; whether there were any."""
+    values = elements[5][0] if elements[4] == "create" and len(elements) > 5 and isinstance(elements[5], list) and elements[5] else None
+    return isinstance(values, dict) and values.pop("groups_id", None) is not None
 
 
-def argument(elements, place, name):
-    """What a call is given at a place or by a name."""
-    args, kw = elements[5] if len(elements) > 5 else None, elements[6] if len(elements) > 6 else {}
-    if isinstance(args, list) and len(args) > place:
-        return args[place]
-    return kw.get(name) if isinstance(kw, dict) else None
-
-
-def is_served(model, elements):
+def is_served(elements, methods, has_clock):
     """Whether the program serves such a call as the machine does."""
-    method, text = elements[4], json.dumps(elements[5:])
-    if model in BEYOND or any(name in text for name in USERS):
+    model, method, text = elements[3], elements[4], json.dumps(elements[5:])
+    if method in methods:
         return False
-    if method == "unlink":
-        return True
-    if method in ("search", "search_count"):
-        return not any(name in text for name in (*BEYOND, *MOMENTS))
-    if method == "search_read" and any(name in text for name in MOMENTS):
+    if method in ("create", "write") and (model in MANAGED or any(name in text for name in LISTS) or any(f'"{name}"' in text for name in SERVERS)):
         return False
-    if method == "fields_get":
-        return argument(elements, 0, "allfields") not in (None, False, [])
-    if "_ids" in text:
+    if method == "write" and model in OF_PARENTS:
         return False
-    if method in ("read", "search_read"):
-        return bool(argument(elements, 1, "fields")) and isinstance(argument(elements, 1, "fields"), list)
-    if method == "write" and model == "demo.client":
-        return False
-    return method in ("create", "write") and not any(f'"{name}"' in text for name in SERVERS)
+    return has_clock or not any(name in text for name in MOMENTS)
 
 
-def of_one_caller(line):
-    """The request as one of the caller that the program knows, where it is served."""
-    found = parts(line)
-    try:
-        whole, params, elements, model = found
-        known = params["method"] == "execute_kw" and elements[0] == "stock" and elements[1] in (1, 2) and elements[2] in ("system", "admin")
-        if not known or elements[1] is True or not is_served(model, elements):
+def asks_keys(elements):
+    """Whether a call asks for the keys of users, which the machine keeps secret once it asks rights."""
+    return elements[3] == "res.users" or "key" in json.dumps(elements[5:])
+
+
+def taken_by(profile, has_clock):
+    """Which lines of a stream are sent, and as what."""
+    def by_rows(line):
+        whole, elements = elements_of(line)
+        if elements is None:
+            return line
+        is_changed = takes_groups(elements)
+        if not is_served(elements, LATER, has_clock):
             return None
-    except (LookupError, TypeError):
-        return None
-    elements[1:3] = [2, "admin"]
-    return json.dumps(whole).encode() + b"\n"
+        return json.dumps(whole).encode() + b"\n" if is_changed else line
+
+    def by_groups(line):
+        whole, elements = elements_of(line)
+        if elements is None:
+            return None
+        takes_groups(elements)
+        elements[1:3] = [1, "system"]
+        is_taken = is_served(elements, (), has_clock) and not asks_keys(elements)
+        return json.dumps(whole).encode() + b"\n" if is_taken else None
+
+    return by_groups if profile == "groups" else by_rows
 
 
 def differs(oracle, program, seed, stage, words, take, more):
@@ -101,7 +92,7 @@ def differs(oracle, program, seed, stage, words, take, more):
     with tempfile.NamedTemporaryFile() as stream:
         stream.writelines(kept)
         stream.flush()
-        comparing = [sys.executable, f"{oracle}/compare.py", "--stage", stage, "--stream", stream.name, *more, "--", program]
+        comparing = [sys.executable, f"{oracle}/compare.py", "--stage", stage, "--load", "demo", *more, "--stream", stream.name, "--", program]
         ran = subprocess.run(comparing, stdout=subprocess.PIPE, stderr=subprocess.DEVNULL)
     if ran.returncode:
         print(f"seed {seed} of stage {stage}", flush=True)
@@ -109,25 +100,13 @@ def differs(oracle, program, seed, stage, words, take, more):
     return ran.returncode != 0, len(kept)
 
 
-def without_access(text):
-    """A module's text without its access lines and rules, of which that state knows nothing."""
-    tables = ("\n" + text).split("\n[[")
-    return "\n[[".join(table for table in tables if not table.startswith(("access]]", "rule]]"))).lstrip("\n") + "\n"
-
-
 def main():
     oracle, program, seeds, count, profile = sys.argv[1:]
     first, _, last = seeds.partition("-")
-    folder = tempfile.TemporaryDirectory()
-    if profile == "orm":
-        # Of seven requests about two are taken.
-        stage, count, take = "5", str(7 * int(count) // 2), of_one_caller
-        with open(f"{folder.name}/demo.toml", "w") as text:
-            text.write(without_access(open("modules/demo.toml").read()))
-        more = ["--dir", folder.name, "--load", "demo"]
-    else:
-        stage, take, more = "3", unrelated, []
-    words = ["--count", count, "--profile", profile]
+    has_clock = bool(glob.glob("/usr/lib/*/faketime/libfaketime.so.1"))
+    stage, made_as = (BY_GROUPS, "orm") if profile == "groups" else (BY_ROWS, profile)
+    words = ["--count", count, "--profile", made_as]
+    take, more = taken_by(profile, has_clock), [] if profile == "groups" else ["--whole"]
     results = [differs(oracle, program, seed, stage, words, take, more) for seed in range(int(first), int(last or first) + 1)]
     wrong = sum(it for it, _ in results)
     print(f"{wrong} of {len(results)} streams differ, of {sum(it for _, it in results)} requests")

@@ -36,9 +36,9 @@ TABLES = [
     "CREATE TABLE counter(model INTEGER PRIMARY KEY, next INTEGER) STRICT",
     "CREATE INDEX link_row ON link(model, id)",
 ]
-# The body of a line named Al with 3 pieces at 25 and no order, made and changed at one moment.
-LINE = ("010007" "0b6372656174655f6461746505{0}" "046e616d650300000002416c" "086f726465725f696400" "057072696365020000000000000019" "03717479020000000000000003"
-        "08737562746f74616c02000000000000004b" "0a77726974655f6461746505{0}")
+# The body of a line named Al with 3 pieces at 25 and no order, made and changed at one moment by the user 2.
+LINE = ("010009" "0b6372656174655f6461746505{0}" "0a6372656174655f756964060000000000000002" "046e616d650300000002416c" "086f726465725f696400" "057072696365020000000000000019" "03717479020000000000000003"
+        "08737562746f74616c02000000000000004b" "0a77726974655f6461746505{0}" "0977726974655f756964060000000000000002")
 LINES = "instr(body, CAST('subtotal' AS BLOB)) > 0"
 SHIPS = "instr(body, CAST('line_id' AS BLOB)) > 0"
 FEW_KILLS = 10
@@ -147,6 +147,7 @@ def altered_rows(cases, path):
     ]:
         alter(path, f"UPDATE kept SET body = ? WHERE {LINES}", text)
         cases.differ(f"an audit of {name}", cases.run("audit", path), wanted)
+    alter(path, f"DELETE FROM link WHERE model = (SELECT model FROM kept WHERE {LINES})")
     alter(path, f"DELETE FROM kept WHERE {LINES}")
     cases.differ("an audit of a reference that dangles", cases.run("audit", path), ("broken MissingRef demo.ship 1 line_id\naudit differs\n", 1))
     cases.differ("a call over it", cases.run("call", path), ("store demo.ship 1 line_id\n", 8))
@@ -168,7 +169,7 @@ def look_inside(cases, path):
     cases.differ("the body of a line", bodies[:1], [LINE.format(moments[0])])
     model, ship = (ask(f"SELECT model FROM kept WHERE {of}")[0] for of in (LINES, SHIPS))
     cases.differ("next ids", ask(f"SELECT model, next FROM counter WHERE model IN ({model}, {ship}) ORDER BY model = {ship}"), [f"{model}|2", f"{ship}|2"])
-    cases.differ("links", ask(f"SELECT model, target, id FROM link WHERE model = {ship}"), [f"{ship}|1|1"])
+    cases.differ("links", ask(f"SELECT target, id FROM link WHERE model = {ship} ORDER BY field"), ["2|1", "1|1", "2|1"])
 
 
 def two_processes(cases):
@@ -249,6 +250,7 @@ def many_rows(cases):
     cases.differ("the first of many rows", cases.run("call", path, [create(1, name="Al", qty=3, price=25)]), (created(1, 1), 0))
     alter(path, "WITH RECURSIVE more(id) AS (SELECT 2 UNION ALL SELECT id + 1 FROM more WHERE id < ?) "
           f"INSERT INTO kept SELECT model, more.id, body FROM kept, more WHERE {LINES}", MANY)
+    alter(path, f"INSERT INTO link SELECT link.model, field, target, kept.id FROM link, kept WHERE link.model = kept.model AND link.id = 1 AND kept.id > 1 AND {LINES}")
     alter(path, f"UPDATE counter SET next = ? WHERE model = (SELECT model FROM kept WHERE {LINES} LIMIT 1)", MANY + 1)
     cases.differ("one row more", cases.run("call", path, [create(1, name="Bo", qty=2, price=7)]), (created(1, MANY + 1), 0))
     rows = [{"id": 1, "name": "Al", "subtotal": 75}, {"id": MANY, "name": "Al", "subtotal": 75}, {"id": MANY + 1, "name": "Bo", "subtotal": 14}]

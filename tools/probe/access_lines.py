@@ -31,7 +31,7 @@ def models(rng, names):
             words.append("%s %s%s%s" % (field, kind, keys, " secret=yes" if secret else ""))
         texts.append(" | ".join(words))
         defs.append(schema.ModelDef(name=name, fields=fields))
-    return " || ".join(texts), schema.build(defs, 2)
+    return " || ".join(texts), schema.build([*defs, schema.ModelDef(name="res.users")], 4)
 
 
 def criterion(rng):

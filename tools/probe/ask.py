@@ -52,7 +52,7 @@ def declared():
               "square": field(type="integer", compute="qty * qty", depends=["qty"], store=True),
               "owner": field(type="many2one", **row), "tags": field(type="many2many", **row),
               "lines": field(type="one2many", inverse="owner", **row)}
-    return schema.build([schema.ModelDef(name=MODEL, fields=fields)], 2).model(MODEL)
+    return schema.build([schema.ModelDef(name=MODEL, fields=fields), schema.ModelDef(name="res.users")], 4).model(MODEL)
 
 
 def held(rng, field):

@@ -4,7 +4,7 @@ import collections
 
 from random_edits import line, tame, wild
 from random_models import registry, relation
-from random_definitions import STAGE
+from random_definitions import STAGE, with_users
 import schema_lines
 from stockd_oracle import audit, codec, jsonio, schema
 from stockd_oracle.machine import Kept, KeptRow
@@ -30,7 +30,7 @@ def stocked(rng):
     entries, built = registry(rng)
     if rng.random() < 0.3 and built.model("stock.quant") is None and built.model("product.product") is None:
         entries = [*entries, *quants()]
-        built = schema.build(entries, STAGE)
+        built = schema.build(with_users(entries), STAGE)
     return entries, built
 
 

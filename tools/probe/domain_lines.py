@@ -31,8 +31,9 @@ def models():
     place = {"name": field(type="char"), "size": field(type="integer"), "twice": field(type="integer", compute="size + size", depends=["size"]),
              "up": field(type="many2one", **to_place), "near": field(type="many2many", **to_place),
              "row": field(type="many2one", **to_row), "rows": field(type="many2many", **to_row)}
-    made = schema.build([schema.ModelDef(name="probe.row", fields=row), schema.ModelDef(name="probe.place", fields=place, parent="up")], 2)
-    return [made.model("probe.row"), made.model("probe.place")]
+    made = schema.build([schema.ModelDef(name="probe.row", fields=row), schema.ModelDef(name="probe.place", fields=place, parent="up"),
+                         schema.ModelDef(name="res.users")], 4)
+    return [made.model("probe.row"), made.model("probe.place"), made.model("res.users")]
 
 
 MODELS = models()

@@ -8,7 +8,7 @@ import fuzz_modules  # noqa: E402
 from schema_lines import Judge, part, told_model  # noqa: E402
 from stockd_oracle import load, schema, tomlio  # noqa: E402
 
-STAGE = 3
+STAGE = 4
 FOLDER = "m"
 # The modules of the repository, which are asked too.
 OWN = {name: os.path.join(os.path.dirname(__file__), "..", "..", "modules", name + ".toml") for name in ("demo",)}

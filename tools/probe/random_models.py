@@ -1,5 +1,5 @@
 """Random definitions without a fault whose tables may break in every way: a tree, rows with unique sets, checks and chains of formulas, tags that mirror them, heirs, lines."""
-from random_definitions import STAGE, definitions
+from random_definitions import STAGE, definitions, with_users
 from stockd_oracle import schema
 from stockd_oracle.schema import FieldDef, ModelDef
 
@@ -171,7 +171,7 @@ def registry(rng):
     while True:
         found = family(rng) if rng.random() < 0.8 else small(rng)
         try:
-            made = schema.build(found, STAGE)
+            made = schema.build(with_users(found), STAGE)
         except schema.SchemaFault:
             continue
         if made.models:

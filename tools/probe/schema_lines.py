@@ -1,5 +1,5 @@
 """What ask.py asks about definitions: the registry that they make, or their first fault."""
-from random_definitions import STAGE, definitions
+from random_definitions import STAGE, definitions, with_users
 from expression_lines import parsed
 from random_texts import escaped
 from stockd_oracle import expr, jsonio, schema
@@ -68,8 +68,11 @@ def entry_words(d):
     return " | ".join([" ".join(keys), *(field_words(*it) for it in d.fields.items())])
 
 
+NO_USERS = "no users"
+
+
 def line(entries):
-    """Definitions as the probe reads them; a space tells an entry without keys from none."""
+    """Definitions as the probe reads them, which adds the model of the users; a space tells an entry without keys from none."""
     return " || ".join(map(entry_words, entries)) or " " * len(entries)
 
 
@@ -204,9 +207,11 @@ def answer(entries):
 
 
 def asked(rng, _model):
-    """Definitions, and what they make."""
+    """Definitions, and what they make; now and then without the model of the users."""
     entries = definitions(rng)
-    return "schema " + line(entries), answer(entries)
+    if rng.random() < 0.03:
+        return "schema " + " || ".join([*map(entry_words, entries), NO_USERS]), answer(entries)
+    return "schema " + line(entries), answer(with_users(entries))
 
 
 MAKERS = {"schema": asked}

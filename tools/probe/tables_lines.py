@@ -6,7 +6,7 @@ import sys
 
 from random_edits import Judge, Maker, line, misfit, tame, told_edit, told_value, wild
 from random_models import family, registry, wide
-from random_definitions import STAGE
+from random_definitions import STAGE, with_users
 import schema_lines
 from stockd_oracle import jsonio, schema
 from stockd_oracle.tables import Fault
@@ -159,7 +159,7 @@ def asked(rng, _model):
 def flood(rng):
     """Edits that give a row as many targets as it may have, or one more."""
     entries = wide()
-    maker = Maker(rng, schema.build(entries, STAGE))
+    maker = Maker(rng, schema.build(with_users(entries), STAGE))
     maker.flood()
     return over(entries, [case(rng, maker)])
 
@@ -169,7 +169,7 @@ def towers(rng):
     while True:
         entries = family(rng, rng.choice((1, 4, 8, 9)))
         try:
-            built = schema.build(entries, STAGE)
+            built = schema.build(with_users(entries), STAGE)
         except schema.SchemaFault:
             continue
         return over(entries, [case(rng, towering(rng, built)) for _ in range(CASES_OF_ONE)])

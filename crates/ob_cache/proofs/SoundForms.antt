@@ -68,7 +68,7 @@ pub record IdField (models : List ModelInfo) (model : ModelNo) (info : ModelInfo
 
 pub id-field : (models : List ModelInfo) → IsRegistry models → (model : ModelNo) (info : ModelInfo) → model_at models model ≡ Some info → IdField models model info
 id-field models registry model info is =
-    let (k, field, within, found, own) = (registry.each model info is).automatic 1 (plain_field (codes "id") type.Integer) (omega arith) in
+    let (k, field, within, found, own) = (registry.each model info is).automatic 2 (plain_field (codes "id") type.Integer) (omega arith) in
     let named : slice_get info.fields k ≡ Some field = slice_get-get_or info.fields k field within ∙ ap Some found in
     let at = field-of models model info (suc k) field is named in
     record {

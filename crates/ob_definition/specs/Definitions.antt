@@ -8,7 +8,7 @@ use Rattle.ob_definition.specs.declared.field_type.FieldType.{FieldType}
 
 -- the fields that each model has beside the declared ones
 abbrev pub automatic_names : List (List ℕ)
-automatic_names = codes "create_date" ∷ codes "id" ∷ codes "write_date" ∷ []
+automatic_names = codes "create_date" ∷ codes "create_uid" ∷ codes "id" ∷ codes "write_date" ∷ codes "write_uid" ∷ []
 
 -- whether a name is one of these
 abbrev pub is_one_of : List (List ℕ) → List ℕ → Bool

@@ -64,9 +64,19 @@ delegated_member n i m = record { entry = n; def = m.def; role = delegated i }
 abbrev pub moment_def : List ℕ → FieldDef
 moment_def name = record (plain_field name type.Datetime) { managed = Some true }
 
+-- the model of the users
+abbrev pub users_name : List ℕ
+users_name = codes "res.users"
+
+-- the user who made a row, or last changed it
+abbrev pub user_def : List ℕ → FieldDef
+user_def name = record (plain_field name type.Many2one) { relation = Some users_name; managed = Some true }
+
 -- the fields that each model has
 abbrev pub automatic_defs : List FieldDef
-automatic_defs = moment_def (codes "create_date") ∷ plain_field (codes "id") type.Integer ∷ moment_def (codes "write_date") ∷ []
+automatic_defs =
+    moment_def (codes "create_date") ∷ user_def (codes "create_uid") ∷ plain_field (codes "id") type.Integer
+    ∷ moment_def (codes "write_date") ∷ user_def (codes "write_uid") ∷ []
 
 abbrev pub path_name : List ℕ
 path_name = codes "parent_path"

@@ -11,7 +11,7 @@ ghost use Rattle.ob_definition.specs.Definitions.{is_automatic, is_one_of};
 ghost use Rattle.ob_definition.specs.Findings.{Adds};
 ghost use Rattle.ob_definition.specs.Gathered.{is_declared};
 ghost use Rattle.ob_definition.specs.Making.{AreHidden, AreLinks, AreMadeFaults, IsLinkFault, IsMade, IsPathFault, TakesPath, conditions_of, path_made, wrong_parent};
-ghost use Rattle.ob_definition.specs.Members.{automatic_defs, check_member, condition_def, given_members, link_def, links_of, moment_def, names_of};
+ghost use Rattle.ob_definition.specs.Members.{automatic_defs, check_member, condition_def, given_members, link_def, links_of, moment_def, names_of, user_def};
 
 use crate::by_name::CheckEntry;
 use crate::definition::{FieldDef, Inherits};
@@ -23,6 +23,9 @@ use ob_base::{NoMemory, Sequence, Word};
 use std::alloc::Global;
 use std::collections::BTreeSet;
 
+/// The model of the users.
+const USERS_NAME: &str = "res.users";
+
 /// The stored path of a row in its tree.
 pub(crate) const PATH_NAME: &str = "parent_path";
 
@@ -30,7 +33,10 @@ pub(crate) const PATH_NAME: &str = "parent_path";
 pub fn is_automatic(name: &str) -> bool
     ensures { result ≡ is_automatic name.now }
 {
-    matches!(name, "create_date" | "id" | "write_date")
+    matches!(
+        name,
+        "create_date" | "create_uid" | "id" | "write_date" | "write_uid"
+    )
 }
 
 /// The fields that each model has beside the declared ones.
@@ -39,8 +45,10 @@ pub fn automatic_fields(alloc: Global) -> Result<Vec<FieldDef>, NoMemory>
 {
     let mut fields = Vec::new(alloc);
     fields.push(moment_field(alloc, "create_date")?)?;
+    fields.push(user_field(alloc, "create_uid")?)?;
     fields.push(FieldDef::plain(alloc, "id", FieldType::Integer)?)?;
     fields.push(moment_field(alloc, "write_date")?)?;
+    fields.push(user_field(alloc, "write_uid")?)?;
     Ok(fields)
 }
 
@@ -51,6 +59,17 @@ fn moment_field(alloc: Global, name: &str) -> Result<FieldDef, NoMemory>
     Ok(FieldDef {
         managed: Some(true),
         ..FieldDef::plain(alloc, name, FieldType::Datetime)?
+    })
+}
+
+/// The user who made a row, or last changed it.
+fn user_field(alloc: Global, name: &str) -> Result<FieldDef, NoMemory>
+    ensures { IfOk result (λ field. field ≡ user_def name.now) }
+{
+    Ok(FieldDef {
+        relation: Some(Word::from_text(alloc, USERS_NAME)?),
+        managed: Some(true),
+        ..FieldDef::plain(alloc, name, FieldType::Many2one)?
     })
 }
 

@@ -32,9 +32,11 @@ use Rattle.ob_schema.specs.Broken.{Sound}
 use Rattle.ob_schema.specs.Models.{HasModel, model_at}
 use Rattle.ob_schema.specs.Tables.{Tables}
 use Rattle.ob_schema.specs.declared.info.ModelInfo.{ModelInfo}
+use Rattle.ob_orm.specs.Author.{author_by}
 use Rattle.ob_orm.specs.Create.{CreateCause, Creates, create_expects, created_rows, ids_told, rows_from, rows_in, values_of}
 use Rattle.ob_orm.specs.NewRows.{MadeRows, made_rows}
 use Rattle.ob_orm.specs.CreateSteps.{BreaksField, IsBrokenBy}
+use Rattle.ob_orm.specs.declared.author.Author.{Author}
 use Rattle.ob_orm.specs.declared.creating.rows.Rows.{Rows}
 use Rattle.ob_orm.proofs.CreateRows.{Asks}
 
@@ -61,6 +63,10 @@ rose_from before mid now low (inr end) = inr end
 -- the moment of the call as it is passed on
 pub moment_passed : (now : ℤ) → IsMoment now → cast_signed w64 (cast_unsigned w64 now) ≡ now
 moment_passed now moment = let fits : FitsSigned w64 now = (let low = moment.low in let high = moment.high in grind (arith, ints)) in to_z-of_z w64 now fits
+
+-- so is the author
+pub author_passed : (by : Author) → IsMoment by.now → record by { now = cast_signed w64 (cast_unsigned w64 by.now) } ≡ by
+author_passed by moment = ap (λ (n : ℤ). record by { now = n }) (moment_passed by.now moment)
 
 -- ---- the rows that the arguments give
 
@@ -135,7 +141,7 @@ rows_answer at call _ there wrong = absurd (nowhere (model_at (models_at at) cal
 
 -- the rows that a call makes
 abbrev pub all_made : List ModelInfo → Call → Tables → Rows → MadeRows
-all_made models call tables asked = made_rows models call.now tables call.model (values_of asked)
+all_made models call tables asked = made_rows models (author_by call) tables call.model (values_of asked)
 
 -- tables that were settled are sound
 pub sound_in : (models : List ModelInfo) (old tables : Tables) (kept : Option Store) → IsSomeAnd kept (StandsOver (settled_over models old tables)) → Sound models tables

@@ -1,5 +1,5 @@
 -- What becomes of the rows of a create over an engine, from what its steps say.
-use Rattle.std.proofs.Common.{◌≡◌, [], ◌∷◌, ℕ, ℤ, List, map, Option, Result, Ok, Err, false, refl, sym, ap, subst, ◌∙◌, arith}
+use Rattle.std.proofs.Common.{◌≡◌, [], ◌∷◌, ℕ, List, map, Option, Result, Ok, Err, false, refl, sym, ap, subst, ◌∙◌, arith}
 use Rattle.std.specs.Prelude.{IfOk}
 use Rattle.serde_json.specs.Data.{Data}
 use Rattle.serde_json.specs.View.{items_of, view}
@@ -13,10 +13,12 @@ use Rattle.ob_cache.specs.Standing.{Holding, IsAtRest, RestsAt, Stands, Stays, m
 use Rattle.ob_call.specs.declared.call.Call.{Call}
 use Rattle.ob_codec.specs.CommandForms.{list_json, number_json}
 use Rattle.ob_io.specs.Store.{Store}
+use Rattle.ob_orm.specs.Author.{author_by}
 use Rattle.ob_orm.specs.Create.{ids_told, values_of}
 use Rattle.ob_orm.specs.CreateSteps.{BreaksField, IsBrokenBy}
 use Rattle.ob_orm.specs.NewRows.{made_rows}
 use Rattle.ob_orm.specs.NewRowSteps.{HoldsNextIds, so_far}
+use Rattle.ob_orm.specs.declared.author.Author.{Author}
 use Rattle.ob_orm.specs.declared.creating.rows.Rows.{Rows}
 use Rattle.ob_orm.specs.declared.making.next_ids.Making.{Making}
 use Rattle.ob_orm.proofs.CreateAnswer.{all_made}
@@ -26,11 +28,11 @@ use Rattle.ob_schema.specs.declared.info.ModelInfo.{ModelInfo}
 use Rattle.ob_tables.specs.After.{after}
 
 -- what is said of rows that are made over the tables so far
-abbrev pub IsTold : List ModelInfo → ℤ → Call → Rows → (first last : Making) → Data → Tables → Type 0
-IsTold models moment call asked first last json tables =
+abbrev pub IsTold : List ModelInfo → Author → Call → Rows → (first last : Making) → Data → Tables → Type 0
+IsTold models by call asked first last json tables =
     HoldsNextIds models tables first
-    → (so_far models tables last ≡ (made_rows models moment (so_far models tables first) call.model (values_of asked)).tables)
-    × (json ≡ ids_told asked (made_rows models moment (so_far models tables first) call.model (values_of asked)).ids)
+    → (so_far models tables last ≡ (made_rows models by (so_far models tables first) call.model (values_of asked)).tables)
+    × (json ≡ ids_told asked (made_rows models by (so_far models tables first) call.model (values_of asked)).ids)
 
 module _ (before mid : Option Store) (old held : Holding) (stays : Stays before old mid held) (call : Call) (asked : Rows) where
   -- an engine that was asked rests still
@@ -45,11 +47,11 @@ module _ (before mid : Option Store) (old held : Holding) (stays : Stays before 
   abbrev pub AreMade : Making → Data → Type 0
   AreMade making json = (tables : Tables) → RestsAt before old tables → (so_far old.models tables making ≡ (all_made old.models call tables asked).tables) × (json ≡ ids_told asked (all_made old.models call tables asked).ids)
 
-  pub told-made : (models : List ModelInfo) → models ≡ old.models → (moment : ℤ) → moment ≡ call.now → (first last : Making) (json : Data) → first.edits.items ≡ []
-      → ((tables : Tables) → RestsAt before old tables → HoldsNextIds old.models tables first) → ((tables : Tables) → IsTold models moment call asked first last json tables) → AreMade last json
-  told-made models same moment passed first last json none holds told tables rests =
-      let own : IsTold old.models call.now call asked first last json tables =
-      subst (λ (n : ℤ). IsTold old.models n call asked first last json tables) passed (subst (λ (ms : List ModelInfo). IsTold ms moment call asked first last json tables) same (told tables)) in
+  pub told-made : (models : List ModelInfo) → models ≡ old.models → (by : Author) → by ≡ author_by call → (first last : Making) (json : Data) → first.edits.items ≡ []
+      → ((tables : Tables) → RestsAt before old tables → HoldsNextIds old.models tables first) → ((tables : Tables) → IsTold models by call asked first last json tables) → AreMade last json
+  told-made models same by passed first last json none holds told tables rests =
+      let own : IsTold old.models (author_by call) call asked first last json tables =
+      subst (λ (a : Author). IsTold old.models a call asked first last json tables) passed (subst (λ (ms : List ModelInfo). IsTold ms by call asked first last json tables) same (told tables)) in
       subst (λ (t : Tables). (so_far old.models tables last ≡ (all_made old.models call t asked).tables) × (json ≡ ids_told asked (all_made old.models call t asked).ids)) (ap (after old.models tables) none) (own (holds tables rests))
 
   -- what is refused of the rows, and where the engine stands

@@ -1,5 +1,5 @@
 -- The values of a row from those that are given, field by field.
-use Rattle.std.proofs.Common.{◌≡◌, ◌≢◌, ℕ, ℤ, suc, ◌+◌, ◌<◌, ◌≤◌, Bool, true, false, List, [], ◌∷◌, ◌++◌, length, drop, filter, Option, None, Some, append_assoc, append-nil, refl, sym, ap, subst, ◌∙◌, arith}
+use Rattle.std.proofs.Common.{◌≡◌, ◌≢◌, ℕ, suc, ◌+◌, ◌<◌, ◌≤◌, Bool, true, false, List, [], ◌∷◌, ◌++◌, length, filter, Option, None, Some, append_assoc, append-nil, refl, sym, ap, subst, ◌∙◌, arith}
 use Rattle.std.specs.Prelude.{All, IfSome, IsSomeAnd, slice_get}
 use Rattle.std.specs.List.{AllPairs, enumerate_from, flat_map}
 use Rattle.std.specs.Option.{option_map_or}
@@ -17,13 +17,14 @@ use Rattle.ob_schema.specs.declared.info.ModelInfo.{ModelInfo}
 use Rattle.ob_tables.specs.Fitting.{AreFitIn, IsFitIn}
 use Rattle.ob_orm.specs.NewRows.{Values, filled, filled_value}
 use Rattle.ob_orm.specs.RowValues.{valued}
+use Rattle.ob_orm.specs.declared.author.Author.{Author}
 use Rattle.ob_orm.proofs.CreateFields.{step_in, tell, told}
-use Rattle.ob_orm.proofs.RowValues.{FitsIn, left, left_other, left_plain}
+use Rattle.ob_orm.proofs.RowValues.{FitsIn, left, left_other, left_plain, typed_for}
 
-module _ (models : List ModelInfo) (now : ℤ) (made : Bool) (given : Values) where
+module _ (models : List ModelInfo) (by : Author) (made : Bool) (given : Values) where
   -- what a field gets, with its number
   abbrev pub gets : Column → Values
-  gets column = valued (record { 0 = column.0 }) (filled_value models now made given column)
+  gets column = valued (record { 0 = column.0 }) (filled_value models by made given column)
 
   -- with what is left to fill the values are those of the row
   pub record FilledSoFar (info : ModelInfo) (i : ℕ) (values : Values) : Type 0 where
@@ -56,7 +57,7 @@ module _ (models : List ModelInfo) (now : ℤ) (made : Bool) (given : Values) wh
     }
 
     -- what a plain field gets comes before the rest
-    step : (i : ℕ) (f : FieldInfo) (values : Values) (got : Option Value) → slice_get info.fields i ≡ Some f → is_plain_kept f ≡ true → got ≡ filled_value models now made given (i + 1, f) → FilledSoFar info i values
+    step : (i : ℕ) (f : FieldInfo) (values : Values) (got : Option Value) → slice_get info.fields i ≡ Some f → is_plain_kept f ≡ true → got ≡ filled_value models by made given (i + 1, f) → FilledSoFar info i values
         → flat_map gets (plain_columns info) ≡ values ++ (valued (record { 0 = i + 1 }) got ++ flat_map gets (left info (i + 1)))
     step i f values got at plain is far =
         let rest = flat_map gets (left info (i + 1)) in
@@ -66,7 +67,7 @@ module _ (models : List ModelInfo) (now : ℤ) (made : Bool) (given : Values) wh
 
     -- one more field, which gets a value or none
     pub filled_next : (i : ℕ) (f : FieldInfo) (values : Values) (got : Option Value) → slice_get info.fields i ≡ Some f → numbered (fields_of info) (i + 1) ≡ Some f → is_plain_kept f ≡ true
-        → got ≡ filled_value models now made given (i + 1, f) → IfSome got (IsGivable f) → FilledSoFar info i values → FilledSoFar info (i + 1) (values ++ valued (record { 0 = i + 1 }) got)
+        → got ≡ filled_value models by made given (i + 1, f) → IfSome got (IsGivable f) → FilledSoFar info i values → FilledSoFar info (i + 1) (values ++ valued (record { 0 = i + 1 }) got)
     filled_next i f values None at own plain is typed far =
         subst (FilledSoFar info (i + 1)) (sym (append-nil values)) (record {
           same = step i f values None at plain is far;
@@ -112,19 +113,15 @@ module _ (models : List ModelInfo) (now : ℤ) (made : Bool) (given : Values) wh
           tell (model_at models model) info (λ own. FilledSoFar own (i + 1) values) is (filled_passed info i f values here.0 plain (told (model_at models model) info (λ own. FilledSoFar own i values) is far))
 
       pub so_far-more : (values more : Values) (got : Option Value) → is_plain_kept f ≡ true
-          → IfSome (field_at models model (record { 0 = i + 1 })) (λ field. got ≡ filled_value models now made given (i + 1, field)) → IfSome got (HasFieldType (field_at models model (record { 0 = i + 1 })))
+          → IfSome (field_at models model (record { 0 = i + 1 })) (λ field. got ≡ filled_value models by made given (i + 1, field)) → IfSome got (HasFieldType (field_at models model (record { 0 = i + 1 })))
           → more ≡ values ++ valued (record { 0 = i + 1 }) got → SoFar i values → SoFar (i + 1) more
       so_far-more values more got plain means typed pushed far =
           let o = field_at models model (record { 0 = i + 1 }) in
           tell (model_at models model) info (λ own. FilledSoFar own (i + 1) more) is
-          (subst (FilledSoFar info (i + 1)) (sym pushed) (filled_next info i f values got here.0 here.1 plain (told o f (λ field. got ≡ filled_value models now made given (i + 1, field)) at means) (typed_for got typed)
+          (subst (FilledSoFar info (i + 1)) (sym pushed) (filled_next info i f values got here.0 here.1 plain (told o f (λ field. got ≡ filled_value models by made given (i + 1, field)) at means) (typed_for o f got at typed)
           (told (model_at models model) info (λ own. FilledSoFar own i values) is far)))
-        where
-          typed_for : (got : Option Value) → IfSome got (HasFieldType (field_at models model (record { 0 = i + 1 }))) → IfSome got (IsGivable f)
-          typed_for None h = tt
-          typed_for (Some v) h = told (field_at models model (record { 0 = i + 1 })) f (λ field. IsGivable field v) at h
 
-    pub so_far-all : (i : ℕ) (values : Values) → length info.fields ≤ i → SoFar i values → values ≡ filled models now made model given
+    pub so_far-all : (i : ℕ) (values : Values) → length info.fields ≤ i → SoFar i values → values ≡ filled models by made model given
     so_far-all i values past far =
         sym (ap (λ (o : Option ModelInfo). option_map_or (λ own. flat_map gets (plain_columns own)) o []) is ∙ filled_all info i values past (told (model_at models model) info (λ own. FilledSoFar own i values) is far))
 

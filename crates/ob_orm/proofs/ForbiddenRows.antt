@@ -44,7 +44,8 @@ plain-given : (o : Origin) → is_plain_from o ≡ true → is_given_from o ≡ 
 plain-given origin.Plain is = refl
 plain-given _ is = absurd (false≢true is)
 
-module _ (models : List ModelInfo) (registry : IsRegistry models) (model : ModelNo) (number : FieldNo) (field : FieldInfo) (to : Delegation) (at : field_at models model number ≡ Some field) (is : field.origin ≡ origin.Delegated to) where
+module _ (models : List ModelInfo) (registry : IsRegistry models) (model : ModelNo) (number : FieldNo) (field : FieldInfo) (to : Delegation)
+    (at : field_at models model number ≡ Some field) (is : field.origin ≡ origin.Delegated to) where
   -- the parent has the field
   pub target-there : HasField models to.model to.field
   target-there =
@@ -63,7 +64,8 @@ module _ (models : List ModelInfo) (registry : IsRegistry models) (model : Model
       tell_and (field_at models model to.link) link (λ info. is_given_from info.origin ≡ true) (ap (field_at models model) (sym said.0) ∙ there) (plain-given link.origin plain.0.plain)
 
 -- the field of a cell for which a value stands
-pub stands-info : (models : List ModelInfo) (at : Course) (tables : Tables) (model : ModelNo) (id : RecId) (field : FieldNo) (own info : FieldInfo) (cell : Cell) → field_at models model field ≡ Some own → HasOwnInfo models model field own.origin info
+pub stands-info : (models : List ModelInfo) (at : Course) (tables : Tables) (model : ModelNo) (id : RecId) (field : FieldNo) (own info : FieldInfo) (cell : Cell)
+    → field_at models model field ≡ Some own → HasOwnInfo models model field own.origin info
     → IsValueFor models at tables (record { model = model; id = id; field = field }) own.origin cell → field_at models cell.model cell.field ≡ Some info
 stands-info models at tables model id field own info cell there = by own.origin where
   by : (o : Origin) → HasOwnInfo models model field o info → IsValueFor models at tables (record { model = model; id = id; field = field }) o cell → field_at models cell.model cell.field ≡ Some info
@@ -82,7 +84,8 @@ both-ways None test un on = un
 both-ways (Some x) test un on = false≢true (sym un ∙ on)
 
 -- what is known of the row of an owner is known of that of another one
-pub owner-group : (placed : Placed) (counted : AreCounted placed) (each : length placed.ids.items ≡ length placed.rows.now) (cell : Cell) (m : ℕ) (row : PresetRow) (test : Bool) → IsOwner placed cell m → row ≡ get_or placed.rows.now m row
+pub owner-group : (placed : Placed) (counted : AreCounted placed) (each : length placed.ids.items ≡ length placed.rows.now) (cell : Cell) (m : ℕ) (row : PresetRow) (test : Bool)
+    → IsOwner placed cell m → row ≡ get_or placed.rows.now m row
     → is_of_group row ≡ test → (n : ℕ) → IsOwner placed cell n → IsSomeAnd (slice_get placed.rows.now n) (λ r. is_of_group r ≡ test)
 owner-group placed counted each cell m row test own is group n other =
     let same : m ≡ n = one-owner placed counted cell m n own other in
@@ -224,7 +227,8 @@ module _ (models : List ModelInfo) (at : Course) where
     away _ cell n h = h
 
   -- nor where the fields are free
-  pub none-watched : (P : Cell → Type 0) (by : ℕ) (info : FieldInfo) → ((cell : Cell) → P cell → field_at models cell.model cell.field ≡ Some info) → info.fixed ≡ false → is_readonly models info ≡ false → FindsBy models at P by None
+  pub none-watched : (P : Cell → Type 0) (by : ℕ) (info : FieldInfo)
+      → ((cell : Cell) → P cell → field_at models cell.model cell.field ≡ Some info) → info.fixed ≡ false → is_readonly models info ≡ false → FindsBy models at P by None
   none-watched P by info of free let_in = λ n b made h. away b.kind b.cell n h where
     away : (k : BrokenKind) (cell : Cell) (n : ℕ) → Forbids models at P by n k cell → ⊥
     away kind.Managed cell n h = false≢true (sym let_in ∙ known_at (field_at models cell.model cell.field) info (λ i. is_readonly models i ≡ true) (of cell h.2) h.1)

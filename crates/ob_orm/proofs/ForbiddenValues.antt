@@ -72,7 +72,8 @@ module _ (models : List ModelInfo) (at : Course) where
         none
 
     -- one of them
-    pub among-one : (i : ℕ) (one : FieldNo × PresetValue) (b : Broken) → i < length row.values → one ≡ get_or row.values i one → IsFoundBy models at (GivesFor models at n row.model one.0) n b → IsFoundBy models at (Gives models at n) n b
+    pub among-one : (i : ℕ) (one : FieldNo × PresetValue) (b : Broken)
+        → i < length row.values → one ≡ get_or row.values i one → IsFoundBy models at (GivesFor models at n row.model one.0) n b → IsFoundBy models at (Gives models at n) n b
     among-one i one b low is found =
         found-more models at (GivesFor models at n row.model one.0) (Gives models at n) n b
         (λ cell gives. tell_and (slice_get at.rows n) row (λ r. Any (λ given. GivesFor models at n r.model given.0 cell) r.values) (at-number at.rows n row within own) (i, one, low, sym is, gives))

@@ -40,9 +40,18 @@ id-of placed n id within is =
     let at : slice_index (numbers placed.ids.items) n ≡ (get_or placed.ids.items n id).0 = get_or-map (λ (i : RecId). i.0) placed.ids.items n id 0 within in
     ap (λ (m : ℕ). record { 0 = m }) (ap (λ (i : RecId). i.0) is ∙ sym at)
 
-module _ (models : List ModelInfo) (placed : Placed) (n : ℕ) (model : ModelNo) (field : FieldNo) (id : RecId) (own : FieldInfo) (to : Delegation) (within : n < length placed.ids.items) (is : id ≡ get_or placed.ids.items n id)
-    (there : field_at models model field ≡ Some own) (delegated : own.origin ≡ origin.Delegated to) (tables : Standing) (are : tables ≡ record { models = models; tables = after models (empty_tables models) (edits_of placed (n + 1)) })
+module _ (models : List ModelInfo) (placed : Placed) (n : ℕ) (model : ModelNo) (field : FieldNo) (id : RecId) (own : FieldInfo) (to : Delegation)
+    (within : n < length placed.ids.items) (is : id ≡ get_or placed.ids.items n id)
+    (there : field_at models model field ≡ Some own) (delegated : own.origin ≡ origin.Delegated to)
+    (tables : Standing) (are : tables ≡ record { models = models; tables = after models (empty_tables models) (edits_of placed (n + 1)) })
     (target : Option Value) (told : target ≡ plain_at tables.tables tables.models (record { model = model; id = id; field = to.link })) where
+  -- the field of the row that gives it, and the cell for which its value stands
+  abbrev Own : Cell
+  Own = record { model = model; id = record { 0 = slice_index (numbers placed.ids.items) n }; field = field }
+
+  abbrev Stands : Cell → Origin → Type 0
+  Stands cell o = IsValueFor models (course_of models placed) ((course_of models placed).tables (suc n)) Own o cell
+
   -- what the link names is what the row's link names behind it
   target-is : target ≡ plain_at ((course_of models placed).tables (suc n)) models (record { model = model; id = record { 0 = slice_index (numbers placed.ids.items) n }; field = to.link })
   target-is =
@@ -56,11 +65,11 @@ module _ (models : List ModelInfo) (placed : Placed) (n : ℕ) (model : ModelNo)
   behind-gives r cell behind = (
     λ found.
         let (names, of, at) = behind.0 found in
-        tell_and (field_at models model field) own (λ info. IsValueFor models (course_of models placed) ((course_of models placed).tables (suc n)) (record { model = model; id = record { 0 = slice_index (numbers placed.ids.items) n }; field = field }) info.origin cell) there
-        (subst (λ (o : Origin). IsValueFor models (course_of models placed) ((course_of models placed).tables (suc n)) (record { model = model; id = record { 0 = slice_index (numbers placed.ids.items) n }; field = field }) o cell) (sym delegated) (sym target-is ∙ names, of, at)),
+        tell_and (field_at models model field) own (λ info. Stands cell info.origin) there
+        (subst (Stands cell) (sym delegated) (sym target-is ∙ names, of, at)),
     λ gives.
-        let stands = known_at (field_at models model field) own (λ info. IsValueFor models (course_of models placed) ((course_of models placed).tables (suc n)) (record { model = model; id = record { 0 = slice_index (numbers placed.ids.items) n }; field = field }) info.origin cell) there gives in
-        let said = subst (λ (o : Origin). IsValueFor models (course_of models placed) ((course_of models placed).tables (suc n)) (record { model = model; id = record { 0 = slice_index (numbers placed.ids.items) n }; field = field }) o cell) delegated stands in
+        let stands = known_at (field_at models model field) own (λ info. Stands cell info.origin) there gives in
+        let said = subst (Stands cell) delegated stands in
         behind.1 (target-is ∙ said.0, said.1, said.2),
   )
 
@@ -81,7 +90,10 @@ plain-of-row models tables cell there = by (field_at models cell.model cell.fiel
 -- one of a field whose value isn't given has none
 not-given : (models : List ModelInfo) (tables : Tables) (cell : Cell) (info : FieldInfo) → field_at models cell.model cell.field ≡ Some info → is_given_from info.origin ≡ false → IsSome (plain_at tables models cell) → ⊥
 not-given models tables cell info at away there =
-    by info.origin (row_at tables cell.model cell.id) away (subst (λ (o : Option FieldInfo). IsSome (option_and_then (λ i. option_and_then (plain_from tables i.origin i cell.field cell.id) (row_at tables cell.model cell.id)) o)) at there) where
+    by info.origin (row_at tables cell.model cell.id) away (subst Has at there) where
+      Has : Option FieldInfo → Type 0
+      Has o = IsSome (option_and_then (λ i. option_and_then (plain_from tables i.origin i cell.field cell.id) (row_at tables cell.model cell.id)) o)
+
       by : (o : Origin) (r : Option PlainRow) → is_given_from o ≡ false → IsSome (option_and_then (plain_from tables o info cell.field cell.id) r) → ⊥
       by o None away there = false≢true there
       by origin.Id (Some row) away there = false≢true (sym away)
@@ -102,15 +114,19 @@ module _ (models : List ModelInfo) (placed : Placed) (fit : ArePlaced models pla
 
   pub new-stays : (position (makes cell) placed.making.edits.items ≡ None) ⊎ ((m : ℕ) × IsOwner placed cell m × (n ≤ m)) → Changes → ⊥
   new-stays (inl none) changes = unmade-absent models placed fit cell none n (plain-of-row models ((course_of models placed).tables n) cell (was-there changes))
-  new-stays (inr (m, own, high)) changes = let low = owner-before models placed fit cell n m (plain-of-row models ((course_of models placed).tables n) cell (was-there changes)) own in omega (arith, high, low)
+  new-stays (inr (m, own, high)) changes =
+      let low = owner-before models placed fit cell n m (plain-of-row models ((course_of models placed).tables n) cell (was-there changes)) own in
+      omega (arith, high, low)
 
   -- it is told by the tables
-  pub changes-told : (before behind : Standing) (was is : Option Value) (r : Bool) → before ≡ record { models = models; tables = after models (empty_tables models) (edits_of placed n) } → was ≡ plain_at before.tables before.models cell
+  pub changes-told : (before behind : Standing) (was is : Option Value) (r : Bool) → before ≡ record { models = models; tables = after models (empty_tables models) (edits_of placed n) }
+      → was ≡ plain_at before.tables before.models cell
       → behind ≡ record { models = models; tables = after models (empty_tables models) (edits_of placed (n + 1)) } → is ≡ plain_at behind.tables behind.models cell
       → IsTrue r ↔ IsSomeAnd was (λ v. is ≢ Some v) → IsTrue r ↔ Changes
   changes-told before behind was is r before_are was_is behind_are is_is told =
       let one : was ≡ plain_at ((course_of models placed).tables n) models cell = was_is ∙ ap (λ (t : Standing). plain_at t.tables t.models cell) before_are in
-      let two : is ≡ plain_at ((course_of models placed).tables (suc n)) models cell = is_is ∙ ap (λ (t : Standing). plain_at t.tables t.models cell) behind_are ∙ ap (λ (t : Tables). plain_at t models cell) (tables-next models placed n) in
+      let two : is ≡ plain_at ((course_of models placed).tables (suc n)) models cell =
+      is_is ∙ ap (λ (t : Standing). plain_at t.tables t.models cell) behind_are ∙ ap (λ (t : Tables). plain_at t models cell) (tables-next models placed n) in
       let P : Option Value → Option Value → Type 0 = λ a b. IsTrue r ↔ IsSomeAnd a (λ v. b ≢ Some v) in
       subst (λ (b : Option Value). P (plain_at ((course_of models placed).tables n) models cell) b) two (subst (λ (a : Option Value). P a is) one told)
 
@@ -118,7 +134,8 @@ module _ (models : List ModelInfo) (placed : Placed) (fit : ArePlaced models pla
 
 module _ (models : List ModelInfo) (placed : Placed) (fit : ArePlaced models placed) (by : ℕ) (cell : Cell) (info : FieldInfo) (at : field_at models cell.model cell.field ≡ Some info) where
   -- a fixed field that changes
-  pub fixed-found : info.fixed ≡ true → (n : ℕ) × IsOwner placed cell n → ChangesAt models (course_of models placed) by cell → IsFoundBy models (course_of models placed) (λ other. other ≡ cell) by (record { kind = kind.Fixed; cell = cell })
+  pub fixed-found : info.fixed ≡ true → (n : ℕ) × IsOwner placed cell n → ChangesAt models (course_of models placed) by cell
+      → IsFoundBy models (course_of models placed) (λ other. other ≡ cell) by (record { kind = kind.Fixed; cell = cell })
   fixed-found fixed (n, own) changes = record {
     number = n;
     field = there_is (field_at models cell.model cell.field) info at;

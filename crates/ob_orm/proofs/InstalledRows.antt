@@ -10,13 +10,14 @@ use Rattle.ob_base.specs.declared.refusal.BrokenKind.{BrokenKind}
 use Rattle.ob_base.specs.declared.refusal.BrokenKind.TheVariants as kind
 use Rattle.ob_orm.proofs.PlacedRows.{count_of, edits-all}
 use Rattle.ob_orm.proofs.RowOwners.{made-owner, owner-made, row_key, unmade-absent}
-use Rattle.ob_orm.specs.Install.{Course, InstallsOver, IsForbidden, IsInstalled, IsMadeFor, IsRefused, RefusesRows, course, installed}
+use Rattle.ob_orm.specs.Install.{Course, InstallsOver, IsForbidden, IsInstalled, IsMadeFor, IsRefused, RefusesRows, course, course_by, installed}
 use Rattle.ob_orm.specs.InstallSteps.{Finds, IsFound, IsOwner, IsWhole, TellsOwner, course_of, makes}
 use Rattle.ob_cache.specs.Calls.{HasTables, KeeperRose, Standpoint, models_at}
 use Rattle.ob_cache.specs.Stages.{resting}
 use Rattle.ob_cache.specs.Standing.{Holding, RestsAt, Stands, Stays}
 use Rattle.ob_io.specs.Store.{Store}
 use Rattle.ob_orm.specs.NewRowSteps.{HoldsNextIds, so_far}
+use Rattle.ob_orm.specs.declared.author.Author.{Author}
 use Rattle.ob_orm.specs.declared.making.next_ids.Making.{Making}
 use Rattle.ob_orm.specs.declared.installing.InstallFault.{InstallFault}
 use Rattle.ob_orm.specs.declared.installing.InstallFault.TheVariants as fault
@@ -106,19 +107,21 @@ none-installed models now rows none sound = subst (λ (rs : List PresetRow). IsI
 
 -- ---- over the engine
 
--- what is so of the rows over the registry, at the moment that is passed on, is so over its models
-pub course-is : (schema models : List ModelInfo) → schema ≡ models → (passed now : ℤ) → passed ≡ now → (rows : List PresetRow) (placed : Placed) (making : Making)
-    → (HoldsNextIds schema (empty_tables schema) making → course_of schema placed ≡ course schema passed rows) → (tables : Tables) → tables ≡ empty_tables models → HoldsNextIds models tables making → course_of models placed ≡ course models now rows
-course-is schema models same passed now is rows placed making made tables empty holds =
-    let told = subst (λ (ms : List ModelInfo). HoldsNextIds ms (empty_tables ms) making → course_of ms placed ≡ course ms passed rows) same made in
-    told (subst (λ (t : Tables). HoldsNextIds models t making) empty holds) ∙ ap (λ (n : ℤ). course models n rows) is
+-- what is so of the rows over the registry, by the author that is passed on, is so over its models
+pub course-is : (schema models : List ModelInfo) → schema ≡ models → (passed by : Author) → passed ≡ by → (rows : List PresetRow) (placed : Placed) (making : Making)
+    → (HoldsNextIds schema (empty_tables schema) making → course_of schema placed ≡ course_by schema passed rows)
+    → (tables : Tables) → tables ≡ empty_tables models → HoldsNextIds models tables making → course_of models placed ≡ course_by models by rows
+course-is schema models same passed by is rows placed making made tables empty holds =
+    let told = subst (λ (ms : List ModelInfo). HoldsNextIds ms (empty_tables ms) making → course_of ms placed ≡ course_by ms passed rows) same made in
+    told (subst (λ (t : Tables). HoldsNextIds models t making) empty holds) ∙ ap (λ (a : Author). course_by models a rows) is
 
 -- an engine that stays rests where it did
 pub rests-still : (before now : Option Store) (old new : Holding) → Stays before old now new → (tables : Tables) → RestsAt before old tables → RestsAt now new tables
 rests-still before now old new same tables rests = subst (λ (ms : List ModelInfo). Stands now new (resting ms tables)) (sym same.models) (same.stands (resting old.models tables) rests)
 
 -- rows that are settled are kept, or the engine has the tables that it had
-pub kept-installs : (now : ℤ) (rows : List PresetRow) (before after : Standpoint) (since : Type 0) → (since → KeeperRose before after) → (old new : Tables) → IsInstalled (models_at before) now rows new → (r : Result (Unit {0}) InstallFault)
+pub kept-installs : (now : ℤ) (rows : List PresetRow) (before after : Standpoint) (since : Type 0) → (since → KeeperRose before after) → (old new : Tables) → IsInstalled (models_at before) now rows new
+    → (r : Result (Unit {0}) InstallFault)
     → OnOk r (HasTables after new) → OnErr r (HasTables after old) → IfErr r (RefusesRows since (λ _ _. ⊥)) → InstallsOver now rows before after old r
 kept-installs now rows before after since later old new made (Ok u) kept lost cause = (new, made, kept)
 kept-installs now rows before after since later old new made (Err fault.Keeper) kept lost cause = (later cause, lost)

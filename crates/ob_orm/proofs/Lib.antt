@@ -2,6 +2,7 @@ pub mod Expected
 pub mod RefusalTexts
 pub mod OwnFields
 pub mod CreateFields
+pub mod Stamps
 pub mod RowValue
 pub mod RowValues
 pub mod GivenValues

@@ -1,5 +1,5 @@
 -- Rows that are made one behind another: what the edits that make them leave of tables, and the next ids behind them.
-use Rattle.std.proofs.Common.{◌≡◌, ◌<◌, ◌≤◌, ◌+◌, ◌∷◌, [], ◌++◌, ℕ, ℤ, Bool, true, false, cond, List, length, max, map, Option, Some, None, unwrap_or, is_some, length-append, append_assoc, refl, sym, ap, subst, ◌∙◌, arith}
+use Rattle.std.proofs.Common.{◌≡◌, ◌<◌, ◌≤◌, ◌+◌, ◌∷◌, [], ◌++◌, ℕ, Bool, true, false, cond, List, length, max, map, Option, Some, None, unwrap_or, is_some, length-append, append_assoc, refl, sym, ap, subst, ◌∙◌, arith}
 use Rattle.std.specs.Prelude.{All, IsSome, IsSomeAnd, ⊤}
 use Rattle.std.specs.List.{flat_map}
 use Rattle.std.specs.BTreeMap as tree
@@ -19,6 +19,7 @@ use Rattle.ob_orm.proofs.Emptied.{after-then, set-next}
 use Rattle.ob_orm.proofs.WriteEdits.{one_edit}
 use Rattle.ob_orm.specs.NewRows.{Begun, MadeRows, Values, behind, changed_values, filled, linked, made_row, made_rows, making, parent_change, parents_of, with_parent, with_parents}
 use Rattle.ob_orm.specs.NewRowSteps.{AddsEdits, HoldsNextIds, IsReady, MayFit, held_next, so_far}
+use Rattle.ob_orm.specs.declared.author.Author.{Author}
 use Rattle.ob_orm.specs.declared.making.next_ids.Making.{Making}
 use Rattle.ob_orm.specs.Write.{row_edits}
 use Rattle.ob_schema.specs.Models.{HasModel, model_at}
@@ -35,22 +36,22 @@ begun_by models old making given = record { tables = so_far models old making; g
 
 -- ---- one more
 
-module _ (models : List ModelInfo) (now : ℤ) where
+module _ (models : List ModelInfo) (by : Author) where
   -- one parent more
   pub with_parents-more : (model : ModelNo) (at : Begun) (parents : List ParentInfo) (parent : ParentInfo)
-      → with_parents models now model at (parents ++ parent ∷ []) ≡ with_parent models now model (with_parents models now model at parents) parent
+      → with_parents models by model at (parents ++ parent ∷ []) ≡ with_parent models by model (with_parents models by model at parents) parent
   with_parents-more model at [] parent = refl
-  with_parents-more model at (p ∷ parents) parent = with_parents-more model (with_parent models now model at p) parents parent
+  with_parents-more model at (p ∷ parents) parent = with_parents-more model (with_parent models by model at p) parents parent
 
   -- one row more
   pub made_rows-more : (tables : Tables) (model : ModelNo) (each : List Values) (given : Values)
-      → made_rows models now tables model (each ++ given ∷ []) ≡ record {
-        tables = (made_row models now (made_rows models now tables model each).tables model given).tables;
-        ids = (made_rows models now tables model each).ids ++ (made_row models now (made_rows models now tables model each).tables model given).id ∷ [];
+      → made_rows models by tables model (each ++ given ∷ []) ≡ record {
+        tables = (made_row models by (made_rows models by tables model each).tables model given).tables;
+        ids = (made_rows models by tables model each).ids ++ (made_row models by (made_rows models by tables model each).tables model given).id ∷ [];
       }
   made_rows-more tables model [] given = refl
   made_rows-more tables model (g ∷ each) given =
-      let one = made_row models now tables model g in
+      let one = made_row models by tables model g in
       ap (λ (rest : MadeRows). record { tables = rest.tables; ids = one.id ∷ rest.ids }) (made_rows-more one.tables model each given)
 
 -- ---- edits that are added
@@ -137,13 +138,13 @@ module _ (models : List ModelInfo) (model : ModelNo) (before now : Making) (id :
         ∙ sym (ap (λ (t : Tables). Some (next_of t other)) so_far-made ∙ ap Some (next-made models (so_far models old before) model info at id values id-next other))
 
   -- so a row is made of what is given
-  pub one-made : (moment : ℤ) (given : Values) → values ≡ filled models moment true model given → HasModel models model → (old : Tables) → HoldsNextIds models old before
-      → (so_far models old now ≡ edited models (so_far models old before) (making models moment (so_far models old before) model given)) × (id ≡ next_of (so_far models old before) model) × HoldsNextIds models old now
-  one-made moment given are there old holds =
+  pub one-made : (by : Author) (given : Values) → values ≡ filled models by true model given → HasModel models model → (old : Tables) → HoldsNextIds models old before
+      → (so_far models old now ≡ edited models (so_far models old before) (making models by (so_far models old before) model given)) × (id ≡ next_of (so_far models old before) model) × HoldsNextIds models old now
+  one-made by given are there old holds =
       let (info, at) = there_of (model_at models model) there in
       let t = so_far models old before in
       let next = id-next old info at holds in (
-        so_far-made old info at holds ∙ ap (λ (vs : Values). edited models t (edit.Make model (record { 0 = id }) vs)) are ∙ ap (λ (n : ℕ). edited models t (edit.Make model (record { 0 = n }) (filled models moment true model given))) next,
+        so_far-made old info at holds ∙ ap (λ (vs : Values). edited models t (edit.Make model (record { 0 = id }) vs)) are ∙ ap (λ (n : ℕ). edited models t (edit.Make model (record { 0 = n }) (filled models by true model given))) next,
         next,
         holds-made old info at holds,
       )
@@ -185,39 +186,40 @@ All-flat_map : {X Y : Type 0} (P : Y → Type 0) (f : X → List Y) (xs : List X
 All-flat_map P f [] each = All-nil P
 All-flat_map P f (x ∷ xs) each = All-append P (f x) (flat_map f xs) (each x) (All-flat_map P f xs each)
 
-module _ (models : List ModelInfo) (now : ℤ) (model : ModelNo) (given : Values) where
+module _ (models : List ModelInfo) (by : Author) (model : ModelNo) (given : Values) where
   -- values are set
-  sets-one : (parent : ParentInfo) → All IsSet (parent_change models now model given parent)
-  sets-one parent = by (linked given parent.link) where
-    by : (o : Option RecId) → All IsSet (option_map_or (λ id. row_edits parent.model (changed_values models now parent.model (behind models model parent.link given)) id.0) o [])
-    by None = All-nil IsSet
-    by (Some id) = All-map IsSet (one_edit parent.model id.0) (changed_values models now parent.model (behind models model parent.link given)) (λ k d lt. tt)
+  sets-one : (parent : ParentInfo) → All IsSet (parent_change models by model given parent)
+  sets-one parent = each (linked given parent.link) where
+    each : (o : Option RecId) → All IsSet (option_map_or (λ id. row_edits parent.model (changed_values models by parent.model (behind models model parent.link given)) id.0) o [])
+    each None = All-nil IsSet
+    each (Some id) = All-map IsSet (one_edit parent.model id.0) (changed_values models by parent.model (behind models model parent.link given)) (λ k d lt. tt)
 
-  pub sets-parents : (parents : List ParentInfo) → All IsSet (flat_map (parent_change models now model given) parents)
-  sets-parents parents = All-flat_map IsSet (parent_change models now model given) parents sets-one
+  pub sets-parents : (parents : List ParentInfo) → All IsSet (flat_map (parent_change models by model given) parents)
+  sets-parents parents = All-flat_map IsSet (parent_change models by model given) parents sets-one
 
 -- ---- a whole row, and rows behind it
 
-module _ (models : List ModelInfo) (now : ℤ) (model : ModelNo) (old : Tables) where
+module _ (models : List ModelInfo) (by : Author) (model : ModelNo) (old : Tables) where
   -- a row is made once its parents are and what it changes of others follows
-  pub row-made-so : (first second third last : Making) (given more : Values) (changes : List Edit) (id : ℕ) → changes ≡ flat_map (parent_change models now model given) (parents_of models model)
-      → record { tables = so_far models old second; given = more } ≡ with_parents models now model (record { tables = so_far models old first; given = given }) (parents_of models model)
-      → so_far models old third ≡ edited models (so_far models old second) (making models now (so_far models old second) model more) → id ≡ next_of (so_far models old second) model → so_far models old last ≡ after models (so_far models old third) changes
-      → (so_far models old last ≡ (made_row models now (so_far models old first) model given).tables) × (id ≡ (made_row models now (so_far models old first) model given).id)
+  pub row-made-so : (first second third last : Making) (given more : Values) (changes : List Edit) (id : ℕ) → changes ≡ flat_map (parent_change models by model given) (parents_of models model)
+      → record { tables = so_far models old second; given = more } ≡ with_parents models by model (record { tables = so_far models old first; given = given }) (parents_of models model)
+      → so_far models old third ≡ edited models (so_far models old second) (making models by (so_far models old second) model more)
+      → id ≡ next_of (so_far models old second) model → so_far models old last ≡ after models (so_far models old third) changes
+      → (so_far models old last ≡ (made_row models by (so_far models old first) model given).tables) × (id ≡ (made_row models by (so_far models old first) model given).id)
   row-made-so first second third last given more changes id changes_are parents one next ends = (
-    ends ∙ ap (λ (t : Tables). after models t changes) one ∙ ap (λ (b : Begun). after models (edited models b.tables (making models now b.tables model b.given)) changes) parents
-        ∙ ap (after models (let b = with_parents models now model (record { tables = so_far models old first; given = given }) (parents_of models model) in edited models b.tables (making models now b.tables model b.given))) changes_are,
+    ends ∙ ap (λ (t : Tables). after models t changes) one ∙ ap (λ (b : Begun). after models (edited models b.tables (making models by b.tables model b.given)) changes) parents
+        ∙ ap (after models (let b = with_parents models by model (record { tables = so_far models old first; given = given }) (parents_of models model) in edited models b.tables (making models by b.tables model b.given))) changes_are,
     next ∙ ap (λ (b : Begun). next_of b.tables model) parents,
   )
 
   -- one row more
-  pub rows-made-so : (first before last : Making) (each : List Values) (given : Values) (ids more : List RecId) (id : RecId) → so_far models old before ≡ (made_rows models now (so_far models old first) model each).tables
-      → map (λ i. i.0) ids ≡ (made_rows models now (so_far models old first) model each).ids → so_far models old last ≡ (made_row models now (so_far models old before) model given).tables
-      → id.0 ≡ (made_row models now (so_far models old before) model given).id → more ≡ ids ++ id ∷ []
-      → (so_far models old last ≡ (made_rows models now (so_far models old first) model (each ++ given ∷ [])).tables) × (map (λ i. i.0) more ≡ (made_rows models now (so_far models old first) model (each ++ given ∷ [])).ids)
+  pub rows-made-so : (first before last : Making) (each : List Values) (given : Values) (ids more : List RecId) (id : RecId) → so_far models old before ≡ (made_rows models by (so_far models old first) model each).tables
+      → map (λ i. i.0) ids ≡ (made_rows models by (so_far models old first) model each).ids → so_far models old last ≡ (made_row models by (so_far models old before) model given).tables
+      → id.0 ≡ (made_row models by (so_far models old before) model given).id → more ≡ ids ++ id ∷ []
+      → (so_far models old last ≡ (made_rows models by (so_far models old first) model (each ++ given ∷ [])).tables) × (map (λ i. i.0) more ≡ (made_rows models by (so_far models old first) model (each ++ given ∷ [])).ids)
   rows-made-so first before last each given ids more id far far_ids one own pushed =
-      let all = made_rows-more models now (so_far models old first) model each given in (
-        one ∙ ap (λ (t : Tables). (made_row models now t model given).tables) far ∙ sym (ap (λ (r : MadeRows). r.tables) all),
+      let all = made_rows-more models by (so_far models old first) model each given in (
+        one ∙ ap (λ (t : Tables). (made_row models by t model given).tables) far ∙ sym (ap (λ (r : MadeRows). r.tables) all),
         ap (map (λ (i : RecId). i.0)) pushed ∙ map-append (λ (i : RecId). i.0) ids (id ∷ []) ∙ ap (λ (ns : List ℕ). ns ++ id.0 ∷ []) far_ids
-            ∙ ap (λ (n : ℕ). (made_rows models now (so_far models old first) model each).ids ++ n ∷ []) (own ∙ ap (λ (t : Tables). (made_row models now t model given).id) far) ∙ sym (ap (λ (r : MadeRows). r.ids) all),
+            ∙ ap (λ (n : ℕ). (made_rows models by (so_far models old first) model each).ids ++ n ∷ []) (own ∙ ap (λ (t : Tables). (made_row models by t model given).id) far) ∙ sym (ap (λ (r : MadeRows). r.ids) all),
       )

@@ -1,5 +1,5 @@
 -- What is given to a row's parents: typed values, and the rows of parents that are made of them or changed.
-use Rattle.std.proofs.Common.{◌≡◌, ◌==◌, ◌<◌, ◌-◌, ◌^◌, ◌∷◌, [], ◌++◌, ◌+◌, ℕ, ℤ, Bool, true, false, cond, List, append-nil, get_or, length, take, Option, Some, None, is_some, eqb-true, refl, sym, ap, subst, ◌∙◌}
+use Rattle.std.proofs.Common.{◌≡◌, ◌==◌, ◌<◌, ◌-◌, ◌^◌, ◌∷◌, [], ◌++◌, ◌+◌, ℕ, Bool, true, false, cond, List, append-nil, get_or, length, take, Option, Some, None, is_some, eqb-true, refl, sym, ap, subst, ◌∙◌}
 use Rattle.std.specs.Prelude.{All, IsSomeAnd, OnOk, Result, Ok, Err, option_and_then, option_map}
 use Rattle.std.specs.List.{cons_option}
 use Rattle.std.specs.Map.{lookup}
@@ -32,6 +32,7 @@ use Rattle.ob_tables.specs.declared.edit.Edit.{Edit}
 use Rattle.ob_orm.specs.NewRows.{Begun, Values, behind, changed_values, field_behind, field_behind_from, filled, linked, making, parent_change, row_named, value_for, with_parent}
 use Rattle.ob_orm.specs.NewRowSteps.{IsLowRef, IsTyped, MayFit}
 use Rattle.ob_orm.specs.Write.{row_edits}
+use Rattle.ob_orm.specs.declared.author.Author.{Author}
 use Rattle.ob_orm.proofs.WriteEdits.{fits_each, one_edit}
 
 -- ---- a value among typed ones
@@ -134,57 +135,57 @@ module _ (models : List ModelInfo) (model : ModelNo) (link : FieldNo) (given : V
 
 -- ---- a parent that is made
 
-module _ (models : List ModelInfo) (now : ℤ) (model : ModelNo) (parent : ParentInfo) (t : Tables) (given : Values) where
+module _ (models : List ModelInfo) (by : Author) (model : ModelNo) (parent : ParentInfo) (t : Tables) (given : Values) where
   abbrev start : Begun
   start = record { tables = t; given = given }
 
   -- a link that is given by an id makes none
-  pub parent-named : is_some (linked given parent.link) ≡ true → start ≡ with_parent models now model start parent
+  pub parent-named : is_some (linked given parent.link) ≡ true → start ≡ with_parent models by model start parent
   parent-named is = sym (ap (λ (b : Bool). cond b start (record {
-    tables = edited models t (making models now t parent.model (behind models model parent.link given));
+    tables = edited models t (making models by t parent.model (behind models model parent.link given));
     given = (parent.link, value.Ref (record { 0 = next_of t parent.model })) ∷ given;
   })) is)
 
   -- else it is made
   pub parent-made : (made : Tables) (more values : Values) (id : RecId) → is_some (linked given parent.link) ≡ false → values ≡ behind models model parent.link given
-      → made ≡ edited models t (making models now t parent.model values) → id.0 ≡ next_of t parent.model → more ≡ (parent.link, value.Ref id) ∷ given
-      → record { tables = made; given = more } ≡ with_parent models now model start parent
+      → made ≡ edited models t (making models by t parent.model values) → id.0 ≡ next_of t parent.model → more ≡ (parent.link, value.Ref id) ∷ given
+      → record { tables = made; given = more } ≡ with_parent models by model start parent
   parent-made made more values id none are is next put =
-      let tables_are : made ≡ edited models t (making models now t parent.model (behind models model parent.link given)) = is ∙ ap (λ (vs : Values). edited models t (making models now t parent.model vs)) are in
+      let tables_are : made ≡ edited models t (making models by t parent.model (behind models model parent.link given)) = is ∙ ap (λ (vs : Values). edited models t (making models by t parent.model vs)) are in
       let given_is : more ≡ (parent.link, value.Ref (record { 0 = next_of t parent.model })) ∷ given = put ∙ ap (λ (n : ℕ). (parent.link, value.Ref (record { 0 = n })) ∷ given) next in
       ap (λ (ts : Tables). record { tables = ts; given = more }) tables_are
-      ∙ ap (λ (vs : Values). record { tables = edited models t (making models now t parent.model (behind models model parent.link given)); given = vs }) given_is
+      ∙ ap (λ (vs : Values). record { tables = edited models t (making models by t parent.model (behind models model parent.link given)); given = vs }) given_is
       ∙ sym (ap (λ (b : Bool). cond b start (record {
-        tables = edited models t (making models now t parent.model (behind models model parent.link given));
+        tables = edited models t (making models by t parent.model (behind models model parent.link given));
         given = (parent.link, value.Ref (record { 0 = next_of t parent.model })) ∷ given;
       })) none)
 
 -- ---- a parent that is changed
 
-module _ (models : List ModelInfo) (now : ℤ) (model : ModelNo) (parent : ParentInfo) (given : Values) where
+module _ (models : List ModelInfo) (by : Author) (model : ModelNo) (parent : ParentInfo) (given : Values) where
   abbrev change_by : Option RecId → List Edit
-  change_by o = option_map_or (λ id. row_edits parent.model (changed_values models now parent.model (behind models model parent.link given)) id.0) o []
+  change_by o = option_map_or (λ id. row_edits parent.model (changed_values models by parent.model (behind models model parent.link given)) id.0) o []
 
   -- a link that isn't given by an id changes nothing
-  pub change-none : linked given parent.link ≡ None → parent_change models now model given parent ≡ []
+  pub change-none : linked given parent.link ≡ None → parent_change models by model given parent ≡ []
   change-none is = ap change_by is
 
   -- nor does one behind which nothing is given
-  pub change-empty : (values : Values) → values ≡ behind models model parent.link given → values ≡ [] → parent_change models now model given parent ≡ []
-  change-empty values are none = ap (λ (vs : Values). option_map_or (λ id. row_edits parent.model (changed_values models now parent.model vs) id.0) (linked given parent.link) []) (sym are ∙ none) ∙ by (linked given parent.link) where
-    by : (o : Option RecId) → option_map_or (λ id. row_edits parent.model [] id.0) o [] ≡ []
-    by None = refl
-    by (Some id) = refl
+  pub change-empty : (values : Values) → values ≡ behind models model parent.link given → values ≡ [] → parent_change models by model given parent ≡ []
+  change-empty values are none = ap (λ (vs : Values). option_map_or (λ id. row_edits parent.model (changed_values models by parent.model vs) id.0) (linked given parent.link) []) (sym are ∙ none) ∙ each (linked given parent.link) where
+    each : (o : Option RecId) → option_map_or (λ id. row_edits parent.model [] id.0) o [] ≡ []
+    each None = refl
+    each (Some id) = refl
 
-  some_values : (vs : Values) → (vs ≡ [] → ⊥) → changed_values models now parent.model vs ≡ filled models now false parent.model vs
+  some_values : (vs : Values) → (vs ≡ [] → ⊥) → changed_values models by parent.model vs ≡ filled models by false parent.model vs
   some_values [] some = absurd (some refl)
   some_values (v ∷ vs) some = refl
 
   -- else the values are set
-  pub change-set : (id : RecId) (values changed : Values) → linked given parent.link ≡ Some id → values ≡ behind models model parent.link given → (values ≡ [] → ⊥) → changed ≡ filled models now false parent.model values
-      → parent_change models now model given parent ≡ row_edits parent.model changed id.0
+  pub change-set : (id : RecId) (values changed : Values) → linked given parent.link ≡ Some id → values ≡ behind models model parent.link given → (values ≡ [] → ⊥) → changed ≡ filled models by false parent.model values
+      → parent_change models by model given parent ≡ row_edits parent.model changed id.0
   change-set id values changed is are some filled_is =
-      ap change_by is ∙ ap (λ (vs : Values). row_edits parent.model (changed_values models now parent.model vs) id.0) (sym are) ∙ ap (λ (vs : Values). row_edits parent.model vs id.0) (some_values values some ∙ sym filled_is)
+      ap change_by is ∙ ap (λ (vs : Values). row_edits parent.model (changed_values models by parent.model vs) id.0) (sym are) ∙ ap (λ (vs : Values). row_edits parent.model vs id.0) (some_values values some ∙ sym filled_is)
 
 -- edits that set fitting values may be asked for
 pub sets-fit : (models : List ModelInfo) (model : ModelNo) (values : Values) (id : RecId) → AreFitIn models model values → IsFitId id → All (MayFit models) (row_edits model values id.0)

@@ -1,5 +1,5 @@
 -- Rows that modules bring, placed one behind another: how many edits each has, and what the edits make of tables that have no rows.
-use Rattle.std.proofs.Common.{◌≡◌, ◌<◌, ◌≤◌, ◌+◌, ◌++◌, ◌∷◌, [], ℕ, ℤ, suc, min, List, length, map, get_or, slice_index, take, fold, refl, sym, ap, subst, ◌∙◌, inl, inr, length-append, arith}
+use Rattle.std.proofs.Common.{◌≡◌, ◌<◌, ◌≤◌, ◌+◌, ◌++◌, ◌∷◌, [], ℕ, suc, min, List, length, map, get_or, slice_index, take, fold, refl, sym, ap, subst, ◌∙◌, inl, inr, length-append, arith}
 use Rattle.std.specs.Prelude.{All}
 use Rattle.std.proofs.lemmas.Bool.{cases_lt}
 use Rattle.std.proofs.lemmas.List.{get_or_append_left, get_or_push, length_push, map_push, length-take, take-append-le, take_all, take_more}
@@ -7,10 +7,11 @@ use Rattle.std.proofs.lemmas.List.Elements.{All-push}
 use Rattle.std.proofs.lemmas.List.Sums.{fold_push}
 use Rattle.ob_base.specs.declared.id.RecId.{RecId}
 use Rattle.ob_orm.proofs.BroughtIds.{numbers}
-use Rattle.ob_orm.specs.Install.{Course, course, given_by, installed, with_row}
+use Rattle.ob_orm.specs.Install.{Course, course_by, given_by, installed_by, with_row}
 use Rattle.ob_orm.specs.InstallSteps.{AreCounted, ArePlaced, IsPlacedBehind, course_of, edits_of, made_by}
 use Rattle.ob_orm.specs.NewRows.{MadeRows, Values, made_row}
 use Rattle.ob_orm.specs.NewRowSteps.{HoldsNextIds, IsReady, so_far}
+use Rattle.ob_orm.specs.declared.author.Author.{Author}
 use Rattle.ob_orm.specs.declared.installing.placing.Placed.{Placed}
 use Rattle.ob_schema.specs.Tables.{Tables, empty_tables}
 use Rattle.ob_schema.specs.declared.info.ModelInfo.{ModelInfo}
@@ -93,44 +94,44 @@ edits-all placed counted =
 
 -- ---- what they make
 
-module _ (models : List ModelInfo) (now : ℤ) (old new : Placed) (row : PresetRow) (given : Values) (id : RecId) (are : given ≡ given_by (numbers old.ids.items) row.values) where
+module _ (models : List ModelInfo) (by : Author) (old new : Placed) (row : PresetRow) (given : Values) (id : RecId) (are : given ≡ given_by (numbers old.ids.items) row.values) where
   -- a row is made of what it brings
-  pub row-placed : so_far models (empty_tables models) new.making ≡ (made_row models now (so_far models (empty_tables models) old.making) row.model given).tables
-      → id.0 ≡ (made_row models now (so_far models (empty_tables models) old.making) row.model given).id → new.ids.items ≡ old.ids.items ++ id ∷ []
-      → made_by models new ≡ with_row models now (made_by models old) row
+  pub row-placed : so_far models (empty_tables models) new.making ≡ (made_row models by (so_far models (empty_tables models) old.making) row.model given).tables
+      → id.0 ≡ (made_row models by (so_far models (empty_tables models) old.making) row.model given).id → new.ids.items ≡ old.ids.items ++ id ∷ []
+      → made_by models new ≡ with_row models by (made_by models old) row
   row-placed tables own ids = λ i. record { tables = tables_are i; ids = ids_are i } where
-    tables_are : so_far models (empty_tables models) new.making ≡ (made_row models now (so_far models (empty_tables models) old.making) row.model (given_by (numbers old.ids.items) row.values)).tables
-    tables_are = tables ∙ ap (λ (vs : Values). (made_row models now (so_far models (empty_tables models) old.making) row.model vs).tables) are
+    tables_are : so_far models (empty_tables models) new.making ≡ (made_row models by (so_far models (empty_tables models) old.making) row.model (given_by (numbers old.ids.items) row.values)).tables
+    tables_are = tables ∙ ap (λ (vs : Values). (made_row models by (so_far models (empty_tables models) old.making) row.model vs).tables) are
 
-    ids_are : numbers new.ids.items ≡ numbers old.ids.items ++ (made_row models now (so_far models (empty_tables models) old.making) row.model (given_by (numbers old.ids.items) row.values)).id ∷ []
+    ids_are : numbers new.ids.items ≡ numbers old.ids.items ++ (made_row models by (so_far models (empty_tables models) old.making) row.model (given_by (numbers old.ids.items) row.values)).id ∷ []
     ids_are =
         ap numbers ids ∙ map_push (λ (i : RecId). i.0) old.ids.items id
-        ∙ ap (λ (n : ℕ). numbers old.ids.items ++ n ∷ []) (own ∙ ap (λ (vs : Values). (made_row models now (so_far models (empty_tables models) old.making) row.model vs).id) are)
+        ∙ ap (λ (n : ℕ). numbers old.ids.items ++ n ∷ []) (own ∙ ap (λ (vs : Values). (made_row models by (so_far models (empty_tables models) old.making) row.model vs).id) are)
 
-module _ (models : List ModelInfo) (now : ℤ) (rows : List PresetRow) where
+module _ (models : List ModelInfo) (by : Author) (rows : List PresetRow) where
   -- so many rows are made so
   pub record MadeSo (placed : Placed) : Type 0 where
     pub next : HoldsNextIds models (empty_tables models) placed.making
-    pub all : made_by models placed ≡ installed models now (take (count_of placed) rows)
-    pub tables : (n : ℕ) → n ≤ count_of placed → after models (empty_tables models) (edits_of placed n) ≡ (installed models now (take n rows)).tables
+    pub all : made_by models placed ≡ installed_by models by (take (count_of placed) rows)
+    pub tables : (n : ℕ) → n ≤ count_of placed → after models (empty_tables models) (edits_of placed n) ≡ (installed_by models by (take n rows)).tables
 
   -- one more
   pub made-more : (old new : Placed) (row : PresetRow) → IsPlacedBehind old new → AreCounted old → count_of old < length rows → get_or rows (count_of old) row ≡ row
-      → (made_by models new ≡ with_row models now (made_by models old) row) × HoldsNextIds models (empty_tables models) new.making → MadeSo old → MadeSo new
+      → (made_by models new ≡ with_row models by (made_by models old) row) × HoldsNextIds models (empty_tables models) new.making → MadeSo old → MadeSo new
   made-more old new row behind counted within is made so = record {
     next = made.1;
-    all = made.0 ∙ ap (λ (at : MadeRows). with_row models now at row) so.all ∙ sym step;
+    all = made.0 ∙ ap (λ (at : MadeRows). with_row models by at row) so.all ∙ sym step;
     tables = tables-to;
   } where
-    step : installed models now (take (count_of new) rows) ≡ with_row models now (installed models now (take (count_of old) rows)) row
+    step : installed_by models by (take (count_of new) rows) ≡ with_row models by (installed_by models by (take (count_of old) rows)) row
     step =
         let l = longer old new behind counted in
         let more : count_of new ≡ count_of old + 1 = omega arith in
-        ap (λ (n : ℕ). installed models now (take n rows)) more
-        ∙ ap (installed models now) (take_more rows (count_of old) row within ∙ ap (λ (r : PresetRow). take (count_of old) rows ++ r ∷ []) is)
-        ∙ fold_push (with_row models now) (record { tables = empty_tables models; ids = [] }) (take (count_of old) rows) row
+        ap (λ (n : ℕ). installed_by models by (take n rows)) more
+        ∙ ap (installed_by models by) (take_more rows (count_of old) row within ∙ ap (λ (r : PresetRow). take (count_of old) rows ++ r ∷ []) is)
+        ∙ fold_push (with_row models by) (record { tables = empty_tables models; ids = [] }) (take (count_of old) rows) row
 
-    tables-to : (n : ℕ) → n ≤ count_of new → after models (empty_tables models) (edits_of new n) ≡ (installed models now (take n rows)).tables
+    tables-to : (n : ℕ) → n ≤ count_of new → after models (empty_tables models) (edits_of new n) ≡ (installed_by models by (take n rows)).tables
     tables-to n low = let l = longer old new behind counted in
         elim (cases_lt n (suc (count_of old))) [
           | inl few ↦ ap (after models (empty_tables models)) (edits-before old new behind counted n (omega arith)) ∙ so.tables n (omega arith)
@@ -138,22 +139,22 @@ module _ (models : List ModelInfo) (now : ℤ) (rows : List PresetRow) where
               let last : n ≡ count_of new = omega arith in
               ap (λ (m : ℕ). after models (empty_tables models) (edits_of new m)) last
               ∙ ap (after models (empty_tables models)) (edits-all new (counted-behind old new behind counted))
-              ∙ ap (λ (at : MadeRows). at.tables) (made.0 ∙ ap (λ (at : MadeRows). with_row models now at row) so.all ∙ sym step)
-              ∙ sym (ap (λ (m : ℕ). (installed models now (take m rows)).tables) last)
+              ∙ ap (λ (at : MadeRows). at.tables) (made.0 ∙ ap (λ (at : MadeRows). with_row models by at row) so.all ∙ sym step)
+              ∙ sym (ap (λ (m : ℕ). (installed_by models by (take m rows)).tables) last)
         ]
 
   -- all rows
-  pub whole-course : (placed : Placed) → placed.rows.now ≡ rows → count_of placed ≡ length rows → MadeSo placed → course_of models placed ≡ course models now rows
+  pub whole-course : (placed : Placed) → placed.rows.now ≡ rows → count_of placed ≡ length rows → MadeSo placed → course_of models placed ≡ course_by models by rows
   whole-course placed same each so = λ i. record { rows = same i; ids = ids_are i; tables = λ n. tables_are n i } where
-    ids_are : map (λ (id : RecId). id.0) placed.ids.items ≡ (installed models now rows).ids
-    ids_are = ap (λ (at : MadeRows). at.ids) so.all ∙ ap (λ (rs : List PresetRow). (installed models now rs).ids) (take_all (count_of placed) rows (omega (arith, each)))
+    ids_are : map (λ (id : RecId). id.0) placed.ids.items ≡ (installed_by models by rows).ids
+    ids_are = ap (λ (at : MadeRows). at.ids) so.all ∙ ap (λ (rs : List PresetRow). (installed_by models by rs).ids) (take_all (count_of placed) rows (omega (arith, each)))
 
-    tables_are : (n : ℕ) → after models (empty_tables models) (edits_of placed n) ≡ (installed models now (take n rows)).tables
+    tables_are : (n : ℕ) → after models (empty_tables models) (edits_of placed n) ≡ (installed_by models by (take n rows)).tables
     tables_are n = elim (cases_lt n (suc (count_of placed))) [
       | inl few ↦ so.tables n (omega arith)
       | inr many ↦
           let top : min n (count_of placed) ≡ min (count_of placed) (count_of placed) = omega arith in
           ap (λ (m : ℕ). after models (empty_tables models) (take (slice_index placed.counts.items m) placed.making.edits.items)) top
           ∙ so.tables (count_of placed) (omega arith)
-          ∙ ap (λ (rs : List PresetRow). (installed models now rs).tables) (take_all (count_of placed) rows (omega (arith, each)) ∙ sym (take_all n rows (omega (arith, each, many))))
+          ∙ ap (λ (rs : List PresetRow). (installed_by models by rs).tables) (take_all (count_of placed) rows (omega (arith, each)) ∙ sym (take_all n rows (omega (arith, each, many))))
     ]

@@ -46,8 +46,10 @@ names-among before field (preset.Row n) fit = target-low before field n fit.1
 names-among before field (preset.Rows ns) fit = All-weaker (IsTargetOf before field) (λ n. n < length before) (λ n is. target-low before field n is) ns fit.2
 
 -- the field of a model, by its number
-its-field : (models : List ModelInfo) (model : ModelNo) (info : ModelInfo) (number : FieldNo) (field : FieldInfo) → model_at models model ≡ Some info → numbered info.fields number.0 ≡ Some field → field_at models model number ≡ Some field
-its-field models model info number field at own = ap (option_and_then (λ (i : ModelInfo). numbered (fields_of i) number.0)) at ∙ numbered-before info.fields info.hidden number.0 field own
+its-field : (models : List ModelInfo) (model : ModelNo) (info : ModelInfo) (number : FieldNo) (field : FieldInfo)
+    → model_at models model ≡ Some info → numbered info.fields number.0 ≡ Some field → field_at models model number ≡ Some field
+its-field models model info number field at own =
+    ap (option_and_then (λ (i : ModelInfo). numbered (fields_of i) number.0)) at ∙ numbered-before info.fields info.hidden number.0 field own
 
 tell-typed : (o : Option FieldInfo) (field : FieldInfo) (v : Value) → o ≡ Some field → IsGivable field v → HasFieldType o v
 tell-typed o field v is given = subst (λ (p : Option FieldInfo). HasFieldType p v) (sym is) given

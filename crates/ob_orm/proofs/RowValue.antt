@@ -1,5 +1,5 @@
 -- What the JSON of one value gives a field of a row.
-use Rattle.std.proofs.Common.{true, true≢false, ◌||◌, not, ◌≡◌, ◌≢◌, ℕ, ℤ, ◌++◌, ◌∷◌, [], Bool, false, cond, List, Option, Some, None, Result, Ok, Err, option_map, sym, ap, subst, ◌∙◌, Bor, string_bytes}
+use Rattle.std.proofs.Common.{true, true≢false, ◌||◌, not, ◌≡◌, ◌≢◌, ℕ, ◌++◌, ◌∷◌, [], Bool, false, cond, List, Option, Some, None, Result, Ok, Err, option_map, sym, ap, subst, ◌∙◌, Bor, string_bytes}
 use Rattle.std.proofs.lemmas.Bool.{and_parts, not-true, or_parts}
 use Rattle.std.specs.Prelude.{IfSome}
 use Rattle.std.specs.BTreeMap.{is_at}
@@ -17,19 +17,21 @@ use Rattle.ob_base.specs.declared.place.PathStep.TheVariants.{Key}
 use Rattle.ob_base.specs.declared.refusal.Refusal.{Refusal}
 use Rattle.ob_base.specs.declared.refusal.Refusal.TheVariants as refusal
 use Rattle.ob_base.specs.declared.value.Value.{Value}
-use Rattle.ob_base.specs.declared.value.Value.TheVariants as value
+use Rattle.ob_codec.proofs.CallerLemmas.{HasType-from_IsValueOf}
 use Rattle.ob_codec.specs.JsonForm.{IsInput, IsInputFault, value_from}
 use Rattle.ob_codec.specs.declared.input.Command.{Command}
 use Rattle.ob_codec.specs.declared.input.Input.{Input}
 use Rattle.ob_codec.specs.declared.input.Input.TheVariants as input
 use Rattle.ob_codec.specs.declared.fault.CodecFault.{CodecFault}
 use Rattle.ob_codec.specs.declared.fault.CodecFault.TheVariants as codec
-use Rattle.ob_schema.specs.Fields.{Holds, is_plain_kept}
+use Rattle.ob_schema.specs.Fields.{HasFieldType, Holds, is_plain_kept}
 use Rattle.ob_definition.specs.Types.{is_list}
 use Rattle.ob_schema.specs.declared.info.FieldInfo.{FieldInfo}
-use Rattle.ob_orm.specs.RowValues.{given_of, given_value, is_stamp, placed, row_value}
+use Rattle.ob_orm.specs.Author.{is_stamp, stamp}
+use Rattle.ob_orm.specs.RowValues.{given_of, given_value, placed, row_value}
 use Rattle.ob_orm.specs.Values.{is_free}
 use Rattle.ob_orm.specs.CreateSteps.{IsFaultAt, IsMakeable}
+use Rattle.ob_orm.specs.declared.author.Author.{Author}
 use Rattle.ob_call.specs.Places.{IsMalformedAt}
 use Rattle.ob_call.specs.Results.{IsResultOf}
 use Rattle.ob_orm.proofs.CreateFields.{told, tell}
@@ -120,8 +122,8 @@ free_flat f (Some x) free =
     (or_parts (is_list f.field_type) f.managed (not-true (is_list f.field_type || f.managed) rest)).0
 
 -- the value of a field that is no stamp
-no_stamp : (made : Bool) (now : ℤ) (place : List PathStep) (ms : Members) (f : FieldInfo) → is_stamp made f.name ≡ false → row_value made now place ms f ≡ given_value made (place ++ Key f.name ∷ []) f (given_of ms f)
-no_stamp made now place ms f is = ap (λ (b : Bool). cond b (Ok (Some (value.Moment now))) (given_value made (place ++ Key f.name ∷ []) f (given_of ms f))) is
+no_stamp : (made : Bool) (by : Author) (place : List PathStep) (ms : Members) (f : FieldInfo) → is_stamp made f.name ≡ false → row_value made by place ms f ≡ given_value made (place ++ Key f.name ∷ []) f (given_of ms f)
+no_stamp made by place ms f is = ap (λ (b : Bool). cond b (Ok (Some (stamp by f.name))) (given_value made (place ++ Key f.name ∷ []) f (given_of ms f))) is
 
 -- a value that was read is what the field gets
 abbrev pub some_of : Result Value Refusal → Result (Option Value) Refusal
@@ -135,28 +137,48 @@ IsResultOf-some (Err refusal.NoMemory) meant is = tt
 IsResultOf-some (Err _) meant is = absurd is
 
 -- as what the object gives it is read
-pub new_given : (o : Option FieldInfo) (f : FieldInfo) (made : Bool) (now : ℤ) (place : List PathStep) (ms : Members) (name : List ℕ) (x : Bor Json) (r : Result Value Refusal) → o ≡ Some f → name ≡ f.name
+pub new_given : (o : Option FieldInfo) (f : FieldInfo) (made : Bool) (by : Author) (place : List PathStep) (ms : Members) (name : List ℕ) (x : Bor Json) (r : Result Value Refusal) → o ≡ Some f → name ≡ f.name
     → is_stamp made name ≡ false → Some (view x.now) ≡ given_of ms f
     → IfSome o (λ field. IsResultOf (λ w. w) r (placed (place ++ Key field.name ∷ []) (value_from field.field_type field.selection (view x.now))))
-    → IfSome o (λ field. IsResultOf (λ w. w) (some_of r) (row_value made now place ms field))
-new_given o f made now place ms name x r is same stamp at given =
+    → IfSome o (λ field. IsResultOf (λ w. w) (some_of r) (row_value made by place ms field))
+new_given o f made by place ms name x r is same other at given =
     let read = placed (place ++ Key f.name ∷ []) (value_from f.field_type f.selection (view x.now)) in
     let own : IsResultOf (λ w. w) r read = told o f (λ field. IsResultOf (λ w. w) r (placed (place ++ Key field.name ∷ []) (value_from field.field_type field.selection (view x.now)))) is given in
-    let meant : row_value made now place ms f ≡ (read >>= λ v. Ok (Some v)) =
-    no_stamp made now place ms f (ap (is_stamp made) (sym same) ∙ stamp) ∙ ap (given_value made (place ++ Key f.name ∷ []) f) (sym at) in
-    tell o f (λ field. IsResultOf (λ w. w) (some_of r) (row_value made now place ms field)) is
+    let meant : row_value made by place ms f ≡ (read >>= λ v. Ok (Some v)) =
+    no_stamp made by place ms f (ap (is_stamp made) (sym same) ∙ other) ∙ ap (given_value made (place ++ Key f.name ∷ []) f) (sym at) in
+    tell o f (λ field. IsResultOf (λ w. w) (some_of r) (row_value made by place ms field)) is
     (subst (λ (m : Result (Option Value) (List PathStep)). IsResultOf (λ w. w) (some_of r) m) (sym meant) (IsResultOf-some r read own))
 
 -- its default where the object gives it nothing
-pub new_default : (o : Option FieldInfo) (f : FieldInfo) (made : Bool) (now : ℤ) (place : List PathStep) (ms : Members) (name : List ℕ) (own : Option Value) → o ≡ Some f → name ≡ f.name → is_stamp made name ≡ false
-    → None ≡ given_of ms f → own ≡ cond made f.default None → IfSome o (λ field. IsResultOf (λ w. w) (Ok own) (row_value made now place ms field))
-new_default o f made now place ms name own is same stamp at default =
-    tell o f (λ field. row_value made now place ms field ≡ Ok own) is
-    (no_stamp made now place ms f (ap (is_stamp made) (sym same) ∙ stamp) ∙ ap (given_value made (place ++ Key f.name ∷ []) f) (sym at) ∙ ap Ok (sym default))
+pub new_default : (o : Option FieldInfo) (f : FieldInfo) (made : Bool) (by : Author) (place : List PathStep) (ms : Members) (name : List ℕ) (own : Option Value)
+    → o ≡ Some f → name ≡ f.name → is_stamp made name ≡ false → None ≡ given_of ms f → own ≡ cond made f.default None → IfSome o (λ field. IsResultOf (λ w. w) (Ok own) (row_value made by place ms field))
+new_default o f made by place ms name own is same other at default =
+    tell o f (λ field. row_value made by place ms field ≡ Ok own) is
+    (no_stamp made by place ms f (ap (is_stamp made) (sym same) ∙ other) ∙ ap (given_value made (place ++ Key f.name ∷ []) f) (sym at) ∙ ap Ok (sym default))
 
--- a field may hold its default
-pub default_holds : (o : Option FieldInfo) (f : FieldInfo) (made : Bool) (own : Option Value) → o ≡ Some f → IfSome o IsMakeable → own ≡ cond made f.default None → IfSome o (λ field. IfSome own (Holds field))
-default_holds o f true own is givable default =
-    let fits = told o f IsMakeable is givable in
-    tell o f (λ field. IfSome own (Holds field)) is (subst (λ (d : Option Value). IfSome d (Holds f)) (sym default) fits.default)
-default_holds o f false own is givable default = tell o f (λ field. IfSome own (Holds field)) is (subst (λ (d : Option Value). IfSome d (Holds f)) (sym default) tt)
+-- what the author stamps
+pub new_stamp : (o : Option FieldInfo) (f : FieldInfo) (made : Bool) (by : Author) (place : List PathStep) (ms : Members) (name : List ℕ) (v : Value)
+    → o ≡ Some f → name ≡ f.name → is_stamp made name ≡ true → v ≡ stamp by name → IfSome o (λ field. IsResultOf (λ w. w) (Ok (Some v)) (row_value made by place ms field))
+new_stamp o f made by place ms name v is same stamped own =
+    tell o f (λ field. row_value made by place ms field ≡ Ok (Some v)) is
+    (ap (λ (b : Bool). cond b (Ok (Some (stamp by f.name))) (given_value made (place ++ Key f.name ∷ []) f (given_of ms f))) (sym (ap (is_stamp made) same) ∙ stamped)
+    ∙ ap (λ (w : Value). Ok (Some w)) (sym (own ∙ ap (stamp by) same)))
+
+-- ---- each has the type of the field
+
+-- a value that the field holds
+pub held_typed : (o : Option FieldInfo) (v : Value) → IfSome o (λ field. Holds field v) → HasFieldType o v
+held_typed None v holds = tt
+held_typed (Some f) v holds = HasType-from_IsValueOf f.field_type f.selection v holds
+
+-- its default
+pub default_typed : (o : Option FieldInfo) (f : FieldInfo) (made : Bool) (own : Option Value)
+    → o ≡ Some f → IfSome o IsMakeable → own ≡ cond made f.default None → IfSome own (HasFieldType o)
+default_typed o f made own is makeable default = subst (λ (d : Option Value). IfSome d (HasFieldType o)) (sym default) (by made) where
+  each : (d : Option Value) → IfSome d (Holds f) → IfSome d (HasFieldType o)
+  each None holds = tt
+  each (Some v) holds = held_typed o v (tell o f (λ field. Holds field v) is holds)
+
+  by : (b : Bool) → IfSome (cond b f.default None) (HasFieldType o)
+  by true = each f.default (told o f IsMakeable is makeable).default
+  by false = tt

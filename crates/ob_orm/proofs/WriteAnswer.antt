@@ -1,5 +1,5 @@
 -- What a write answers over an engine, from what its steps say.
-use Rattle.std.proofs.Common.{◌≡◌, Bool, ℕ, ℤ, ◌∷◌, [], List, Option, Some, None, option_map, Result, Ok, Err, refl, sym, ap, subst, ◌∙◌, rules}
+use Rattle.std.proofs.Common.{◌≡◌, Bool, ℕ, ◌∷◌, [], List, Option, Some, None, option_map, Result, Ok, Err, refl, sym, ap, subst, ◌∙◌, rules}
 use Rattle.std.specs.Prelude.{false, IfSome, true, ⊤}
 use Rattle.serde_json.specs.Data.{Data, boolean}
 use Rattle.serde_json.specs.View.{view}
@@ -26,9 +26,11 @@ use Rattle.ob_call.specs.declared.call.Call.{Call}
 use Rattle.ob_schema.specs.Models.{HasModel, model_at}
 use Rattle.ob_schema.specs.Tables.{Tables}
 use Rattle.ob_schema.specs.declared.info.ModelInfo.{ModelInfo}
+use Rattle.ob_orm.specs.Author.{author_by}
 use Rattle.ob_orm.specs.RowValues.{values_from}
 use Rattle.ob_orm.specs.Write.{AreThere, Change, WriteCause, Writes, change_from, change_of, changed, edits_of, write_expects}
 use Rattle.ob_orm.specs.WriteSteps.{MayStopChange, StopsChange, asked_change}
+use Rattle.ob_orm.specs.declared.author.Author.{Author}
 use Rattle.ob_orm.specs.declared.writing.change.Change.{Change as Asked}
 use Rattle.ob_orm.proofs.CreateAnswer.{everywhere, known_of, nowhere, sound_in}
 use Rattle.ob_orm.proofs.RowValues.{Values}
@@ -48,7 +50,7 @@ pub denied_change : {A : Type 0} (of : A → List (Option arguments.Given)) (mod
     → IsResultOf of (Err why) (arguments_of (write_expects (fields_at models call.model)) (view call.args.now) (view call.kw.now)) → GivesChange models call (Err why)
 denied_change of models call (refusal.Request place) e =
     known_of (model_at models call.model) (λ info. arguments_of (write_expects info.fields) (view call.args.now) (view call.kw.now) ≡ Err place) (λ info. change_of (called_by call info) ≡ Err place)
-    (λ info is. ap (λ (r : Result (List (Option arguments.Given)) (List PathStep)). r >>= change_from info call.now) is)
+    (λ info is. ap (λ (r : Result (List (Option arguments.Given)) (List PathStep)). r >>= change_from info (author_by call)) is)
     (at_info models call.model (λ fields. arguments_of (write_expects fields) (view call.args.now) (view call.kw.now) ≡ Err place) e)
 denied_change of models call refusal.NoMemory e = everywhere (model_at models call.model) (λ info. ⊤) (λ info. tt)
 denied_change of models call _ e = absurd e
@@ -57,7 +59,8 @@ denied_change of models call _ e = absurd e
 abbrev pub with_ids : Data → Result Values (List PathStep) → Result Change (List PathStep)
 with_ids ids r = r >>= λ values. Ok (record { ids = named_ids ids; values = values })
 
-module _ (models : List ModelInfo) (call : Call) (items : List (Option Given)) (ids : Given) (vals : Option Given) (passed : ℤ) (is : passed ≡ call.now) (two : items ≡ Some ids ∷ vals ∷ []) (gives : WriteGives models call items) where
+module _ (models : List ModelInfo) (call : Call) (items : List (Option Given)) (ids : Given) (vals : Option Given)
+    (passed : Author) (is : passed ≡ author_by call) (two : items ≡ Some ids ∷ vals ∷ []) (gives : WriteGives models call items) where
   -- the values as they were read
   abbrev pub ReadsValues : Result Values Refusal → Type 0
   ReadsValues r = IfSome (model_at models call.model) (λ info. IsResultOf (λ (values : Values). values) r (values_from false info passed (option_map given_of vals)))
@@ -66,9 +69,9 @@ module _ (models : List ModelInfo) (call : Call) (items : List (Option Given)) (
   asks : (info : ModelInfo) → arguments_of (write_expects info.fields) (view call.args.now) (view call.kw.now) ≡ Ok (all_given_of items)
       → change_of (called_by call info) ≡ with_ids (view ids.json.now) (values_from false info passed (option_map given_of vals))
   asks info given =
-      ap (λ (r : Result (List (Option arguments.Given)) (List PathStep)). r >>= change_from info call.now) given
-      ∙ ap (λ (gs : List (Option Given)). change_from info call.now (all_given_of gs)) two
-      ∙ ap (λ (n : ℤ). with_ids (view ids.json.now) (values_from false info n (option_map given_of vals))) (sym is)
+      ap (λ (r : Result (List (Option arguments.Given)) (List PathStep)). r >>= change_from info (author_by call)) given
+      ∙ ap (λ (gs : List (Option Given)). change_from info (author_by call) (all_given_of gs)) two
+      ∙ ap (λ (a : Author). with_ids (view ids.json.now) (values_from false info a (option_map given_of vals))) (sym is)
 
   -- values that are refused
   wrong : (info : ModelInfo) (why : Refusal) → arguments_of (write_expects info.fields) (view call.args.now) (view call.kw.now) ≡ Ok (all_given_of items)

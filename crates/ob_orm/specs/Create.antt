@@ -14,6 +14,7 @@ use Rattle.ob_schema.specs.declared.info.ModelInfo.{ModelInfo}
 use Rattle.serde_json.specs.Data.{Data, array}
 use Rattle.ob_call.specs.Arguments.{Expected, Given, arguments_of}
 use Rattle.ob_call.specs.Called.{Called}
+use Rattle.ob_orm.specs.Author.{author_of}
 use Rattle.ob_orm.specs.GivenValues.{given_from}
 use Rattle.ob_orm.specs.NewRows.{MadeRows, Values, made_rows}
 use Rattle.ob_orm.specs.Objects.{items_at, objects_expected}
@@ -51,7 +52,7 @@ values_of (rows.Each each) = each
 
 -- the tables with these rows, whatever they break, and their ids
 abbrev pub made : List ModelInfo → Called → Tables → Rows → MadeRows
-made models called old asked = made_rows models called.now old called.model (values_of asked)
+made models called old asked = made_rows models (author_of called) old called.model (values_of asked)
 
 -- how ids are told: that of one row, or the list of those of each
 abbrev pub ids_told : Rows → List ℕ → Data

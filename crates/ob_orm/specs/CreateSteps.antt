@@ -1,5 +1,6 @@
 -- What the steps of a create say of their results.
 use Rattle.std.specs.Prelude.{◌≡◌, ◌++◌, List, IfSome, Bool, true, Option}
+use Rattle.ob_base.specs.Times.{IsMoment}
 use Rattle.ob_base.specs.declared.place.PathStep.{PathStep}
 use Rattle.ob_base.specs.declared.refusal.Refusal.{Refusal}
 use Rattle.ob_base.specs.declared.refusal.Refusal.TheVariants as refusal
@@ -8,19 +9,19 @@ use Rattle.ob_cache.specs.Standing.{Holding, Stands}
 use Rattle.ob_call.specs.Places.{IsMalformedAt}
 use Rattle.ob_codec.specs.declared.fault.CodecFault.{CodecFault}
 use Rattle.ob_codec.specs.declared.fault.CodecFault.TheVariants as codec
-use Rattle.ob_definition.specs.declared.field_type.FieldType.TheVariants as type
 use Rattle.ob_io.specs.Store.{Store}
-use Rattle.ob_orm.specs.RowValues.{is_stamp}
+use Rattle.ob_orm.specs.Author.{is_stamp, stamp}
+use Rattle.ob_orm.specs.declared.author.Author.{Author}
 use Rattle.ob_schema.specs.Broken.{IsBroken}
-use Rattle.ob_schema.specs.Fields.{Holds}
+use Rattle.ob_schema.specs.Fields.{Holds, IsGivable}
 use Rattle.ob_schema.specs.Models.{HasField}
 use Rattle.ob_schema.specs.Tables.{Tables}
 use Rattle.ob_schema.specs.declared.info.FieldInfo.{FieldInfo}
 use Rattle.ob_schema.specs.declared.info.ModelInfo.{ModelInfo}
 
--- what a call may rely on in a field: a stamp is a moment, and a default fits
+-- what a call may rely on in a field: it may be given what is stamped there, and its default fits
 pub record IsMakeable (field : FieldInfo) : Type 0 where
-  pub stamp : (made : Bool) → is_stamp made field.name ≡ true → field.field_type ≡ type.Datetime
+  pub stamped : (made : Bool) (by : Author) → IsMoment by.now → is_stamp made field.name ≡ true → IsGivable field (stamp by field.name)
   pub default : IfSome field.default (Holds field)
 
 -- the refusal tells a fault at its place below this one

@@ -14,8 +14,10 @@ use Rattle.ob_base.specs.declared.refusal.BrokenKind.TheVariants as kind
 use Rattle.ob_base.specs.declared.value.Value.{Value}
 use Rattle.ob_base.specs.declared.value.Value.TheVariants as value
 use Rattle.ob_cache.specs.Calls.{HasTables, KeeperRose, Standpoint, models_at}
+use Rattle.ob_orm.specs.Author.{system_at}
 use Rattle.ob_orm.specs.FieldsGet.{is_readonly}
 use Rattle.ob_orm.specs.NewRows.{MadeRows, Values, made_row}
+use Rattle.ob_orm.specs.declared.author.Author.{Author}
 use Rattle.ob_orm.specs.declared.installing.InstallFault.{InstallFault}
 use Rattle.ob_orm.specs.declared.installing.InstallFault.TheVariants as fault
 use Rattle.ob_schema.specs.Broken.{IsBroken, Sound}
@@ -59,17 +61,27 @@ pub record Course : Type 0 where
   pub ids : List ℕ
   pub tables : ℕ → Tables
 
-module _ (models : List ModelInfo) (now : ℤ) where
+module _ (models : List ModelInfo) (by : Author) where
   -- a row behind others: the tables with it and its parents, and the ids of all
   abbrev pub with_row : MadeRows → PresetRow → MadeRows
-  with_row at row = let one = made_row models now at.tables row.model (given_by at.ids row.values) in record { tables = one.tables; ids = at.ids ++ one.id ∷ [] }
+  with_row at row =
+      let one = made_row models by at.tables row.model (given_by at.ids row.values) in
+      record { tables = one.tables; ids = at.ids ++ one.id ∷ [] }
 
   -- rows one behind another, where there are none: the tables with them, and their ids
+  abbrev pub installed_by : List PresetRow → MadeRows
+  installed_by rows = fold with_row (record { tables = empty_tables models; ids = [] }) rows
+
+  abbrev pub course_by : List PresetRow → Course
+  course_by rows = record { rows = rows; ids = (installed_by rows).ids; tables = λ n. (installed_by (take n rows)).tables }
+
+-- The system makes those that modules bring.
+module _ (models : List ModelInfo) (now : ℤ) where
   abbrev pub installed : List PresetRow → MadeRows
-  installed rows = fold with_row (record { tables = empty_tables models; ids = [] }) rows
+  installed rows = installed_by models (system_at now) rows
 
   abbrev pub course : List PresetRow → Course
-  course rows = record { rows = rows; ids = (installed rows).ids; tables = λ n. (installed (take n rows)).tables }
+  course rows = course_by models (system_at now) rows
 
 -- ---- what stands against rows
 
@@ -81,13 +93,15 @@ module _ (models : List ModelInfo) (at : Course) where
 
   -- a value for a cell is one for another: for itself, or where its field is delegated for the parent's, in the row that the link names
   abbrev pub IsValueFor : Tables → Cell → Origin → Cell → Type 0
-  IsValueFor tables own (origin.Delegated to) cell = (plain_at tables models (record own { field = to.link }) ≡ Some (value.Ref cell.id)) × (cell.model ≡ to.model) × (cell.field ≡ to.field)
+  IsValueFor tables own (origin.Delegated to) cell =
+      (plain_at tables models (record own { field = to.link }) ≡ Some (value.Ref cell.id)) × (cell.model ≡ to.model) × (cell.field ≡ to.field)
   IsValueFor tables own _ cell = cell ≡ own
 
   -- the value that the row of a number gives a field is one for a cell
   abbrev pub GivesFor : ℕ → ModelNo → FieldNo → Cell → Type 0
   GivesFor n model field cell =
-      let own : Cell = record { model = model; id = record { 0 = slice_index at.ids n }; field = field } in IsSomeAnd (field_at models model field) (λ info. IsValueFor (at.tables (suc n)) own info.origin cell)
+      let own : Cell = record { model = model; id = record { 0 = slice_index at.ids n }; field = field } in
+      IsSomeAnd (field_at models model field) (λ info. IsValueFor (at.tables (suc n)) own info.origin cell)
 
   -- the row of a number gives a value for a cell
   abbrev pub Gives : ℕ → Cell → Type 0
@@ -95,7 +109,8 @@ module _ (models : List ModelInfo) (at : Course) where
 
   -- the id of a row of a managed model
   abbrev pub IsOfManaged : Cell → Type 0
-  IsOfManaged cell = IsSomeAnd (model_at models cell.model) (λ info. info.managed ≡ true) × FieldHas models (λ info. is_id_from info.origin ≡ true) cell.model cell.field
+  IsOfManaged cell =
+      IsSomeAnd (model_at models cell.model) (λ info. info.managed ≡ true) × FieldHas models (λ info. is_id_from info.origin ≡ true) cell.model cell.field
 
   -- a cell to which calls give no value, and a row does
   abbrev pub IsGivenAnyhow : Cell → Type 0
@@ -107,7 +122,8 @@ module _ (models : List ModelInfo) (at : Course) where
 
   -- a cell of a fixed field to which a row gives another value than it had
   abbrev pub IsChangedAnyhow : Cell → Type 0
-  IsChangedAnyhow cell = FieldHas models (λ info. info.fixed ≡ true) cell.model cell.field × ((n : ℕ) × Gives n cell × ChangesAt n cell)
+  IsChangedAnyhow cell =
+      FieldHas models (λ info. info.fixed ≡ true) cell.model cell.field × ((n : ℕ) × Gives n cell × ChangesAt n cell)
 
   -- what calls may not do is done at a cell of a row that is made for the one of a number; what is made for groups may be managed
   abbrev pub IsForbidden : ℕ → BrokenKind → Cell → Type 0
@@ -140,4 +156,5 @@ module _ (now : ℤ) (rows : List PresetRow) (before after : Standpoint) where
   -- over an engine of these tables: it has the tables with the rows, which are kept; or they are refused, and it has the tables that it had
   abbrev pub InstallsOver : Tables → Result (Unit {0}) InstallFault → Type 0
   InstallsOver old (Ok _) = (new : Tables) × IsInstalled (models_at before) now rows new × HasTables after new
-  InstallsOver old (Err why) = RefusesRows (KeeperRose before after) (IsRefused (models_at before) (course (models_at before) now rows)) why × HasTables after old
+  InstallsOver old (Err why) =
+      RefusesRows (KeeperRose before after) (IsRefused (models_at before) (course (models_at before) now rows)) why × HasTables after old

@@ -46,7 +46,11 @@ edits_of placed n = take (slice_index placed.counts.items (min n (length placed.
 
 -- how they make the rows, where there were none
 abbrev pub course_of : List ModelInfo → Placed → Course
-course_of models placed = record { rows = placed.rows.now; ids = map (λ id. id.0) placed.ids.items; tables = λ n. after models (empty_tables models) (edits_of placed n) }
+course_of models placed = record {
+  rows = placed.rows.now;
+  ids = map (λ id. id.0) placed.ids.items;
+  tables = λ n. after models (empty_tables models) (edits_of placed n);
+}
 
 -- it is told how many edits there were before the first row and behind each, no fewer from row to row
 pub record AreCounted (placed : Placed) : Type 0 where

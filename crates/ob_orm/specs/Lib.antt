@@ -1,6 +1,7 @@
 pub mod Creatable
 pub mod Values
 pub mod Objects
+pub mod Author
 pub mod RowValues
 pub mod Write
 pub mod NewRows

@@ -1,5 +1,5 @@
 -- Rows that are made of given values, one behind another, each with rows of those of its parents that no given id names.
-use Rattle.std.specs.Prelude.{◌==◌, ℕ, ℤ, List, [], ◌∷◌, Bool, true, false, if◌then◌else◌, is_some, Option, Some, None, option_and_then, option_map}
+use Rattle.std.specs.Prelude.{◌==◌, ℕ, List, [], ◌∷◌, Bool, true, false, if◌then◌else◌, is_some, Option, Some, None, option_and_then, option_map}
 use Rattle.std.specs.List.{filter_map, flat_map}
 use Rattle.std.specs.Map.{lookup}
 use Rattle.std.specs.Option.{option_map_or, option_or}
@@ -8,8 +8,10 @@ use Rattle.ob_base.specs.declared.id.ModelNo.{ModelNo}
 use Rattle.ob_base.specs.declared.id.RecId.{RecId}
 use Rattle.ob_base.specs.declared.value.Value.{Value}
 use Rattle.ob_base.specs.declared.value.Value.TheVariants as value
-use Rattle.ob_orm.specs.RowValues.{is_stamp, valued}
+use Rattle.ob_orm.specs.Author.{is_stamp, stamp}
+use Rattle.ob_orm.specs.RowValues.{valued}
 use Rattle.ob_orm.specs.Write.{row_edits}
+use Rattle.ob_orm.specs.declared.author.Author.{Author}
 use Rattle.ob_schema.specs.Fields.{Column, plain_columns}
 use Rattle.ob_schema.specs.Models.{field_at, model_at}
 use Rattle.ob_schema.specs.Tables.{Tables, next_of}
@@ -71,10 +73,11 @@ pub record MadeRows : Type 0 where
   pub tables : Tables
   pub ids : List ℕ
 
-module _ (models : List ModelInfo) (now : ℤ) where
-  -- the value that a plain field gets in a row that is made or changed: the moment in a stamp, else what is given, else in a row that is made its default
+module _ (models : List ModelInfo) (by : Author) where
+  -- the value that a plain field gets in a row that is made or changed: what the author stamps, else what is given, else in a row that is made its default
   abbrev pub filled_value : Bool → Values → Column → Option Value
-  filled_value made given column = if is_stamp made column.1.name then Some (value.Moment now) else option_or (value_for given column.0) (if made then column.1.default else None)
+  filled_value made given column =
+      if is_stamp made column.1.name then Some (stamp by column.1.name) else option_or (value_for given column.0) (if made then column.1.default else None)
 
   -- the values of the plain fields that get one
   abbrev pub filled : Bool → ModelNo → Values → Values

@@ -1,11 +1,10 @@
--- The values that a call gives the plain fields of a row: what its object gives, defaults of a row that is made, and the moments of its making and its last change.
-use Rattle.std.specs.Prelude.{ℕ, ℤ, List, [], ◌∷◌, ◌++◌, codes, bytes_eq, if◌then◌else◌, Bool, true, ◌||◌, ◌&&◌, Option, Some, None, Result, Ok, Err}
+-- The values that a call gives the plain fields of a row: what its object gives, defaults of a row that is made, and the stamps of its author.
+use Rattle.std.specs.Prelude.{List, [], ◌∷◌, ◌++◌, codes, if◌then◌else◌, Bool, true, Option, Some, None, Result, Ok, Err}
 use Rattle.ob_base.specs.Chain.{◌>>=◌}
 use Rattle.ob_base.specs.declared.id.FieldNo.{FieldNo}
 use Rattle.ob_base.specs.declared.place.PathStep.{PathStep}
 use Rattle.ob_base.specs.declared.place.PathStep.TheVariants.{Key}
 use Rattle.ob_base.specs.declared.value.Value.{Value}
-use Rattle.ob_base.specs.declared.value.Value.TheVariants as value
 use Rattle.ob_codec.specs.JsonForm.{value_from}
 use Rattle.ob_codec.specs.declared.fault.CodecFault.{CodecFault}
 use Rattle.ob_codec.specs.declared.fault.CodecFault.TheVariants as codec
@@ -15,7 +14,9 @@ use Rattle.ob_schema.specs.declared.info.ModelInfo.{ModelInfo}
 use Rattle.serde_json.specs.Data.{Data, object, Members, no_members}
 use Rattle.serde_json.specs.Find.{get_member}
 use Rattle.ob_call.specs.Arguments.{Expected, Given}
+use Rattle.ob_orm.specs.Author.{is_stamp, stamp}
 use Rattle.ob_orm.specs.Values.{is_free, values_fault}
+use Rattle.ob_orm.specs.declared.author.Author.{Author}
 
 -- what calls expect of the values of a row: an object of values for these fields
 abbrev pub vals_expected : List FieldInfo → Expected
@@ -33,10 +34,6 @@ abbrev pub placed : List PathStep → Result Value CodecFault → Result Value (
 placed place (Ok v) = Ok v
 placed place (Err fault) = Err (place ++ place_of fault)
 
--- whether a call stamps a field with its moment: the last change of a row, and of one that is made its making too
-abbrev pub is_stamp : Bool → List ℕ → Bool
-is_stamp made name = made && bytes_eq name (codes "create_date") || bytes_eq name (codes "write_date")
-
 -- the value that a field is given at a place, its key; else in a row that is made its default, where it has one
 abbrev pub given_value : Bool → List PathStep → FieldInfo → Option Data → Result (Option Value) (List PathStep)
 given_value made place field None = Ok (if made then field.default else None)
@@ -46,9 +43,10 @@ given_value made place field (Some d) = placed place (value_from field.field_typ
 abbrev pub given_of : Members → FieldInfo → Option Data
 given_of members field = if is_free field then get_member field.name members else None
 
--- the value that a plain field gets, if any: the moment in a stamp, else what the object at a place gives
-abbrev pub row_value : Bool → ℤ → List PathStep → Members → FieldInfo → Result (Option Value) (List PathStep)
-row_value made now place members field = if is_stamp made field.name then Ok (Some (value.Moment now)) else given_value made (place ++ Key field.name ∷ []) field (given_of members field)
+-- the value that a plain field gets, if any: what the author stamps, else what the object at a place gives
+abbrev pub row_value : Bool → Author → List PathStep → Members → FieldInfo → Result (Option Value) (List PathStep)
+row_value made by place members field =
+    if is_stamp made field.name then Ok (Some (stamp by field.name)) else given_value made (place ++ Key field.name ∷ []) field (given_of members field)
 
 -- a value with the number of its field, where there is one
 abbrev pub valued : FieldNo → Option Value → List (FieldNo × Value)
@@ -56,10 +54,10 @@ valued field None = []
 valued field (Some v) = (field, v) ∷ []
 
 -- the values that these plain fields get, or the first place that is wrong, in byte order of the fields' names
-abbrev pub row_values : Bool → ℤ → List PathStep → Members → List Column → Result (List (FieldNo × Value)) (List PathStep)
-row_values made now place _ [] = Ok []
-row_values made now place members (column ∷ more) =
-    row_value made now place members column.1 >>= λ own. row_values made now place members more >>= λ row. Ok (valued (record { 0 = column.0 }) own ++ row)
+abbrev pub row_values : Bool → Author → List PathStep → Members → List Column → Result (List (FieldNo × Value)) (List PathStep)
+row_values made by place _ [] = Ok []
+row_values made by place members (column ∷ more) =
+    row_value made by place members column.1 >>= λ own. row_values made by place members more >>= λ row. Ok (valued (record { 0 = column.0 }) own ++ row)
 
 -- the members of an object; nothing else has any
 abbrev pub members_of : Data → Members
@@ -67,6 +65,6 @@ members_of (object members) = members
 members_of _ = no_members
 
 -- the values that an argument gives the plain fields of a row
-abbrev pub values_from : Bool → ModelInfo → ℤ → Option Given → Result (List (FieldNo × Value)) (List PathStep)
-values_from made info now (Some g) = row_values made now g.place (members_of g.json) (plain_columns info)
-values_from made info now None = Ok []
+abbrev pub values_from : Bool → ModelInfo → Author → Option Given → Result (List (FieldNo × Value)) (List PathStep)
+values_from made info by (Some g) = row_values made by g.place (members_of g.json) (plain_columns info)
+values_from made info by None = Ok []

@@ -1,5 +1,5 @@
 -- The machine's `write`: the same values for each of the named rows.
-use Rattle.std.specs.Prelude.{◌≡◌, ℕ, ℤ, List, [], ◌∷◌, codes, map, All, Contains, IsSome, true, false, Option, Some, Result, Ok, Err}
+use Rattle.std.specs.Prelude.{◌≡◌, ℕ, List, [], ◌∷◌, codes, map, All, Contains, IsSome, true, false, Option, Some, Result, Ok, Err}
 use Rattle.std.specs.List.{flat_map}
 use Rattle.ob_base.specs.Chain.{◌>>=◌}
 use Rattle.ob_base.specs.declared.id.FieldNo.{FieldNo}
@@ -21,7 +21,9 @@ use Rattle.ob_call.specs.Arguments.{Expected, Given, arguments_of}
 use Rattle.ob_call.specs.Called.{Called}
 use Rattle.ob_call.specs.Forms.{ids_fault}
 use Rattle.ob_call.specs.Ids.{IsLeastMissing, named_ids}
+use Rattle.ob_orm.specs.Author.{author_of}
 use Rattle.ob_orm.specs.RowValues.{vals_expected, values_from}
+use Rattle.ob_orm.specs.declared.author.Author.{Author}
 
 -- what a write expects of the ids of its rows
 abbrev pub ids_expected : Expected
@@ -37,13 +39,13 @@ pub record Change : Type 0 where
   pub values : List (FieldNo × Value)
 
 -- what the arguments ask for, or the first value that is wrong; the ids are given
-abbrev pub change_from : ModelInfo → ℤ → List (Option Given) → Result Change (List PathStep)
-change_from info now (Some ids ∷ vals ∷ gs) = values_from false info now vals >>= λ values. Ok (record { ids = named_ids ids.json; values = values })
-change_from info now _ = Ok (record { ids = []; values = [] })
+abbrev pub change_from : ModelInfo → Author → List (Option Given) → Result Change (List PathStep)
+change_from info by (Some ids ∷ vals ∷ gs) = values_from false info by vals >>= λ values. Ok (record { ids = named_ids ids.json; values = values })
+change_from info by _ = Ok (record { ids = []; values = [] })
 
 -- what a write asks for, or the first place that is wrong: of the arguments, then of the values
 abbrev pub change_of : Called → Result Change (List PathStep)
-change_of called = arguments_of (write_expects called.info.fields) called.args called.kw >>= change_from called.info called.now
+change_of called = arguments_of (write_expects called.info.fields) called.args called.kw >>= change_from called.info (author_of called)
 
 -- each value is set in a row
 abbrev pub row_edits : ModelNo → List (FieldNo × Value) → ℕ → List Edit

@@ -15,6 +15,7 @@ ghost use Rattle.ob_cache.specs.Standing.{IsAtRest, RestsAt, Stands};
 ghost use Rattle.ob_call.specs.Called.{called_by, result_view};
 ghost use Rattle.ob_codec.specs.CommandForms.{list_json, number_json};
 ghost use Rattle.ob_io.specs.Cause.{Rose};
+ghost use Rattle.ob_orm.specs.Author.{author_by};
 ghost use Rattle.ob_orm.specs.Create.{CreateCause, Creates, ids_told, values_of};
 ghost use Rattle.ob_orm.specs.CreateSteps.{BreaksField, IsBrokenBy};
 ghost use Rattle.ob_orm.specs.NewRows.{made_rows};
@@ -25,6 +26,7 @@ ghost use Rattle.ob_schema.specs.Tables.{Tables};
 pub(crate) mod given;
 mod rows;
 
+use crate::author::Author;
 use crate::creating::rows::{Rows, asked_rows};
 use crate::making::limits::settle_rows;
 use crate::making::next_ids::{Making, begun};
@@ -36,14 +38,15 @@ use ob_io::Keeper;
 use std::alloc::Global;
 
 /// Makes a row of the values that the object gives, or one of each object of the list, in its
-/// order, at the call's moment; a field that isn't given has its default, else it is unset, false,
-/// 0 or the empty list. Answers the row's id, or the list of the rows' ids; the engine is then
-/// settled with the rows, and not flushed. Of a model with parents each row has rows of these: one
-/// that no given id names is made before it, of what is given for its fields, and in another one
-/// what is given is set. Refused are arguments of another form, at their place, and what the tables
-/// with the rows break: then the engine rests as it did. No list of rows is given so far: the caller
-/// sees to it that rows of the model and of its parents may be made and changed (`is_creatable`),
-/// that the engine rests, and that the moment lies within the years 0001 to 9999.
+/// order, and stamps it with the caller and the call's moment; a field that isn't given has its
+/// default, else it is unset, false, 0 or the empty list. Answers the row's id, or the list of the
+/// rows' ids; the engine is then settled with the rows, and not flushed. Of a model with parents
+/// each row has rows of these: one that no given id names is made before it, of what is given for
+/// its fields, and in another one what is given is set; these are stamped too. Refused are arguments
+/// of another form, at their place, and what the tables with the rows break: then the engine rests
+/// as it did. No list of rows is given so far: the caller of this function sees to it that rows of
+/// the model and of its parents may be made and changed (`is_creatable`), that the engine rests, and
+/// that the moment lies within the years 0001 to 9999.
 pub fn create<K: Keeper, L: Ledger>(
     alloc: Global,
     engine: &mut Engine<'_, K>,
@@ -105,12 +108,12 @@ fn make_asked<K: Keeper, L: Ledger>(
     requires typed { All (All (IsTyped engine.old.held.models call.now.model)) (values_of rows) }
     requires rest { IsAtRest engine.old.held.models engine.old.held }
     ensures settled { IfOk result (λ json. (tables : Tables) → RestsAt (K.kept engine.old.keeper.now) engine.old.held tables
-        → let made = made_rows engine.old.held.models call.entry.now.now tables call.entry.now.model (values_of rows) in (view json ≡ ids_told rows made.ids)
+        → let made = made_rows engine.old.held.models (author_by call.entry.now) tables call.entry.now.model (values_of rows) in (view json ≡ ids_told rows made.ids)
         × Stands (K.kept engine.new.keeper.now) engine.new.held (settled_over engine.old.held.models tables made.tables)) }
     ensures refused { IfErr result (λ why. (tables : Tables) → RestsAt (K.kept engine.old.keeper.now) engine.old.held tables
         → RestsAt (K.kept engine.new.keeper.now) engine.new.held tables
         × Refuses (Rose (K.faults engine.old.keeper.now) (K.faults engine.new.keeper.now))
-        (IsBrokenBy engine.old.held.models (made_rows engine.old.held.models call.entry.now.now tables call.entry.now.model (values_of rows)).tables) why) }
+        (IsBrokenBy engine.old.held.models (made_rows engine.old.held.models (author_by call.entry.now) tables call.entry.now.model (values_of rows)).tables) why) }
     ensures causes { IfErr result (Refuses (Rose (K.faults engine.old.keeper.now) (K.faults engine.new.keeper.now)) (BreaksField engine.old.held.models)) }
     ensures rests { IsAtRest engine.old.held.models engine.new.held }
     ensures count { K.faults engine.old.keeper.now ≤ K.faults engine.new.keeper.now }
@@ -123,7 +126,10 @@ fn make_asked<K: Keeper, L: Ledger>(
     let maker = Maker {
         alloc,
         schema: engine.schema(),
-        now: call.now,
+        author: Author {
+            user: call.caller,
+            now: call.now,
+        },
     };
     let Ok(told) = told_rows(&maker, &mut making, call.model, rows) else {
         return Err(Refusal::NoMemory);
@@ -140,12 +146,12 @@ fn told_rows(
     rows: Rows,
 ) -> Result<Json, NoMemory>
     requires model { HasModel maker.now.schema.now model }
-    requires moment { IsMoment maker.now.now }
+    requires moment { IsMoment maker.now.author.now }
     requires typed { All (All (IsTyped maker.now.schema.now model)) (values_of rows) }
     requires ready { IsReady maker.now.schema.now making.old }
     ensures ready { OnOk result (IsReady maker.entry.now.schema.now making.new) }
     ensures made { IfOk result (λ json. (old : Tables) → HoldsNextIds maker.entry.now.schema.now old making.old
-        → let made = made_rows maker.entry.now.schema.now maker.entry.now.now (so_far maker.entry.now.schema.now old making.old) model (values_of rows) in
+        → let made = made_rows maker.entry.now.schema.now maker.entry.now.author (so_far maker.entry.now.schema.now old making.old) model (values_of rows) in
         (so_far maker.entry.now.schema.now old making.new ≡ made.tables) × (view json ≡ ids_told rows made.ids)) }
     ensures plain { IfOk result (λ json. has_float (view json) ≡ false) }
 {

@@ -22,6 +22,7 @@ mod forbidding;
 mod owners;
 mod placing;
 
+use crate::author::{Author, SYSTEM};
 use crate::installing::forbidding::forbidden;
 use crate::installing::owners::owner;
 use crate::installing::placing::{Placed, place_rows};
@@ -82,9 +83,9 @@ fn begins_anew<K: Keeper>(engine: &mut Engine<'_, K>, model: ModelNo) -> Result<
     Ok(engine.next_id(model)? == 1)
 }
 
-/// Makes the rows that modules bring, at a moment, one behind another, each with those of its
-/// parents that it doesn't name; keeps them in one commit. Where something is wrong with one, or the
-/// keeper fails, nothing is made, and the engine rests as it did. The caller sees to it that the
+/// Makes the rows that modules bring, as user 1 at a moment, one behind another, each with those of
+/// its parents that it doesn't name; keeps them in one commit. Where something is wrong with one, or
+/// the keeper fails, nothing is made, and the engine rests as it did. The caller sees to it that the
 /// engine rests, has no row and only next ids 1 (`is_new`), and that the moment lies within the years
 /// 0001 to 9999.
 pub fn install<K: Keeper, L: Ledger>(
@@ -138,9 +139,11 @@ fn settle_preset<K: Keeper, L: Ledger>(
         → let new = (installed engine.old.held.models now rows.now).tables in IsInstalled engine.old.held.models now rows.now new
         × Stands (K.kept engine.new.keeper.now) engine.new.held (settled_over engine.old.held.models tables new)) }
     ensures refused { IfErr result (λ why. (tables : Tables) → RestsAt (K.kept engine.old.keeper.now) engine.old.held tables
-        → RefusesRows (Rose (K.faults engine.old.keeper.now) (K.faults engine.new.keeper.now)) (IsRefused engine.old.held.models (course engine.old.held.models now rows.now)) why
+        → RefusesRows (Rose (K.faults engine.old.keeper.now) (K.faults engine.new.keeper.now))
+        (IsRefused engine.old.held.models (course engine.old.held.models now rows.now)) why
         × RestsAt (K.kept engine.new.keeper.now) engine.new.held tables) }
-    ensures causes { IfErr result (RefusesRows (Rose (K.faults engine.old.keeper.now) (K.faults engine.new.keeper.now)) (NamesRow engine.old.held.models rows.now)) }
+    ensures causes { IfErr result (RefusesRows (Rose (K.faults engine.old.keeper.now) (K.faults engine.new.keeper.now))
+        (NamesRow engine.old.held.models rows.now)) }
     ensures rests { IsAtRest engine.old.held.models engine.new.held }
     ensures count { K.faults engine.old.keeper.now ≤ K.faults engine.new.keeper.now }
     ensures ticks { (n : ℕ) × (steps.new ≡ ticked_times n L.noted steps.old) }
@@ -151,7 +154,7 @@ fn settle_preset<K: Keeper, L: Ledger>(
     let maker = Maker {
         alloc,
         schema: engine.schema(),
-        now,
+        author: Author { user: SYSTEM, now },
     };
     let Ok(placed) = place_rows(&maker, making, rows) else {
         return Err(InstallFault::NoMemory);

@@ -1,18 +1,22 @@
 //! The calls that change rows, over an engine of kept rows. So far `create`, `write` and `unlink`,
 //! and beside them `fields_get`, which tells what fields a model has. Each is the machine's: its
-//! answer is the one that the tables of plain values define.
+//! answer is the one that the tables of plain values define. What makes rows without being called
+//! is `install`: the rows that modules bring, in a store where no row was ever made.
 //!
 //! Rooms: `creating`, `writing` and `unlinking`, with `values` (the form of an object of values),
 //! `objects` (of one, or of a list of them), `row_values` (the values that one gives a row that is
-//! changed), `making` (how rows are made of given values, with rows of their parents), `there`
-//! (which rows are there), `settled` (values as they were settled last), `locking` (which rows are
-//! locked), `ids` (the cell `id` of a row) and `settling` (how edits are settled); `fields` (what
-//! fields a model has); `refusal_texts` (how refusals and cells are told), `creatable` (of which
-//! models a create makes rows and a write changes them), and `fault` (faults of the engine as
-//! refusals). How arguments are read stands in the crate `ob_call`, and what only reads in
-//! `ob_query`. The definitions stand in specs/.
+//! changed), `making` (how rows are made of given values, with rows of their parents), `author` (who
+//! makes or changes rows and when, and what that stamps in them), `there` (which rows are there),
+//! `settled` (values as they were settled last), `locking` (which rows are locked), `ids` (the cell
+//! `id` of a row) and `settling` (how edits are settled); `fields` (what fields a model has);
+//! `installing` (how the rows that modules bring are placed and made, and what they may not do);
+//! `refusal_texts` (how refusals and cells are told), `creatable` (of which models a create makes
+//! rows and a write changes them), and `fault` (faults of the engine as refusals). How arguments are
+//! read stands in the crate `ob_call`, and what only reads in `ob_query`. The definitions stand in
+//! specs/.
 #![tactic(auto)]
 
+mod author;
 mod creatable;
 mod creating;
 mod fault;

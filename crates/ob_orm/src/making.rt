@@ -21,6 +21,7 @@ pub(crate) mod limits;
 pub(crate) mod next_ids;
 pub(crate) mod parents;
 
+use crate::author::Author;
 use crate::making::filling::filled;
 use crate::making::next_ids::{Making, take_id};
 use crate::making::parents::{make_parents, parent_changes};
@@ -29,12 +30,12 @@ use ob_schema::Schema;
 use ob_tables::Edit;
 use std::alloc::Global;
 
-/// What rows are made with: the registry, the moment of the call, and memory.
+/// What rows are made with: the registry, who makes them and when, and memory.
 #[derive(Clone, Copy)]
 pub(crate) struct Maker<'s> {
     pub(crate) alloc: Global,
     pub(crate) schema: &'s Schema,
-    pub(crate) now: i64,
+    pub(crate) author: Author,
 }
 
 /// Makes rows of given values one behind another, and answers their ids.
@@ -45,13 +46,13 @@ pub(crate) fn make_rows(
     each: Vec<Sequence<(FieldNo, Value)>>,
 ) -> Result<Vec<RecId>, NoMemory>
     requires model { HasModel maker.now.schema.now model }
-    requires moment { IsMoment maker.now.now }
+    requires moment { IsMoment maker.now.author.now }
     requires typed { All (All (IsTyped maker.now.schema.now model)) each.items }
     requires ready { IsReady maker.now.schema.now making.old }
     ensures ready { OnOk result (IsReady maker.entry.now.schema.now making.new) }
     ensures made { IfOk result (λ ids. (old : Tables) → HoldsNextIds maker.entry.now.schema.now old making.old
-        → (so_far maker.entry.now.schema.now old making.new ≡ (made_rows maker.entry.now.schema.now maker.entry.now.now (so_far maker.entry.now.schema.now old making.old) model each.items).tables)
-        × (map (λ id. id.0) ids.items ≡ (made_rows maker.entry.now.schema.now maker.entry.now.now (so_far maker.entry.now.schema.now old making.old) model each.items).ids)
+        → (so_far maker.entry.now.schema.now old making.new ≡ (made_rows maker.entry.now.schema.now maker.entry.now.author (so_far maker.entry.now.schema.now old making.old) model each.items).tables)
+        × (map (λ id. id.0) ids.items ≡ (made_rows maker.entry.now.schema.now maker.entry.now.author (so_far maker.entry.now.schema.now old making.old) model each.items).ids)
         × HoldsNextIds maker.entry.now.schema.now old making.new) }
 {
     let mut ids = Vec::new(maker.alloc);
@@ -70,15 +71,15 @@ pub(crate) fn make_row(
     given: Vec<(FieldNo, Value)>,
 ) -> Result<RecId, NoMemory>
     requires model { HasModel maker.now.schema.now model }
-    requires moment { IsMoment maker.now.now }
+    requires moment { IsMoment maker.now.author.now }
     requires typed { All (IsTyped maker.now.schema.now model) given.items }
     requires ready { IsReady maker.now.schema.now making.old }
     ensures low { IfOk result IsFitId }
     ensures adds { OnOk result (AddsEdits making.old making.new) }
     ensures ready { OnOk result (IsReady maker.entry.now.schema.now making.new) }
     ensures made { IfOk result (λ id. (old : Tables) → HoldsNextIds maker.entry.now.schema.now old making.old
-        → (so_far maker.entry.now.schema.now old making.new ≡ (made_row maker.entry.now.schema.now maker.entry.now.now (so_far maker.entry.now.schema.now old making.old) model given.items).tables)
-        × (id.0 ≡ (made_row maker.entry.now.schema.now maker.entry.now.now (so_far maker.entry.now.schema.now old making.old) model given.items).id)
+        → (so_far maker.entry.now.schema.now old making.new ≡ (made_row maker.entry.now.schema.now maker.entry.now.author (so_far maker.entry.now.schema.now old making.old) model given.items).tables)
+        × (id.0 ≡ (made_row maker.entry.now.schema.now maker.entry.now.author (so_far maker.entry.now.schema.now old making.old) model given.items).id)
         × HoldsNextIds maker.entry.now.schema.now old making.new) }
 {
     let mut given = given;
@@ -97,14 +98,15 @@ pub(crate) fn make_one(
     given: &[(FieldNo, Value)],
 ) -> Result<RecId, NoMemory>
     requires model { HasModel maker.now.schema.now model }
-    requires moment { IsMoment maker.now.now }
+    requires moment { IsMoment maker.now.author.now }
     requires typed { All (IsTyped maker.now.schema.now model) given.now }
     requires ready { IsReady maker.now.schema.now making.old }
     ensures low { IfOk result IsFitId }
     ensures adds { OnOk result (AddsEdits making.old making.new) }
     ensures ready { OnOk result (IsReady maker.entry.now.schema.now making.new) }
     ensures made { IfOk result (λ id. (old : Tables) → HoldsNextIds maker.entry.now.schema.now old making.old
-        → (so_far maker.entry.now.schema.now old making.new ≡ edited maker.entry.now.schema.now (so_far maker.entry.now.schema.now old making.old) (spec.making maker.entry.now.schema.now maker.entry.now.now (so_far maker.entry.now.schema.now old making.old) model given.now))
+        → (so_far maker.entry.now.schema.now old making.new ≡ edited maker.entry.now.schema.now (so_far maker.entry.now.schema.now old making.old)
+        (spec.making maker.entry.now.schema.now maker.entry.now.author (so_far maker.entry.now.schema.now old making.old) model given.now))
         × (id.0 ≡ next_of (so_far maker.entry.now.schema.now old making.old) model)
         × HoldsNextIds maker.entry.now.schema.now old making.new) }
 {

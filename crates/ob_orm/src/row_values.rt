@@ -1,19 +1,19 @@
-//! The values that a call gives the plain fields of a row: what its object gives, the moment of
-//! the call in its stamps, and in a row that is made also defaults, each with the number of its
-//! field. A field that gets none of these isn't named: a row that is made has there what the
-//! tables know, and another one keeps what it has.
+//! The values that a call gives the plain fields of a row: what its object gives, what its author
+//! stamps, and in a row that is made also defaults, each with the number of its field. A field that
+//! gets none of these isn't named: a row that is made has there what the tables know, and another
+//! one keeps what it has.
 
 ghost use Rattle.std.specs.Prelude.{◌≡◌, ◌∷◌, ◌++◌, [], IfOk, IfSome, None, OnOk, Some, false, if◌then◌else◌, option_map};
 ghost use Rattle.serde_json.specs.View.{members_view, view};
 ghost use Rattle.ob_base.specs.Times.{IsMoment};
 ghost use Rattle.ob_base.specs.declared.place.PathStep.TheVariants.{Key};
 ghost use Rattle.ob_codec.specs.JsonForm.{value_from};
-ghost use Rattle.ob_schema.specs.Fields.{Holds, plain_columns};
+ghost use Rattle.ob_schema.specs.Fields.{HasFieldType, Holds, plain_columns};
 ghost use Rattle.ob_schema.specs.Models.{HasField, HasModel, field_at, model_at};
 ghost use Rattle.ob_definition.specs.Types.{is_list};
 ghost use Rattle.ob_orm.specs.ObjectSteps.{object_place};
 ghost use Rattle.ob_orm.specs.RowValues as spec;
-ghost use Rattle.ob_orm.specs.RowValues.{is_stamp, placed, row_value, row_values, vals_expected, valued, values_from};
+ghost use Rattle.ob_orm.specs.RowValues.{placed, row_value, row_values, vals_expected, valued, values_from};
 ghost use Rattle.ob_orm.specs.Values.{values_fault};
 ghost use Rattle.ob_orm.specs.CreateSteps.{IsFaultAt, IsMakeable};
 ghost use Rattle.ob_call.specs.Arguments.{IsFit};
@@ -22,6 +22,7 @@ ghost use Rattle.ob_call.specs.Forms.{fields_at};
 ghost use Rattle.ob_call.specs.Results.{IsResultOf};
 ghost use Rattle.ob_tables.specs.Fitting.{AreFitIn};
 
+use crate::author::{Author, is_stamp, stamp};
 use crate::objects::ObjectSpot;
 use crate::values::is_free;
 use ob_base::{FieldNo, ModelNo, NoMemory, Refusal, Sequence, Value};
@@ -31,53 +32,53 @@ use ob_schema::{FieldInfo, Schema};
 use serde_json::Map;
 use std::alloc::Global;
 
-/// What a call gives a row, made or changed: its moment, and values by name.
+/// What a call gives a row, made or changed: its author, and values by name.
 #[derive(Drop)]
 struct RowValues<'a> {
     made: bool,
-    now: i64,
+    author: Author,
     object: ObjectSpot<'a>,
     members: &'a Map<String, Json>,
 }
 
-/// The values that an argument gives the plain fields of a row, made or changed at a moment.
+/// The values that an argument gives the plain fields of a row, made or changed by its author.
 pub(crate) fn given_values(
     alloc: Global,
     schema: &Schema,
     model: ModelNo,
     made: bool,
-    now: i64,
+    author: Author,
     given: &Option<Given<'_>>,
 ) -> Result<Sequence<(FieldNo, Value)>, Refusal>
     requires model { HasModel schema.now model }
-    requires moment { IsMoment now }
+    requires moment { IsMoment author.now }
     requires given { IsFit (vals_expected (fields_at schema.now model)) (option_map given_of given.now) }
     ensures value { IfSome (model_at schema.now model)
-        (λ info. IsResultOf (λ values. values) result (values_from made info now (option_map given_of given.now))) }
+        (λ info. IsResultOf (λ values. values) result (values_from made info author (option_map given_of given.now))) }
     ensures fit { IfOk result (AreFitIn schema.now model) }
 {
     let Some(values) = given else {
         unreachable!();
     };
     let object = ObjectSpot::Argument(values.spot);
-    object_values(alloc, schema, model, made, now, object, values.json)
+    object_values(alloc, schema, model, made, author, object, values.json)
 }
 
-/// The values that an object gives the plain fields of a row, made or changed at a moment.
+/// The values that an object gives the plain fields of a row, made or changed by its author.
 pub(crate) fn object_values(
     alloc: Global,
     schema: &Schema,
     model: ModelNo,
     made: bool,
-    now: i64,
+    author: Author,
     object: ObjectSpot<'_>,
     json: &Json,
 ) -> Result<Sequence<(FieldNo, Value)>, Refusal>
     requires model { HasModel schema.now model }
-    requires moment { IsMoment now }
+    requires moment { IsMoment author.now }
     requires form { values_fault (fields_at schema.now model) (view json.now) ≡ None }
     ensures value { IfSome (model_at schema.now model) (λ info. IsResultOf (λ values. values) result
-        (values_from made info now (Some (record { place = object_place object.entry; json = view json.now })))) }
+        (values_from made info author (Some (record { place = object_place object.entry; json = view json.now })))) }
     ensures fit { IfOk result (AreFitIn schema.now model) }
 {
     let Some(members) = json.as_object() else {
@@ -85,7 +86,7 @@ pub(crate) fn object_values(
     };
     let row = RowValues {
         made,
-        now,
+        author,
         object,
         members,
     };
@@ -100,10 +101,10 @@ fn all_values(
     row: &RowValues<'_>,
 ) -> Result<Sequence<(FieldNo, Value)>, Refusal>
     requires model { HasModel schema.now model }
-    requires moment { IsMoment row.now.now }
+    requires moment { IsMoment row.now.author.now }
     ensures value { IfSome (model_at schema.now model)
         (λ info. IsResultOf (λ values. values) result
-        (row_values row.entry.now.made row.entry.now.now (object_place row.entry.now.object)
+        (row_values row.entry.now.made row.entry.now.author (object_place row.entry.now.object)
         (members_view row.entry.now.members.now.entries) (plain_columns info))) }
     ensures fit { IfOk result (AreFitIn schema.now model) }
 {
@@ -144,18 +145,17 @@ fn row_value(
     row: &RowValues<'_>,
 ) -> Result<Option<Value>, Refusal>
     requires field { HasField schema.now model number }
-    requires givable { IfSome (field_at schema.now model number) IsMakeable }
-    requires moment { IsMoment row.now.now }
+    requires makeable { IfSome (field_at schema.now model number) IsMakeable }
+    requires moment { IsMoment row.now.author.now }
     ensures value { IfSome (field_at schema.now model number)
-        (λ field. IsResultOf (λ value. value) result (row_value row.entry.now.made row.entry.now.now (object_place row.entry.now.object)
+        (λ field. IsResultOf (λ value. value) result (row_value row.entry.now.made row.entry.now.author (object_place row.entry.now.object)
         (members_view row.entry.now.members.now.entries) field)) }
-    ensures holds { IfOk result (λ value. IfSome (field_at schema.now model number)
-        (λ field. IfSome value (Holds field))) }
+    ensures typed { IfOk result (λ value. IfSome value (HasFieldType (field_at schema.now model number))) }
 {
     let field = schema.info(model, number);
     let name = field.name.as_str();
     if is_stamp(row.made, name) {
-        return Ok(Some(Value::Moment(row.now)));
+        return Ok(Some(stamp(row.author, name)));
     }
     match given_of(field, row.members) {
         Some(json) => {
@@ -179,14 +179,6 @@ fn given_of<'j>(field: &FieldInfo, members: &'j Map<String, Json>) -> Option<&'j
     } else {
         None
     }
-}
-
-/// Whether a call stamps a field: the moment of the last change, and of a row that is made that of
-/// its making too.
-pub(crate) fn is_stamp(made: bool, name: &str) -> bool
-    ensures { result ≡ is_stamp made name.now }
-{
-    (made && name == "create_date") || name == "write_date"
 }
 
 /// The value that JSON gives a field.

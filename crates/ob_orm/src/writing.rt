@@ -34,13 +34,14 @@ use ob_io::Keeper;
 use ob_tables::Edit;
 use std::alloc::Global;
 
-/// Sets the values that the object gives in each of the named rows, at the call's moment; a field
-/// that isn't given keeps its value. Answers true; the engine is then settled with the change, and
-/// not flushed. Refused are arguments of another form, at their place, ids that no row has, the
-/// least of which is named, and what the tables with the change break: then the engine rests as it
-/// did. No list of rows is given so far, nor a field of a parent's row, no field is `fixed` and no
-/// row locked: the caller sees to it that the model has none of these (`is_writable`), that the
-/// engine rests, and that the moment lies within the years 0001 to 9999.
+/// Sets the values that the object gives in each of the named rows, and stamps each with the caller
+/// and the call's moment; another field keeps its value. Answers true; the engine is then settled
+/// with the change, and not flushed. Refused are arguments of another form, at their place, ids that
+/// no row has, the least of which is named, and what the tables with the change break: then the
+/// engine rests as it did. No list of rows is given so far, nor a field of a parent's row, no field
+/// is `fixed` and no row locked: the caller of this function sees to it that the model has none of
+/// these (`is_writable`), that the engine rests, and that the moment lies within the years 0001 to
+/// 9999.
 pub fn write<K: Keeper, L: Ledger>(
     alloc: Global,
     engine: &mut Engine<'_, K>,

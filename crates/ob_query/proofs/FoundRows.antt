@@ -6,6 +6,7 @@ use Rattle.std.proofs.lemmas.List.Kept.{IsStrictlySortedBy-filter}
 use Rattle.std.proofs.lemmas.List.Sorted.{IsPermutation-refl}
 use Rattle.ob_base.specs.Limits.{max_id}
 use Rattle.ob_base.specs.declared.id.FieldNo.{FieldNo}
+use Rattle.ob_base.specs.declared.id.ModelNo.{ModelNo}
 use Rattle.ob_base.specs.declared.id.RecId.{RecId}
 use Rattle.ob_base.specs.declared.value.Value.{Value}
 use Rattle.ob_query.proofs.SearchedIds.{all-above, all-there, few-rows}
@@ -35,11 +36,16 @@ begins_ahead walk ids page last =
       none zero xs = refl
       none (suc n) xs = refl
 
+-- so to all rows of a model
+pub begins_walk : (models : List ModelInfo) → IsRegistry models → (tables : Tables) → AreSound models tables → (model : ModelNo) → HasModel models model → (walk : Walk) → walk.page ≡ [] → walk.last ≡ record { 0 = 0 }
+    → ahead walk (ids_in tables model) ≡ ids_in tables model
+begins_walk models registry tables sound model there walk page last = begins_ahead walk (ids_in tables model) page last ∙ all-above models registry tables sound model there
+
 module _ (models : List ModelInfo) (registry : IsRegistry models) (tables : Tables) (sound : AreSound models tables) (sought : Sought) (there : HasModel models sought.model) where
-  -- so to all rows that are found
+  -- and to all that are found
   pub begins_found : (walk : Walk) → walk.page ≡ [] → walk.last ≡ record { 0 = 0 } → found_ahead models tables sought walk ≡ found_by models tables sought
   begins_found walk page last =
-      ap (filter (is_known_found (told_by models tables) sought)) (begins_ahead walk (ids_in tables sought.model) page last ∙ all-above models registry tables sound sought.model there)
+      ap (filter (is_known_found (told_by models tables) sought)) (begins_walk models registry tables sound sought.model there walk page last)
       ∙ all-pass (λ id. is_some (row_at tables sought.model id)) (is_found (told_by models tables) sought.user sought.model (sought_view sought)) (ids_in tables sought.model) (all-there tables sought.model)
 
   -- they are few

@@ -22,3 +22,4 @@ pub mod ToldGroups
 pub mod HeldTexts
 pub mod GroupsAsked
 pub mod GroupsAnswers
+pub mod CallerLemmas

@@ -5,8 +5,8 @@
 //!
 //! Rooms: `reading` and `searching`, each with rooms of its own for the forms of its arguments,
 //! what is asked for and how rows are found; and `told_rows`, how rows are told by both. A further
-//! call is a room beside them, with its relation in specs/. How arguments are read stands in the
-//! crate `ob_call`.
+//! call is a room beside them, with its relation in specs/. `Walk` goes over the rows of a model for
+//! whoever asks of them all. How arguments are read stands in the crate `ob_call`.
 #![tactic(auto)]
 
 mod grouping;
@@ -16,4 +16,4 @@ mod told_rows;
 
 pub use grouping::read_group;
 pub use reading::read;
-pub use searching::{search, search_count, search_read};
+pub use searching::{Walk, search, search_count, search_read};

@@ -34,6 +34,7 @@ use crate::searching::forms::{count_parameters, search_parameters, search_read_p
 use crate::searching::found::{count_found, sought_ids};
 use crate::searching::objects::objects_told;
 use crate::searching::sought::{Arguments, Sought, SoughtObjects, objects_by, sought_by};
+pub use crate::searching::walk::Walk;
 use ob_base::{Ledger, NoMemory, RecId, Refusal, Steps};
 use ob_cache::Engine;
 use ob_call::{Call, Json, arguments_of};

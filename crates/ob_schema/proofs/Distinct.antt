@@ -1,9 +1,9 @@
 -- Each name is that of one field of a model: an automatic one, a declared one, the path, a link, or one that a parent delegates.
-use Rattle.std.proofs.Common.{◌≡◌, ◌≢◌, ℕ, zero, suc, ◌+◌, ◌<◌, ◌≤◌, ◌||◌, Bool, true, false, cond, is_some, Some, List, [], ◌∷◌, ◌++◌, map, length, get_or, refl, sym, ap, ◌∙◌, arith}
+use Rattle.std.proofs.Common.{◌≡◌, ◌≢◌, ℕ, zero, suc, ◌+◌, ◌<◌, ◌≤◌, ◌||◌, ◌&&◌, Bool, true, false, cond, not, is_some, Some, List, [], ◌∷◌, ◌++◌, map, length, get_or, refl, sym, ap, ◌∙◌, arith}
 use Rattle.std.specs.Prelude.{codes, count_by}
 use Rattle.std.specs.List.{AllPairs, filter, list_any}
 use Rattle.std.specs.Str.{bytes_eq}
-use Rattle.std.proofs.lemmas.Bool.{false_from_ne_true, false≢true, or_parts, or_right}
+use Rattle.std.proofs.lemmas.Bool.{and_parts, false_from_ne_true, false≢true, not-true, or_parts, or_right}
 use Rattle.std.proofs.lemmas.List.Sums.{sum_by-append}
 use Rattle.std.proofs.lemmas.Slice.Eq.{bytes_eq-Decides}
 use Rattle.ob_definition.specs.Definitions.{is_automatic, is_one_of}
@@ -132,34 +132,34 @@ times_taken x (m ∷ ms) some = taken_step x m ms (has x m) refl (times_taken x 
 
 -- ---- the automatic fields
 
-pub automatic_count : (n : ℕ) (x : List ℕ) → times x (map (own_member n) automatic_defs) ≤ 1
-automatic_count n x =
-    three (bytes_eq (codes "create_date") x) (bytes_eq (codes "id") x) (bytes_eq (codes "write_date") x) (λ a b. apart (codes "create_date") (codes "id") a b (λ e. cc))
-    (λ a b. apart (codes "create_date") (codes "write_date") a b (λ e. cc)) (λ a b. apart (codes "id") (codes "write_date") a b (λ e. cc))
-  where
-    apart : (m n : List ℕ) → bytes_eq m x ≡ true → bytes_eq n x ≡ true → (m ≡ n → ⊥) → ⊥
-    apart m n a b other = other ((bytes_eq-Decides m x).0 a ∙ sym ((bytes_eq-Decides n x).0 b))
+-- no name stands among these twice
+abbrev are_apart : List (List ℕ) → Bool
+are_apart [] = true
+are_apart (name ∷ more) = not (is_one_of more name) && are_apart more
 
-    three : (a b c : Bool) → (a ≡ true → b ≡ true → ⊥) → (a ≡ true → c ≡ true → ⊥) → (b ≡ true → c ≡ true → ⊥) → 0 + cond a 1 0 + cond b 1 0 + cond c 1 0 ≤ 1
-    three true true c ab ac bc = absurd (ab refl refl)
-    three true false true ab ac bc = absurd (ac refl refl)
-    three true false false ab ac bc = omega arith
-    three false true true ab ac bc = absurd (bc refl refl)
-    three false true false ab ac bc = omega arith
-    three false false true ab ac bc = omega arith
-    three false false false ab ac bc = omega arith
+once_step : (x : List ℕ) (m : Member) (ms : List Member) (b : Bool) → has x m ≡ b → is_one_of (names_of ms) m.def.name ≡ false → times x ms ≤ 1 → times x (m ∷ ms) ≤ 1
+once_step x m ms true e free few =
+    let alone : times x ms ≡ 0 = none (times x ms) refl in
+    let a = count-cons (has x) m ms in
+    let n = one_if (has x m) e in
+    omega arith
+  where
+    same : m.def.name ≡ x
+    same = (bytes_eq-Decides m.def.name x).0 e
+
+    none : (n : ℕ) → times x ms ≡ n → n ≡ 0
+    none zero is = refl
+    none (suc n) is = absurd (false≢true (sym free ∙ ap (is_one_of (names_of ms)) same ∙ times_taken x ms (omega arith)))
+once_step x m ms false e free few = let a = count-cons (has x) m ms in let n = none_if (has x m) e in omega arith
+
+times_once : (x : List ℕ) (ms : List Member) → are_apart (names_of ms) ≡ true → times x ms ≤ 1
+times_once x [] apart = let none : times x [] ≡ 0 = refl in omega arith
+times_once x (m ∷ ms) apart =
+    let parts = and_parts (not (is_one_of (names_of ms) m.def.name)) (are_apart (names_of ms)) apart in
+    once_step x m ms (has x m) refl (not-true (is_one_of (names_of ms) m.def.name) parts.0) (times_once x ms parts.1)
+
+pub automatic_count : (n : ℕ) (x : List ℕ) → times x (map (own_member n) automatic_defs) ≤ 1
+automatic_count n x = times_once x (map (own_member n) automatic_defs) refl
 
 pub automatic_counted : (n : ℕ) (x : List ℕ) → 0 < times x (map (own_member n) automatic_defs) → is_automatic x ≡ true
-automatic_counted n x some = by (bytes_eq (codes "create_date") x) (bytes_eq (codes "id") x) (bytes_eq (codes "write_date") x) refl refl refl some
-  where
-    or_true : (t : Bool) → t || true ≡ true
-    or_true true = refl
-    or_true false = refl
-
-    by : (a b c : Bool) → bytes_eq (codes "create_date") x ≡ a → bytes_eq (codes "id") x ≡ b → bytes_eq (codes "write_date") x ≡ c → 0 < 0 + cond a 1 0 + cond b 1 0 + cond c 1 0 → is_automatic x ≡ true
-    by true b c e f g h = ap (λ (t : Bool). t || (bytes_eq x (codes "id") || (bytes_eq x (codes "write_date") || false))) (bytes_eq-flip (codes "create_date") x e)
-    by false true c e f g h = ap (λ (t : Bool). bytes_eq x (codes "create_date") || (t || (bytes_eq x (codes "write_date") || false))) (bytes_eq-flip (codes "id") x f) ∙ or_true (bytes_eq x (codes "create_date"))
-    by false false true e f g h =
-        ap (λ (t : Bool). bytes_eq x (codes "create_date") || (bytes_eq x (codes "id") || (t || false))) (bytes_eq-flip (codes "write_date") x g)
-        ∙ ap (λ (t : Bool). bytes_eq x (codes "create_date") || t) (or_true (bytes_eq x (codes "id"))) ∙ or_true (bytes_eq x (codes "create_date"))
-    by false false false e f g h = absurd (omega arith)
+automatic_counted n x some = times_taken x (map (own_member n) automatic_defs) some

@@ -1,5 +1,5 @@
 -- Each field of the registry is right: what it leads to is there, what mirrors leads back, and its value comes from where it may.
-use Rattle.std.proofs.Common.{◌≡◌, ◌⊎◌, ◌&&◌, ◌||◌, ℕ, Bool, true, false, cond, not, is_some, Option, Some, None, option_map, List, [], ◌∷◌, get_or, map, inl, inr, refl, sym, ap, subst, ◌∙◌, arith}
+use Rattle.std.proofs.Common.{◌≡◌, ◌⊎◌, ◌&&◌, ◌||◌, ℕ, Bool, true, false, cond, not, is_none, is_some, Option, Some, None, option_map, List, [], ◌∷◌, get_or, map, inl, inr, refl, sym, ap, subst, ◌∙◌, arith}
 use Rattle.std.specs.Prelude.{All, Any, Contains, IfSome, IsSome, IsSomeAnd, codes, option_and_then, slice_get, unwrap_or}
 use Rattle.std.specs.List.{AllZip, position_or_len}
 use Rattle.std.specs.Str.{bytes_eq}
@@ -22,7 +22,7 @@ use Rattle.ob_definition.specs.Definitions.{is_automatic, is_computed, is_set, p
 use Rattle.ob_definition.specs.Gathered.{Gathered, model_of}
 use Rattle.ob_definition.specs.Keys.{is_many2many, is_many2one}
 use Rattle.ob_definition.specs.Members.{Member, Role, delegated, hidden, automatic_defs, check_member, check_members, check_name, condition_def, hidden_member, hidden_members, is_delegated, is_own, is_own_computed}
-use Rattle.ob_definition.specs.Members.{links_of, locked_members, members_of, model_at, model_number, moment_def, named, number_of, own_members}
+use Rattle.ob_definition.specs.Members.{links_of, locked_members, members_of, model_at, model_number, moment_def, named, number_of, own_members, user_def, users_name}
 use Rattle.ob_definition.specs.Types.{is_one2many, is_relation}
 use Rattle.ob_definition.specs.Values.{IsNative, IsValueOf}
 use Rattle.ob_schema.specs.declared.info.Delegation.{Delegation}
@@ -34,10 +34,10 @@ use Rattle.ob_schema.specs.declared.info.Origin.TheVariants as origin
 use Rattle.ob_schema.specs.declared.info.ParentInfo.{ParentInfo}
 use Rattle.ob_schema.specs.Built.{IsDelegation, IsFieldOf, IsModelOf, IsOrigin, back_number}
 use Rattle.ob_schema.specs.Faults.{HasUnknownBack, HasWrongBack, LeadsBack as LeadsBackTo, is_plain}
-use Rattle.ob_schema.specs.Fields.{Holds, has_value_of, is_plain_from}
+use Rattle.ob_schema.specs.Fields.{Holds, has_value_of, is_own as stands_own, is_plain_from}
 use Rattle.ob_schema.specs.Finds.{relation_of}
 use Rattle.ob_schema.specs.Formulas.{Place}
-use Rattle.ob_schema.specs.Models.{FieldHas, HasKeysOf, HasModel, IsField, IsFormulaIn, IsOriginIn, IsPlainTo, LeadsBack, field_at, is_computed_from, is_given_from, is_id_from, is_moment, model_at as info_at}
+use Rattle.ob_schema.specs.Models.{FieldHas, HasKeysOf, HasModel, IsField, IsFormulaIn, IsOriginIn, IsPlainTo, IsUserField, LeadsBack, field_at, is_computed_from, is_given_from, is_id_from, is_moment, is_user, model_at as info_at, model_named}
 use Rattle.ob_schema.specs.Paths.{has_value, step_at}
 use Rattle.ob_schema.specs.RegistryOf.{HasFieldInfo, IsFieldFrom, IsRegistryOf}
 use Rattle.ob_schema.specs.Strata.IsMember.{by_name}
@@ -54,6 +54,7 @@ use Rattle.ob_schema.proofs.Resolved.{right_field}
 use Rattle.ob_schema.proofs.Sourced.{FitsRelation, IsSourced, fits_relation, sourced, sourced_fits, sourced_relation}
 use Rattle.ob_schema.proofs.Stable.{stable_model, stable_none, stable_true}
 use Rattle.ob_schema.proofs.TargetModels.{relation-there}
+use Rattle.ob_schema.proofs.UnkeptFields.{IsUnkept, hidden_unkept}
 
 -- ---- plain fields
 
@@ -86,27 +87,6 @@ plain_among models g m (inl here) plain = elim (member_cases models g m here) [
   | inl mine ↦ mine
   | inr through ↦ absurd (false≢true (sym (ap is_own through.2) ∙ (plain_parts m plain).0))
 ]
-
--- a condition has its check's name or `locked`, no automatic field's, is a Boolean and isn't kept
-abbrev pub IsUnkept : Member → Type 0
-IsUnkept m =
-    (is_automatic m.def.name ≡ false) × (m.def.field_type ≡ type.Boolean) × (has_value m.def ≡ false)
-    × (((name : List ℕ) × (m.def.name ≡ check_name name)) ⊎ (m.def.name ≡ codes "locked"))
-
-pub hidden_unkept : (g : Gathered) → All IsUnkept (hidden_members g)
-hidden_unkept g = All-append IsUnkept (check_members g) (locked_members g g.locked) (All-map IsUnkept check_member g.checks (λ k d within. (refl, refl, refl, inl ((get_or g.checks k d).check.name, refl)))) (by g.locked)
-  where
-    by : (o : Option (List ℕ)) → All IsUnkept (locked_members g o)
-    by None = All-nil IsUnkept
-    by (Some text) = All-cons IsUnkept (hidden_member g.entry (condition_def (codes "locked") text)) [] (refl, refl, refl, inr refl) (All-nil IsUnkept)
-
--- another name than those is not `id`
-pub other_name : (name : List ℕ) → is_automatic name ≡ false → bytes_eq name (codes "id") ≡ false
-other_name name free = by (bytes_eq name (codes "id")) refl
-  where
-    by : (b : Bool) → bytes_eq name (codes "id") ≡ b → b ≡ false
-    by true e = absurd (false≢true (sym free ∙ ap is_automatic ((bytes_eq-Decides name (codes "id")).0 e)))
-    by false e = refl
 
 -- ---- where values come from
 
@@ -355,7 +335,7 @@ module _ (models : List Gathered) (infos : List ModelInfo) (registry : IsRegistr
         by (inr condition) = absurd (false≢true (sym (All-contains IsUnkept (hidden_members g) m (hidden_unkept g) condition).0 ∙ ap is_automatic is ∙ known))
 
     id_own : m.def.name ≡ codes "id" → (m.def ≡ plain_field (codes "id") type.Integer) × (is_delegated m.role ≡ false)
-    id_own is = automatic_own (plain_field (codes "id") type.Integer) (1, omega arith, refl) refl is
+    id_own is = automatic_own (plain_field (codes "id") type.Integer) (2, omega arith, refl) refl is
 
     abbrev place_here : Place
     place_here = record { models = models; number = number; member = m }
@@ -368,22 +348,26 @@ module _ (models : List Gathered) (infos : List ModelInfo) (registry : IsRegistr
         own : bytes_eq m.def.name (codes "id") ≡ true → (is_computed m.def ≡ false) × (is_delegated m.role ≡ false)
         own is = let id = id_own ((bytes_eq-Decides m.def.name (codes "id")).0 is) in (ap is_computed id.0, id.1)
 
-    moment_of : (name : List ℕ) → Contains automatic_defs (moment_def name) → is_automatic name ≡ true → bytes_eq name (codes "id") ≡ false → bytes_eq info.name name ≡ true
-        → (is_plain_from info.origin ≡ true) × (info.managed ≡ true)
-    moment_of name automatic known other spelled =
-        let is : info.name ≡ name = (bytes_eq-Decides info.name name).0 spelled in
-        let own = automatic_own (moment_def name) automatic known (sym of.name ∙ is) in
-        let given = given_info place_here g field info.origin (ap is_computed own.0) own.1 of.origin in
+    -- it is plain, but for the id
+    automatic_plain : (d : FieldDef) → Contains automatic_defs d → is_automatic d.name ≡ true → bytes_eq d.name (codes "id") ≡ false → is_computed d ≡ false → bytes_eq info.name d.name ≡ true
+        → (m.def ≡ d) × (is_plain_from info.origin ≡ true)
+    automatic_plain d automatic known other computed spelled =
+        let is : info.name ≡ d.name = (bytes_eq-Decides info.name d.name).0 spelled in
+        let own = automatic_own d automatic known (sym of.name ∙ is) in
+        let given = given_info place_here g field info.origin (ap is_computed own.0 ∙ computed) own.1 of.origin in
         let no_id : is_id_from info.origin ≡ false = id_right ∙ ap (λ (n : List ℕ). bytes_eq n (codes "id")) is ∙ other in
-        (given_plain info.origin given no_id, of.managed ∙ ap (λ (d : FieldDef). is_set d.managed) own.0)
+        (own.0, given_plain info.origin given no_id)
+
+    moment_of : (name : List ℕ) → (m.def ≡ moment_def name) × (is_plain_from info.origin ≡ true) → (is_plain_from info.origin ≡ true) × (info.managed ≡ true)
+    moment_of name own = (own.1, of.managed ∙ ap (λ (d : FieldDef). is_set d.managed) own.0)
 
     moment_right : is_moment info.name ≡ true → (is_plain_from info.origin ≡ true) × (info.managed ≡ true)
     moment_right moment = by (bytes_eq info.name (codes "create_date")) refl (bytes_eq info.name (codes "write_date")) refl moment
       where
         by : (a : Bool) → bytes_eq info.name (codes "create_date") ≡ a → (b : Bool) → bytes_eq info.name (codes "write_date") ≡ b → (a || (b || false)) ≡ true
             → (is_plain_from info.origin ≡ true) × (info.managed ≡ true)
-        by true made b changed e = moment_of (codes "create_date") (0, omega arith, refl) refl refl made
-        by false made true changed e = moment_of (codes "write_date") (2, omega arith, refl) refl refl changed
+        by true made b changed e = moment_of (codes "create_date") (automatic_plain (moment_def (codes "create_date")) (0, omega arith, refl) refl refl refl made)
+        by false made true changed e = moment_of (codes "write_date") (automatic_plain (moment_def (codes "write_date")) (3, omega arith, refl) refl refl refl changed)
         by false made false changed e = absurd (false≢true e)
 
     given_right : is_given_from info.origin ≡ true → has_value_of info ≡ true
@@ -458,9 +442,35 @@ module _ (models : List Gathered) (infos : List ModelInfo) (registry : IsRegistr
         record { link = link_there to d; target = target_there to d }
     origin_right (origin.Computed formula) e = formulas_in number field info formula here e
 
+    -- where each name of a model has its number in the registry
+    module _ (alike : (name : List ℕ) → model_number models name ≡ model_named infos name) where
+      user_of : (name : List ℕ) → (m.def ≡ user_def name) × (is_plain_from info.origin ≡ true) → IsUserField infos info
+      user_of name own =
+          let leads : info.relation ≡ model_named infos users_name = of.relation ∙ ap (relation_of models) own.0 ∙ alike users_name in
+          let target = relation_there (ap (λ (d : FieldDef). is_relation d.field_type) own.0) in
+          let users : model_named infos users_name ≡ Some target.0 = sym leads ∙ of.relation ∙ target.1 in
+          let unmirrored : info.mirror ≡ None = of.mirror ∙ ap (λ (d : FieldDef). back_number models d d.mirror) own.0 in
+          record {
+            many2one = of.field_type ∙ ap (λ (d : FieldDef). d.field_type) own.0;
+            users = known_by (model_named infos users_name) (λ users. IsPlainTo users info) target.0 users (record { plain = own.1; leads = of.relation ∙ target.1 });
+            kept = ap (λ (b : Bool). b && stands_own info) own.1 ∙ ap (λ (t : FieldType). not (is_one2many t) && is_none info.mirror) (of.field_type ∙ ap (λ (d : FieldDef). d.field_type) own.0)
+                ∙ ap (λ (o : Option FieldNo). is_none o) unmirrored;
+            managed = of.managed ∙ ap (λ (d : FieldDef). is_set d.managed) own.0;
+            not_required = of.required ∙ ap (λ (d : FieldDef). is_set d.required) own.0;
+            ondelete = of.ondelete ∙ ap (λ (d : FieldDef). unwrap_or d.ondelete ondelete.SetNull) own.0;
+          }
+
+      user_right : is_user info.name ≡ true → IsUserField infos info
+      user_right user = by (bytes_eq info.name (codes "create_uid")) refl (bytes_eq info.name (codes "write_uid")) refl user
+        where
+          by : (a : Bool) → bytes_eq info.name (codes "create_uid") ≡ a → (b : Bool) → bytes_eq info.name (codes "write_uid") ≡ b → (a || (b || false)) ≡ true → IsUserField infos info
+          by true made b changed e = user_of (codes "create_uid") (automatic_plain (user_def (codes "create_uid")) (1, omega arith, refl) refl refl refl made)
+          by false made true changed e = user_of (codes "write_uid") (automatic_plain (user_def (codes "write_uid")) (4, omega arith, refl) refl refl refl changed)
+          by false made false changed e = absurd (false≢true e)
+
     -- the field is right
-    pub field_right : IsField infos number minfo info
-    field_right = record {
+    pub field_right : ((name : List ℕ) → model_number models name ≡ model_named infos name) → IsField infos number minfo info
+    field_right alike = record {
       relation = λ is. (
           let target = relation_there (ap is_relation (sym of.field_type) ∙ is) in
           known_by info.relation (HasModel infos) target.0 (of.relation ∙ target.1) (model_here target.0 target.2));
@@ -477,5 +487,6 @@ module _ (models : List Gathered) (infos : List ModelInfo) (registry : IsRegistr
       origin = origin_right info.origin refl;
       id = id_right;
       moment = moment_right;
+      user = user_right alike;
       given = given_right;
     }

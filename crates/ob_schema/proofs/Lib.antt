@@ -92,6 +92,7 @@ pub mod FormulasIn
 pub mod Stable
 pub mod Sourced
 pub mod NumbersRise
+pub mod UnkeptFields
 pub mod FieldsRight
 pub mod ComputedEnds
 pub mod StrataRight

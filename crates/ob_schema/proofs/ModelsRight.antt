@@ -58,7 +58,7 @@ use Rattle.ob_schema.proofs.Somes.{read_within}
 use Rattle.ob_schema.proofs.Stable.{stable_model, stable_true}
 use Rattle.ob_schema.proofs.StrataRight.{stratified}
 use Rattle.ob_schema.proofs.WithinLimits.{few_fields}
-use Rattle.ob_schema.proofs.NamesRight.{alone, automatic, conditions, conditions_apart, few_hidden, field_read, from as made_from, id_info, id_member, id_own, name_short, ordered, path_info, path_low, path_member, path_own, short, slice_get-behind}
+use Rattle.ob_schema.proofs.NamesRight.{alone, automatic, conditions, conditions_apart, few_hidden, field_read, from as made_from, id_info, id_member, id_own, name_short, numbers_alike, ordered, path_info, path_low, path_member, path_own, short, slice_get-behind}
 use Rattle.ob_schema.proofs.TreePath.{path-depends, path-means}
 
 -- ---- lists of names
@@ -383,7 +383,7 @@ module _ (models : List Gathered) (infos : List ModelInfo) (registry : IsRegistr
       ordered = ordered models infos registry zip number info at;
       automatic = automatic models infos registry zip number info at;
       fields = λ k d within. field_right models infos registry formulas_in number info at (field_no k) (get_or (fields_of info) k d)
-          (field_read models infos registry zip number info at k (get_or (fields_of info) k d) (slice_get-get_or (fields_of info) k d within));
+          (field_read models infos registry zip number info at k (get_or (fields_of info) k d) (slice_get-get_or (fields_of info) k d within)) (numbers_alike models infos zip);
       strata = λ field own formula here from. stratified models infos registry number info at parent_right field own formula here from (formulas_in number field own formula here from);
       conditions = conditions models infos registry zip number info at;
       conditions_apart = conditions_apart models infos registry zip number info at;

@@ -35,8 +35,9 @@ use Rattle.ob_schema.specs.RegistryOf.{HasFieldInfo, IsInfoFrom, IsRegistryOf}
 use Rattle.ob_schema.specs.Strata.IsMember.{by_name}
 use Rattle.ob_schema.proofs.AllSteps.{element_at}
 use Rattle.ob_schema.proofs.Delegated.{hidden_computed, own_among}
-use Rattle.ob_schema.proofs.FieldsRight.{IsUnkept, computed_info, hidden_unkept, other_name}
+use Rattle.ob_schema.proofs.FieldsRight.{computed_info}
 use Rattle.ob_schema.proofs.MadeFields.{slice_get-front}
+use Rattle.ob_schema.proofs.UnkeptFields.{IsUnkept, hidden_unkept, other_name}
 use Rattle.ob_schema.proofs.NamedFields.{member_parts}
 use Rattle.ob_schema.proofs.NumbersRise.{field_no, hidden_high, named_place, place_rank, rises}
 use Rattle.ob_schema.proofs.RegistryPlaces.{model_place}
@@ -67,7 +68,7 @@ abbrev model_no_at : Option ℕ → Option ModelNo
 model_no_at o = option_map (λ i. let n : ModelNo = record { 0 = suc i } in n) o
 
 -- so that a name has one number in both
-numbers_alike : (models : List Gathered) (infos : List ModelInfo) → AllZip (IsModelOf models) models infos → (name : List ℕ) → model_number models name ≡ model_named infos name
+pub numbers_alike : (models : List Gathered) (infos : List ModelInfo) → AllZip (IsModelOf models) models infos → (name : List ℕ) → model_number models name ≡ model_named infos name
 numbers_alike models infos zip name =
     let there = position_or_len (λ (m : ModelInfo). bytes_eq m.name name) infos in
     ap (λ (k : ℕ). model_no_at (cond (ltb k (length models)) (Some k) None)) (places_alike models name models infos zip)
@@ -214,7 +215,7 @@ module _ (models : List Gathered) (infos : List ModelInfo) (registry : IsRegistr
     id_member = own_member g.entry (plain_field (codes "id") type.Integer)
 
     pub id_own : Contains (own_members models g) id_member
-    id_own = automatic_own (plain_field (codes "id") type.Integer) (1, omega arith, refl)
+    id_own = automatic_own (plain_field (codes "id") type.Integer) (2, omega arith, refl)
 
     pub id_info : HasFieldInfo models infos number (number_of models g (codes "id")) g id_member
     id_info =

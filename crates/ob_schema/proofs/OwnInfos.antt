@@ -60,7 +60,7 @@ module _ (models : List Gathered) (resolved : AreResolved models) where
 
     -- so is one of the name `id`
     pub id_integer : s.def.name ≡ codes "id" → s.def.field_type ≡ type.Integer
-    id_integer is = ap (λ (d : FieldDef). d.field_type) (automatic_def (plain_field (codes "id") type.Integer) (1, omega arith, refl) is)
+    id_integer is = ap (λ (d : FieldDef). d.field_type) (automatic_def (plain_field (codes "id") type.Integer) (2, omega arith, refl) is)
 
     pub own_fit : fits s.def ≡ true
     own_fit = by (fits s.def) refl

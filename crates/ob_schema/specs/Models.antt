@@ -30,7 +30,7 @@ use Rattle.ob_schema.specs.Built.{numbered}
 use Rattle.ob_schema.specs.Fields.{Holds, has_value_of, is_plain_from, is_plain_kept, kept_fields}
 use Rattle.ob_schema.specs.Finds.{kind_of_type}
 use Rattle.ob_definition.specs.Definitions.{is_one_of}
-use Rattle.ob_definition.specs.Members.{automatic_defs, check_name, path_name}
+use Rattle.ob_definition.specs.Members.{automatic_defs, check_name, path_name, users_name}
 use Rattle.ob_definition.specs.Keys.{is_many2many, is_many2one, is_selection}
 use Rattle.ob_schema.specs.Paths.{BeginsWith, step_at, steps_of_route}
 use Rattle.ob_definition.specs.Types.{is_list, is_relation, is_one2many}
@@ -104,10 +104,23 @@ is_delegated_from _ = false
 abbrev pub is_moment : List ℕ → Bool
 is_moment name = is_one_of (codes "create_date" ∷ codes "write_date" ∷ []) name
 
+-- the names of the users who made a row and last changed it
+abbrev pub is_user : List ℕ → Bool
+is_user name = is_one_of (codes "create_uid" ∷ codes "write_uid" ∷ []) name
+
 -- fields of a type that name rows of a model, and are plain
 pub record IsPlainTo (model : ModelNo) (field : FieldInfo) : Type 0 where
   pub plain : is_plain_from field.origin ≡ true
   pub leads : field.relation ≡ Some model
+
+-- a field that names a user: a plain many2one to the model of the users, which is there. Rows keep it, and it is managed, not required, and unset where its user goes
+pub record IsUserField (models : List ModelInfo) (field : FieldInfo) : Type 0 where
+  pub many2one : field.field_type ≡ type.Many2one
+  pub users : IsSomeAnd (model_named models users_name) (λ users. IsPlainTo users field)
+  pub kept : is_plain_kept field ≡ true
+  pub managed : field.managed ≡ true
+  pub not_required : field.required ≡ false
+  pub ondelete : field.ondelete ≡ ondelete.SetNull
 
 -- a step through which a path may go on, to rows of this model: a plain relation to it
 abbrev pub LeadsOn : ModelNo → FieldInfo → Type 0
@@ -198,7 +211,7 @@ abbrev pub LeadsBack : List ModelInfo → ModelNo → FieldInfo → (FieldType �
 LeadsBack models model field test back = IsSomeAnd field.relation (λ target. FieldHas models (λ other. IsPlainTo model other × (test other.field_type ≡ true) × (other.mirror ≡ None)) target back)
 
 -- relations alone are to models; a one2many alone has an inverse, a many2many alone may have a mirror, and what mirrors leads back; a default is one of the field's values
--- the field `id` alone is the row's id, the moments are plain and managed, and what the row itself is given has a value
+-- the field `id` alone is the row's id, the moments are plain and managed, who made and changed a row are users, and what the row itself is given has a value
 pub record IsField (models : List ModelInfo) (model : ModelNo) (info : ModelInfo) (field : FieldInfo) : Type 0 where
   pub relation : is_relation field.field_type ≡ true → IsSomeAnd field.relation (HasModel models)
   pub relation_alone : is_some field.relation ≡ is_relation field.field_type
@@ -210,6 +223,7 @@ pub record IsField (models : List ModelInfo) (model : ModelNo) (info : ModelInfo
   pub origin : IsOriginIn models model info field field.origin
   pub id : is_id_from field.origin ≡ bytes_eq field.name (codes "id")
   pub moment : is_moment field.name ≡ true → (is_plain_from field.origin ≡ true) × (field.managed ≡ true)
+  pub user : is_user field.name ≡ true → IsUserField models field
   pub given : is_given_from field.origin ≡ true → has_value_of field ≡ true
 
 -- a link to a parent: a required plain many2one with which the row goes; the parent has no parents

@@ -63,7 +63,7 @@ module _ (models : List ModelInfo) (model : ModelNo) (info : ModelInfo) (is : mo
   -- there is one
   pub id_named : (k : ℕ) × (f : FieldInfo) × (slice_get info.fields k ≡ Some f) × (is_named f ≡ true)
   id_named =
-      let own : Any (λ (field : FieldInfo). (field.name ≡ codes "id") × (field.field_type ≡ type.Integer)) info.fields = valid.automatic 1 (plain_field (codes "id") type.Integer) (lit< tt) in
+      let own : Any (λ (field : FieldInfo). (field.name ≡ codes "id") × (field.field_type ≡ type.Integer)) info.fields = valid.automatic 2 (plain_field (codes "id") type.Integer) (lit< tt) in
       (own.0, own.1, slice_get-get_or info.fields own.0 own.1 own.2 ∙ ap Some own.3, (bytes_eq-Decides own.1.name (codes "id")).1 own.4.0)
 
   -- the number that its name finds is that of the row's id

@@ -3,6 +3,9 @@
 //! `inherits=m.a:a_id`; those of a field are its name, its type and its keys, such as
 //! `b integer compute=a\s+\s1 depends=a`. A key without `=` is an empty list.
 //! Names and texts are written as `words` has them.
+//!
+//! Behind the entries stands the model `res.users` without a key, to which fields of each model
+//! lead: not where an entry makes that model, and not where `no users` stands for one.
 
 use crate::items::{flag_of, number_of};
 use crate::told::Told;
@@ -12,6 +15,12 @@ use ob_schema::{
     Check, Choice, FieldDef, FieldType, Inherits, ModelDef, OnDelete, Schema, SchemaFault,
 };
 use std::alloc::Global;
+
+/// The model of the users, behind the entries of a line.
+const USERS: &str = "name=res.users";
+
+/// What stands for an entry in a line that has no such model.
+const NO_USERS: &str = "no users";
 
 /// A key with its value, whose parts have `:` between them.
 #[derive(Clone, Copy)]
@@ -39,14 +48,30 @@ pub fn schema_of(alloc: Global, told: &mut Told, text: &str) -> Option<Schema> {
 /// The definitions of a line.
 pub fn definitions(alloc: Global, told: &mut Told, line: &str) -> Sequence<ModelDef> {
     let mut definitions = Sequence::new(alloc);
-    if line.is_empty() {
-        return definitions;
+    let mut lacks_users = true;
+    if !line.is_empty() {
+        for entry in line.split(" || ") {
+            let is_model = entry != NO_USERS;
+            let model = definition(alloc, told, if is_model { entry } else { USERS });
+            lacks_users = lacks_users && !is_users(&model);
+            if is_model {
+                told.add(&mut definitions, model);
+            }
+        }
     }
-    for entry in line.split(" || ") {
-        let definition = definition(alloc, told, entry);
-        told.add(&mut definitions, definition);
+    if lacks_users {
+        let users = definition(alloc, told, USERS);
+        told.add(&mut definitions, users);
     }
     definitions
+}
+
+/// Whether a definition makes the model of the users.
+fn is_users(model: &ModelDef) -> bool {
+    match &model.name {
+        Some(name) => name.as_str() == "res.users",
+        None => false,
+    }
 }
 
 /// The definition of an entry.

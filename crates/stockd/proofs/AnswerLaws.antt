@@ -17,7 +17,7 @@ use Rattle.ob_call.specs.Called.{Called, called_by}
 use Rattle.ob_call.specs.declared.call.Call.{Call as Handed}
 use Rattle.ob_io.specs.Moments.{later}
 use Rattle.ob_io.specs.Store.{Store}
-use Rattle.ob_rpc.specs.Envelope.{Envelope, Fault, element_place, envelope_of}
+use Rattle.ob_rpc.specs.Envelope.{Envelope, Fault, envelope_of}
 use Rattle.ob_rpc.specs.declared.methods.Served.TheVariants.{EveryMethod}
 use Rattle.ob_schema.specs.Models.{model_at}
 use Rattle.ob_schema.specs.declared.info.ModelInfo.{ModelInfo}
@@ -30,10 +30,11 @@ use Rattle.stockd.specs.declared.request.Method.TheVariants as method
 use Rattle.stockd.specs.declared.request.MethodCall.{MethodCall}
 use Rattle.stockd.specs.declared.request.ReadMethod.{ReadMethod}
 use Rattle.stockd.specs.declared.request.WriteMethod.{WriteMethod}
-use Rattle.stockd.specs.Request.{Call, Request, call_of, called, is_login, listed, login_of, malformed, request_by, request_of, request_with, telling_by, told_of, version_json}
+use Rattle.stockd.specs.Directory.{Directory, directory_of}
+use Rattle.stockd.specs.Request.{Call, Request, call_of, called, identified, is_login, listed, login_of, malformed, request_by, request_of, request_with, telling_by, told_of, version_json, wrong}
 use Rattle.stockd.specs.Texts.{malformed_text, no_memory_text, outcome_text, told}
-use Rattle.stockd.specs.Body.{MayBeGiven, Serves, ServesOver, TakesMoment}
-use Rattle.stockd.specs.Machine.{Calls, Makes, MakesCause, MayAnswer, Means, MeansCause, Tells, TellsCause, called_at}
+use Rattle.stockd.specs.Body.{MayBeGiven, RepliesAsked, Serves, ServesAsked, ServesOver, TakesMoment}
+use Rattle.stockd.specs.Machine.{Calls, Makes, MakesCause, MayAnswer, Means, MeansCause, Tells, TellsCause, asked_by, called_at}
 use Rattle.stockd.specs.Reply.{Keeps, MayTell, RepliesTo, TellsKept, TellsPlainly}
 
 -- what holds of some model holds of the model of the number
@@ -143,24 +144,39 @@ module _ (before after : Standpoint) (info : ModelInfo) (layout : Layout) (call 
         let (next, makes, stands) = is_called.answer tables rests in
         kept_serves tables next json last (KeeperRose after last) (KeeperRose before last) since makes (keeps tables next stands)
 
--- the refusal of an element, and its reply, serve the request
-pub element_serves : (models : List ModelInfo) (old : Tables) (now : ℤ) (rose : Type 0) (id : Data) (n : ℕ) (reply : List ℕ) (kept : Option Store) (held : Holding)
-    → RestsAt kept held old → MayTell reply (malformed_text models id (element_place n)) → Serves models old now rose (request_by id (Err n)) reply kept held
-element_serves models old now rose id n reply kept held rests (inl tells) = serves_unchanged models old now rose (request_by id (Err n)) reply kept held rests (inl (tells, refl))
-element_serves models old now rose id n reply kept held rests (inr unmade) = serves_unchanged models old now rose (request_by id (Err n)) reply kept held rests (inr (refl, inl unmade))
+-- what is told without a call is a step that leaves the tables
+plain_step : (models : List ModelInfo) (old : Tables) (now : ℤ) (rose : Type 0) (request : Request) (reply : List ℕ) → TellsPlainly models request reply → MayAnswer models old now rose request reply old
+plain_step models old now rose (called id call) reply tells = absurd tells
+plain_step models old now rose (told_of id json) reply (inl tells) = inl (tells, refl)
+plain_step models old now rose (told_of id json) reply (inr unmade) = inr (refl, inl unmade)
+plain_step models old now rose (identified id json) reply (inl tells) = inl (tells, refl)
+plain_step models old now rose (identified id json) reply (inr unmade) = inr (refl, inl unmade)
+plain_step models old now rose (wrong id n) reply (inl tells) = inl (tells, refl)
+plain_step models old now rose (wrong id n) reply (inr unmade) = inr (refl, inl unmade)
+plain_step models old now rose (malformed id place) reply (inl tells) = inl (tells, refl)
+plain_step models old now rose (malformed id place) reply (inr unmade) = inr (refl, inl unmade)
 
--- who serves the request of a body's envelope serves the body
+-- so it serves the request
+pub plainly_serves : (models : List ModelInfo) (old : Tables) (now : ℤ) (rose : Type 0) (request : Request) (reply : List ℕ) (kept : Option Store) (held : Holding)
+    → RestsAt kept held old → TellsPlainly models request reply → Serves models old now rose request reply kept held
+plainly_serves models old now rose request reply kept held rests tells = serves_unchanged models old now rose request reply kept held rests (plain_step models old now rose request reply tells)
+
+-- want of memory serves any request
+pub no_memory_serves : (models : List ModelInfo) (old : Tables) (now : ℤ) (rose : Type 0) (request : Request) (kept : Option Store) (held : Holding)
+    → RestsAt kept held old → Serves models old now rose request no_memory_text kept held
+no_memory_serves models old now rose request kept held rests = serves_unchanged models old now rose request no_memory_text kept held rests (inr (refl, inl refl))
+
+-- who serves what a body's envelope asks for serves the body
 pub body_serves : (models : List ModelInfo) (old : Tables) (now moment : ℤ) (rose : Type 0) (body reply : List ℕ) (envelope : Envelope) (kept : Option Store) (held : Holding)
     → now ≡ moment → envelope_of EveryMethod body ≡ Ok envelope
-    → Serves models old now rose (request_with models envelope.id envelope.method envelope.args) reply kept held → Serves models old moment rose (request_of models (envelope_of EveryMethod body)) reply kept held
+    → Serves models old now rose (request_with models (directory_of models old) envelope.id envelope.method envelope.args) reply kept held → Serves models old moment rose (asked_by models old body) reply kept held
 body_serves models old now moment rose body reply envelope kept held now_is is serves = rw is (rw now_is at serves)
 
 -- the refusal of a body at a place, with the id that was read, serves it
 pub fault_serves : (models : List ModelInfo) (old : Tables) (now : ℤ) (rose : Type 0) (body reply : List ℕ) (fault : Fault) (kept : Option Store) (held : Holding)
     → envelope_of EveryMethod body ≡ Err fault → RestsAt kept held old → MayTell reply (malformed_text models fault.id fault.place)
-    → Serves models old now rose (request_of models (envelope_of EveryMethod body)) reply kept held
-fault_serves models old now rose body reply fault kept held is rests (inl tells) = rw is (serves_unchanged models old now rose (request_of models (Err fault)) reply kept held rests (inl (tells, refl)))
-fault_serves models old now rose body reply fault kept held is rests (inr unmade) = rw is (serves_unchanged models old now rose (request_of models (Err fault)) reply kept held rests (inr (refl, inl unmade)))
+    → Serves models old now rose (asked_by models old body) reply kept held
+fault_serves models old now rose body reply fault kept held is rests tells = rw is (plainly_serves models old now rose (malformed fault.id fault.place) reply kept held rests tells)
 
 -- the reply to a call that was answered tells of the result
 pub replies_result : (models : List ModelInfo) (rose : Type 0) (now : ℤ) (id : Data) (call : Call) (json : Data) (reply : List ℕ)
@@ -186,65 +202,55 @@ replies_kept _ _ _ _ _ _ _ _ since (inr (cause, tells)) = record { outcome = Err
 -- want of memory may be told of any request
 pub replies_no_memory : (models : List ModelInfo) (rose : Type 0) (now : ℤ) (request : Request) → RepliesTo models rose now request no_memory_text
 replies_no_memory _ _ _ (called id call) = record { outcome = Err refusal.NoMemory; cause = tt; tells = inr refl }
-replies_no_memory _ _ _ (told_of id json) = inr refl
-replies_no_memory _ _ _ (malformed id place) = inr refl
+replies_no_memory _ _ _ (told_of id json) = inl (inr refl)
+replies_no_memory _ _ _ (identified id json) = inl (inr refl)
+replies_no_memory _ _ _ (wrong id n) = inl (inr refl)
+replies_no_memory _ _ _ (malformed id place) = inl (inr refl)
 
--- the reply to a request that is no call replies to it
+-- what is told without a call replies to the request
 pub plainly_replies : (models : List ModelInfo) (rose : Type 0) (now : ℤ) (request : Request) (reply : List ℕ) → TellsPlainly models request reply → RepliesTo models rose now request reply
 plainly_replies _ _ _ (called id call) _ tells = absurd tells
-plainly_replies _ _ _ (told_of id json) _ tells = tells
-plainly_replies _ _ _ (malformed id place) _ tells = tells
-
--- and serves it
-pub plainly_serves : (models : List ModelInfo) (old : Tables) (now : ℤ) (rose : Type 0) (request : Request) (reply : List ℕ) (kept : Option Store) (held : Holding)
-    → RestsAt kept held old → TellsPlainly models request reply → Serves models old now rose request reply kept held
-plainly_serves _ _ _ _ (called id call) _ _ _ rests tells = absurd tells
-plainly_serves models old now rose (told_of id json) reply kept held rests (inl tells) = serves_unchanged models old now rose (told_of id json) reply kept held rests (inl (tells, refl))
-plainly_serves models old now rose (told_of id json) reply kept held rests (inr unmade) = serves_unchanged models old now rose (told_of id json) reply kept held rests (inr (refl, inl unmade))
-plainly_serves models old now rose (malformed id place) reply kept held rests (inl tells) = serves_unchanged models old now rose (malformed id place) reply kept held rests (inl (tells, refl))
-plainly_serves models old now rose (malformed id place) reply kept held rests (inr unmade) = serves_unchanged models old now rose (malformed id place) reply kept held rests (inr (refl, inl unmade))
-
--- want of memory serves any request
-pub no_memory_serves : (models : List ModelInfo) (old : Tables) (now : ℤ) (rose : Type 0) (request : Request) (kept : Option Store) (held : Holding)
-    → RestsAt kept held old → Serves models old now rose request no_memory_text kept held
-no_memory_serves models old now rose request kept held rests = serves_unchanged models old now rose request no_memory_text kept held rests (inr (refl, inl refl))
+plainly_replies _ _ _ (told_of id json) _ tells = inl tells
+plainly_replies _ _ _ (identified id json) _ tells = inl tells
+plainly_replies _ _ _ (wrong id n) _ tells = inl tells
+plainly_replies _ _ _ (malformed id place) _ tells = inl tells
 
 -- a reply to a request is one to the same one by another name, at the same moment
 pub replies_same : (models : List ModelInfo) (rose : Type 0) (now moment : ℤ) (request other : Request) (reply : List ℕ)
     → now ≡ moment → request ≡ other → RepliesTo models rose now request reply → RepliesTo models rose moment other reply
 replies_same models rose now moment request other reply now_is is replies = rw (← now_is, ← is) replies
 
--- who replies to the request of a body's envelope replies to the body
-pub body_replies : (models : List ModelInfo) (rose : Type 0) (now moment : ℤ) (body reply : List ℕ) (envelope : Envelope)
-    → now ≡ moment → envelope_of EveryMethod body ≡ Ok envelope → RepliesTo models rose now (request_with models envelope.id envelope.method envelope.args) reply
-    → RepliesTo models rose moment (request_of models (envelope_of EveryMethod body)) reply
-body_replies models rose now moment body reply envelope now_is is replies = rw is (rw now_is at replies)
+-- who replies to what a body's envelope asks for replies to the body
+pub body_replies : (models : List ModelInfo) (directory : Directory) (rose : Type 0) (now moment : ℤ) (body reply : List ℕ) (envelope : Envelope)
+    → now ≡ moment → envelope_of EveryMethod body ≡ Ok envelope → RepliesTo models rose now (request_with models directory envelope.id envelope.method envelope.args) reply
+    → RepliesTo models rose moment (request_of models directory (envelope_of EveryMethod body)) reply
+body_replies models directory rose now moment body reply envelope now_is is replies = rw is (rw now_is at replies)
 
 -- the refusal of a body at a place, with the id that was read, replies to it
-pub fault_replies : (models : List ModelInfo) (rose : Type 0) (now : ℤ) (body reply : List ℕ) (fault : Fault)
-    → envelope_of EveryMethod body ≡ Err fault → MayTell reply (malformed_text models fault.id fault.place) → RepliesTo models rose now (request_of models (envelope_of EveryMethod body)) reply
-fault_replies models rose now body reply fault is tells = rw is tells
+pub fault_replies : (models : List ModelInfo) (directory : Directory) (rose : Type 0) (now : ℤ) (body reply : List ℕ) (fault : Fault)
+    → envelope_of EveryMethod body ≡ Err fault → MayTell reply (malformed_text models fault.id fault.place) → RepliesTo models rose now (request_of models directory (envelope_of EveryMethod body)) reply
+fault_replies models directory rose now body reply fault is tells = rw is (inl tells)
 
 -- ---- the request of a method
 
 -- `version` is told whatever the rows
-pub asks_version : (models : List ModelInfo) (id : Data) (method : List ℕ) (elements : Items) → bytes_eq method (codes "version") ≡ true → request_with models id method elements ≡ told_of id version_json
-asks_version _ _ _ _ is = rw is refl
+pub asks_version : (models : List ModelInfo) (directory : Directory) (id : Data) (method : List ℕ) (elements : Items) → bytes_eq method (codes "version") ≡ true → request_with models directory id method elements ≡ told_of id version_json
+asks_version _ _ _ _ _ is = rw is refl
 
 -- a login by its elements
-pub asks_login : (models : List ModelInfo) (id : Data) (method : List ℕ) (elements : Items) → bytes_eq method (codes "version") ≡ false → is_login method ≡ true
-    → request_with models id method elements ≡ telling_by id (login_of elements)
-asks_login _ _ _ _ other is = rw (other, is) refl
+pub asks_login : (models : List ModelInfo) (directory : Directory) (id : Data) (method : List ℕ) (elements : Items) → bytes_eq method (codes "version") ≡ false → is_login method ≡ true
+    → request_with models directory id method elements ≡ telling_by id (login_of directory elements)
+asks_login _ _ _ _ _ other is = rw (other, is) refl
 
 -- `execute` is a call by its elements, whose arguments are listed
-pub asks_spread : (models : List ModelInfo) (id : Data) (method : List ℕ) (elements : Items) → bytes_eq method (codes "version") ≡ false → is_login method ≡ false → bytes_eq method (codes "execute") ≡ true
-    → request_with models id method elements ≡ request_by id (call_of models layout.Spread (listed elements))
-asks_spread _ _ _ _ other no_login is = rw (other, no_login, is) refl
+pub asks_spread : (models : List ModelInfo) (directory : Directory) (id : Data) (method : List ℕ) (elements : Items) → bytes_eq method (codes "version") ≡ false → is_login method ≡ false → bytes_eq method (codes "execute") ≡ true
+    → request_with models directory id method elements ≡ request_by id (call_of models directory layout.Spread (listed elements))
+asks_spread _ _ _ _ _ other no_login is = rw (other, no_login, is) refl
 
 -- and any other a call by its elements
-pub asks_listed : (models : List ModelInfo) (id : Data) (method : List ℕ) (elements : Items) → bytes_eq method (codes "version") ≡ false → is_login method ≡ false → bytes_eq method (codes "execute") ≡ false
-    → request_with models id method elements ≡ request_by id (call_of models layout.Listed elements)
-asks_listed _ _ _ _ other no_login no_spread = rw (other, no_login, no_spread) refl
+pub asks_listed : (models : List ModelInfo) (directory : Directory) (id : Data) (method : List ℕ) (elements : Items) → bytes_eq method (codes "version") ≡ false → is_login method ≡ false → bytes_eq method (codes "execute") ≡ false
+    → request_with models directory id method elements ≡ request_by id (call_of models directory layout.Listed elements)
+asks_listed _ _ _ _ _ other no_login no_spread = rw (other, no_login, no_spread) refl
 
 -- a moment that a clock may give
 pub given_moment : (coming : Option (ℕ → ℤ)) → (now : ℤ) × MayBeGiven coming now
@@ -268,6 +274,17 @@ none_taken (Some moments) body fault is = rw is refl
 pub serves_same : (before after : Standpoint) (now moment : ℤ) (request other : Request) (reply : List ℕ)
     → now ≡ moment → request ≡ other → ServesOver before after now request reply → ServesOver before after moment other reply
 serves_same before after now moment request other reply now_is is serves = rw (← now_is, ← is) serves
+
+-- what is asked for under another name, at the same moment
+pub asked_same : (before after : Standpoint) (now moment : ℤ) (asks others : Directory → Request) (reply : List ℕ)
+    → now ≡ moment → ((directory : Directory) → asks directory ≡ others directory) → ServesAsked before after now asks reply → ServesAsked before after moment others reply
+asked_same before after now moment asks others reply now_is are serves = λ tables rests.
+    let request_is = are (directory_of (models_at before) tables) in rw (← now_is, ← request_is) (serves tables rests)
+
+pub replied_same : (before after : Standpoint) (now moment : ℤ) (asks others : Directory → Request) (reply : List ℕ)
+    → now ≡ moment → ((directory : Directory) → asks directory ≡ others directory) → RepliesAsked before after now asks reply → RepliesAsked before after moment others reply
+replied_same before after now moment asks others reply now_is are replies =
+    (replies.0, replies_same (models_at before) (KeeperRose before after) now moment (asks replies.0) (others replies.0) reply now_is (are replies.0) replies.1)
 
 -- an object without members
 pub empty_object : (map : BTreeMap (String Global) Value) → IsEmpty map → view (Object map) ≡ object no_members

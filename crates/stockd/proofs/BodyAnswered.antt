@@ -11,8 +11,7 @@ use Rattle.ob_schema.specs.declared.info.ModelInfo.{ModelInfo}
 use Rattle.stockd.specs.Body.{AnswersOver, LeavesUnread, MayBeGiven, ServesBody}
 use Rattle.stockd.specs.Exchange.{HasState, Situation}
 use Rattle.stockd.specs.ExchangeSteps.{AnswersBody, WroteOrPart}
-use Rattle.stockd.specs.Machine.{MayAnswer, State, moments_after}
-use Rattle.stockd.specs.Request.{request_of}
+use Rattle.stockd.specs.Machine.{MayAnswer, State, asked_by, moments_after}
 
 -- all was written, or a front of it, by whether that failed
 pub wrote_either : {A E : Type 0} (before now : Option (List (List ℕ))) (bytes : List ℕ) (outcome : Result A E) → OnOk outcome (Wrote before now bytes) → OnErr outcome (WrotePart before now bytes)
@@ -28,7 +27,7 @@ module _ {A E : Type 0} (old new : Situation) (body reply : List ℕ) (keep : Bo
 
   served_answered : ServesBody first.tables old.engine new.engine old.coming new.coming body reply → AnswersBody body keep outcome first old new
   served_answered serves =
-      let request = request_of models (envelope_of EveryMethod body) in
+      let request = asked_by models first.tables body in
       let now : serves.now ≡ first.moments 0 = subst (λ (o : Option (ℕ → ℤ)). MayBeGiven o serves.now) state.moments serves.given in
       let served = subst (λ (n : ℤ). MayAnswer models first.tables n (Rose old.engine.faults new.engine.faults) request reply serves.serves.tables) now serves.serves.answer in
       record {

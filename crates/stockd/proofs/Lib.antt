@@ -2,6 +2,8 @@ pub mod Counts
 pub mod LineLaws
 pub mod ReadingSteps
 pub mod AnswerLaws
+pub mod AskedBehind
+pub mod Directories
 pub mod ReadOn
 pub mod ReadStops
 pub mod RunOn

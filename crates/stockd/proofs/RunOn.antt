@@ -5,7 +5,8 @@ use Rattle.ob_schema.specs.Tables.{Tables}
 use Rattle.ob_rpc.specs.Envelope.{Envelope, Fault, envelope_of}
 use Rattle.ob_rpc.specs.declared.methods.Served.TheVariants.{EveryMethod}
 use Rattle.ob_schema.specs.declared.info.ModelInfo.{ModelInfo}
-use Rattle.stockd.specs.Machine.{State, MayAnswer, IsUnread, Step, Rests, Run, moments_after}
+use Rattle.stockd.specs.Directory.{directory_of}
+use Rattle.stockd.specs.Machine.{State, MayAnswer, IsUnread, Step, Rests, Run, asked_by, moments_after}
 use Rattle.stockd.specs.Request.{Request, request_of}
 use Rattle.stockd.proofs.Counts.{Rose-earlier}
 
@@ -25,8 +26,8 @@ moment_since old past new body reply rests (inr unread) = inr (record { told = u
 -- a step from where the machine rested
 step_since : (models : List ModelInfo) (old past new : State) (body reply : List ℕ) → Rests old past → Step models past body reply new → Step models old body reply new
 step_since models old past new body reply rests step =
-    let request = request_of models (envelope_of EveryMethod body) in
-    let tables_now = subst (λ t. MayAnswer models t (past.moments 0) (Rose past.faults new.faults) request reply new.tables) rests.tables step.answer in
+    let request = asked_by models old.tables body in
+    let tables_now = subst (λ (t : Tables). MayAnswer models t (past.moments 0) (Rose past.faults new.faults) (asked_by models t body) reply new.tables) rests.tables step.answer in
     let now = subst (λ (m : ℕ → ℤ). MayAnswer models old.tables (m 0) (Rose past.faults new.faults) request reply new.tables) rests.moments tables_now in
     record {
       answer = answer_since models old.tables (old.moments 0) request reply new.tables (Rose-earlier old.faults past.faults new.faults rests.count) now;
@@ -67,7 +68,7 @@ module _ (models : List ModelInfo) (old new : State) (body reply : List ℕ) (re
   read_before (Ok envelope) is step =
       (moment_then (old.moments 0) rest, record { answer = step.answer; moment = inl (rw is refl); count = step.count })
   read_before (Err fault) is step =
-      let answers : (Result Envelope Fault) → ℤ → Type 0 = λ read now. MayAnswer models old.tables now (Rose old.faults new.faults) (request_of models read) reply new.tables in
+      let answers : (Result Envelope Fault) → ℤ → Type 0 = λ read now. MayAnswer models old.tables now (Rose old.faults new.faults) (request_of models (directory_of models old.tables) read) reply new.tables in
       let malformed : answers (Err fault) (rest 0) = subst (λ read. answers read (old.moments 0)) is step.answer in
       (rest, record { answer = subst (λ read. answers read (rest 0)) (sym is) malformed; moment = inl (rw is refl); count = step.count })
 

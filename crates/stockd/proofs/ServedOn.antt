@@ -14,9 +14,8 @@ use Rattle.ob_schema.specs.Tables.{Tables}
 use Rattle.ob_schema.specs.declared.info.ModelInfo.{ModelInfo}
 use Rattle.stockd.specs.Body.{AnswersOver, LeavesUnread, MayBeGiven, ServesBody, TakesMoment}
 use Rattle.stockd.specs.Ending.{WritesPart}
-use Rattle.stockd.specs.Machine.{MayAnswer, State, Run, moments_after}
+use Rattle.stockd.specs.Machine.{MayAnswer, State, Run, asked_by, moments_after}
 use Rattle.stockd.specs.Outside.{Engaged, Surroundings}
-use Rattle.stockd.specs.Request.{request_of}
 use Rattle.stockd.specs.Session.{GivesMoments, reply_lines, state_at}
 use Rattle.stockd.specs.SessionSteps.{HasServed, ServesMore, StopsAt}
 use Rattle.stockd.proofs.Others.{others_same, others_on}
@@ -96,7 +95,7 @@ module _ (old new : Engaged) (body reply : List ℕ) (answered : IsAnswered old 
   served_stepped serves =
       let models = old.held.models in
       let from = before_moment models (state_at before first h.moments) (state_at old.now h.tables h.rest) bodies h.replies before.coming old.now.coming new.now.coming serves.now body h.run h.gives serves.given serves.taken in
-      let request = request_of models (envelope_of EveryMethod body) in record {
+      let request = asked_by models h.tables body in record {
         tables = serves.serves.tables;
         moments = from.moments;
         rest = moments_after (envelope_of EveryMethod body) from.rest;

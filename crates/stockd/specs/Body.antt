@@ -7,8 +7,9 @@ use Rattle.ob_rpc.specs.Envelope.{envelope_of}
 use Rattle.ob_rpc.specs.declared.methods.Served.TheVariants.{EveryMethod}
 use Rattle.ob_schema.specs.Tables.{Tables}
 use Rattle.ob_schema.specs.declared.info.ModelInfo.{ModelInfo}
+use Rattle.stockd.specs.Directory.{Directory, directory_of}
 use Rattle.stockd.specs.Request.{Request, request_of}
-use Rattle.stockd.specs.Machine.{MayAnswer, moments_after}
+use Rattle.stockd.specs.Machine.{MayAnswer, asked_by, moments_after}
 use Rattle.stockd.specs.Reply.{RepliesTo}
 use Rattle.stockd.specs.Texts.{no_memory_text}
 
@@ -22,6 +23,11 @@ pub record Serves (models : List ModelInfo) (old : Tables) (now : ℤ) (rose : T
 abbrev pub ServesOver : (before after : Standpoint) → ℤ → Request → List ℕ → Type 0
 ServesOver before after now request reply = (tables : Tables) → HasTables before tables → Serves (models_at before) tables now (KeeperRose before after) request reply after.kept after.held
 
+-- at whatever tables it rests, what is asked for by those who may call over them is served
+abbrev pub ServesAsked : (before after : Standpoint) → ℤ → (Directory → Request) → List ℕ → Type 0
+ServesAsked before after now asks reply =
+    (tables : Tables) → HasTables before tables → Serves (models_at before) tables now (KeeperRose before after) (asks (directory_of (models_at before) tables)) reply after.kept after.held
+
 -- a moment that a clock may give: the first of those that it tells, where it tells them
 abbrev pub MayBeGiven : Option (ℕ → ℤ) → ℤ → Type 0
 MayBeGiven coming now = IfSome coming (λ moments. now ≡ moments 0)
@@ -34,7 +40,7 @@ TakesMoment before now body = now ≡ option_map (moments_after (envelope_of Eve
 pub record ServesBody (old : Tables) (before after : Standpoint) (coming_before coming_now : Option (ℕ → ℤ)) (body reply : List ℕ) : Type 0 where
   pub now : ℤ
   pub given : MayBeGiven coming_before now
-  pub serves : Serves (models_at before) old now (KeeperRose before after) (request_of (models_at before) (envelope_of EveryMethod body)) reply after.kept after.held
+  pub serves : Serves (models_at before) old now (KeeperRose before after) (asked_by (models_at before) old body) reply after.kept after.held
   pub taken : TakesMoment coming_before coming_now body
 
 -- memory was wanting before the body was read: that is told, and nothing else happened
@@ -52,8 +58,12 @@ AnswersOver before after coming_before coming_now body reply =
 abbrev pub RepliesBy : (before after : Standpoint) → ℤ → Request → List ℕ → Type 0
 RepliesBy before after now request reply = RepliesTo (models_at before) (KeeperRose before after) now request reply
 
+-- so has that to what is asked for, whoever may call
+abbrev pub RepliesAsked : (before after : Standpoint) → ℤ → (Directory → Request) → List ℕ → Type 0
+RepliesAsked before after now asks reply = (directory : Directory) × RepliesBy before after now (asks directory) reply
+
 -- and that to a body, at a moment that the clock may have given
 pub record RepliesOver (before after : Standpoint) (coming_before : Option (ℕ → ℤ)) (body reply : List ℕ) : Type 0 where
   pub now : ℤ
   pub given : MayBeGiven coming_before now
-  pub replies : RepliesBy before after now (request_of (models_at before) (envelope_of EveryMethod body)) reply
+  pub replies : RepliesAsked before after now (λ directory. request_of (models_at before) directory (envelope_of EveryMethod body)) reply

@@ -1,5 +1,6 @@
 pub mod Lines
 pub mod LineSteps
+pub mod Directory
 pub mod Request
 pub mod MethodCall
 pub mod Service

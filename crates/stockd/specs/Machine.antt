@@ -14,12 +14,13 @@ use Rattle.ob_query.specs.Groups.{Groups}
 use Rattle.ob_query.specs.Read.{ReadCause, Reads}
 use Rattle.ob_query.specs.Search.{IsMalformed, SearchCounts, SearchReads, Searches}
 use Rattle.ob_query.specs.SearchForms.{counted_of, objects_of, sought_of}
-use Rattle.ob_rpc.specs.Envelope.{Envelope, Fault, envelope_of}
+use Rattle.ob_rpc.specs.Envelope.{Envelope, Fault, element_place, envelope_of}
 use Rattle.ob_rpc.specs.declared.methods.Served.TheVariants.{EveryMethod}
 use Rattle.ob_schema.specs.Models.{model_at}
 use Rattle.ob_schema.specs.Tables.{Tables}
 use Rattle.ob_schema.specs.declared.info.ModelInfo.{ModelInfo}
-use Rattle.stockd.specs.Request.{Call, Request, called, malformed, request_of, told_of}
+use Rattle.stockd.specs.Directory.{directory_of}
+use Rattle.stockd.specs.Request.{Call, Request, called, identified, malformed, request_of, told_of, wrong}
 use Rattle.stockd.specs.declared.request.Method.{Method}
 use Rattle.stockd.specs.declared.request.Method.TheVariants as method
 use Rattle.stockd.specs.declared.request.ReadMethod.{ReadMethod}
@@ -80,11 +81,15 @@ Calls models old now call outcome new = IsSomeAnd (model_at models call.model) (
 abbrev pub Answers : List ModelInfo → Tables → ℤ → Request → List ℕ → Tables → Type 0
 Answers models old now (called id call) reply new = (outcome : Result Data Refusal) × Calls models old now call outcome new × (reply ≡ outcome_text models id (told call.layout outcome))
 Answers models old now (told_of id json) reply new = (reply ≡ result_text id json) × (new ≡ old)
+Answers models old now (identified id json) reply new = (reply ≡ result_text id json) × (new ≡ old)
+Answers models old now (wrong id n) reply new = (reply ≡ malformed_text models id (element_place n)) × (new ≡ old)
 Answers models old now (malformed id place) reply new = (reply ≡ malformed_text models id place) × (new ≡ old)
 
--- the reply to a call that the keeper failed
+-- the reply to a request that the keeper failed; one for which nobody is looked up asks nothing of the keeper
 abbrev pub TellsKeeper : Request → List ℕ → Type 0
 TellsKeeper (called id call) reply = reply ≡ keeper_text id
+TellsKeeper (identified id json) reply = reply ≡ keeper_text id
+TellsKeeper (wrong id n) reply = reply ≡ keeper_text id
 TellsKeeper _ reply = ⊥
 
 -- What the machine may answer a request: its defined answer, or want of memory, or a fault of
@@ -109,9 +114,13 @@ pub record IsUnread (old : State) (reply : List ℕ) (new : State) : Type 0 wher
   pub tables : new.tables ≡ old.tables
   pub moments : new.moments ≡ old.moments
 
+-- what a body asks for, by those who may call over some tables
+abbrev pub asked_by : List ModelInfo → Tables → (body : List ℕ) → Request
+asked_by models tables body = request_of models (directory_of models tables) (envelope_of EveryMethod body)
+
 -- the machine may give this reply to the body, and go on so: a body that is read takes its moment
 pub record Step (models : List ModelInfo) (old : State) (body reply : List ℕ) (new : State) : Type 0 where
-  pub answer : MayAnswer models old.tables (old.moments 0) (Rose old.faults new.faults) (request_of models (envelope_of EveryMethod body)) reply new.tables
+  pub answer : MayAnswer models old.tables (old.moments 0) (Rose old.faults new.faults) (asked_by models old.tables body) reply new.tables
   pub moment : (new.moments ≡ moments_after (envelope_of EveryMethod body) old.moments) ⊎ IsUnread old reply new
   pub count : old.faults ≤ new.faults
 

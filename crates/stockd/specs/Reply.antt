@@ -5,13 +5,17 @@ use Rattle.ob_base.specs.declared.refusal.Refusal.{Refusal}
 use Rattle.ob_cache.specs.Calls.{Refuses}
 use Rattle.ob_cache.specs.Standing.{Holding, RestsAt}
 use Rattle.ob_io.specs.Store.{Store}
+use Rattle.ob_io.specs.declared.keeper.KeepFault.TheVariants as keep_fault
+use Rattle.ob_rpc.specs.Envelope.{element_place}
 use Rattle.ob_schema.specs.Models.{model_at}
 use Rattle.ob_schema.specs.Tables.{Tables}
 use Rattle.ob_schema.specs.declared.info.ModelInfo.{ModelInfo}
-use Rattle.stockd.specs.Machine.{MeansCause, called_at}
-use Rattle.stockd.specs.Request.{Call, Request, called, malformed, told_of}
-use Rattle.stockd.specs.declared.answer.Reply.{Reply}
-use Rattle.stockd.specs.declared.answer.Reply.TheVariants.{Text, NoMemory}
+use Rattle.stockd.specs.Machine.{MeansCause, TellsKeeper, called_at}
+use Rattle.stockd.specs.Request.{Call, Request, called, identified, malformed, told_of, wrong}
+use Rattle.stockd.specs.declared.request.ElementFault.{ElementFault}
+use Rattle.stockd.specs.declared.request.ElementFault.TheVariants as fault
+use Rattle.stockd.specs.declared.replies.Reply.{Reply}
+use Rattle.stockd.specs.declared.replies.Reply.TheVariants.{Text, NoMemory}
 use Rattle.stockd.specs.Texts.{keeper_text, malformed_text, no_memory_text, outcome_text, result_text, told}
 
 -- the text of a reply
@@ -29,16 +33,24 @@ pub record RepliesToCall (models : List ModelInfo) (rose : Type 0) (now : ℤ) (
   pub cause : IfErr outcome (Refuses rose (λ why. IsSomeAnd (model_at models call.model) (λ info. MeansCause call.method models (called_at now call info) why)))
   pub tells : MayTell reply (outcome_text models id (told call.layout outcome))
 
--- the reply to a request that is no call: what is told whatever the rows, or the place that is wrong first
+-- the reply to a request that is no call: what is told, the element that is wrong first, or the place of the body that is
 abbrev pub TellsPlainly : List ModelInfo → Request → List ℕ → Type 0
 TellsPlainly models (told_of id json) reply = MayTell reply (result_text id json)
+TellsPlainly models (identified id json) reply = MayTell reply (result_text id json)
+TellsPlainly models (wrong id n) reply = MayTell reply (malformed_text models id (element_place n))
 TellsPlainly models (malformed id place) reply = MayTell reply (malformed_text models id place)
 TellsPlainly models _ reply = ⊥
 
--- the reply to a request
+-- the reply to a request of this id whose elements aren't read: one is wrong, or the user wasn't looked up
+abbrev pub TellsUnread : List ModelInfo → Data → ElementFault → List ℕ → Type 0
+TellsUnread models id (fault.Wrong n) reply = MayTell reply (malformed_text models id (element_place n))
+TellsUnread models id (fault.Keeper keep_fault.Failed) reply = MayTell reply (keeper_text id)
+TellsUnread models id (fault.Keeper keep_fault.NoMemory) reply = reply ≡ no_memory_text
+
+-- the reply to a request; of one for which a user is looked up it may tell of a fault of the keeper, where its count rose
 abbrev pub RepliesTo : List ModelInfo → Type 0 → ℤ → Request → List ℕ → Type 0
 RepliesTo models rose now (called id call) reply = RepliesToCall models rose now id call reply
-RepliesTo models rose now request reply = TellsPlainly models request reply
+RepliesTo models rose now request reply = TellsPlainly models request reply ⊎ (rose × TellsKeeper request reply)
 
 -- the reply tells of the result, or of a fault of the keeper, whose count rose
 abbrev pub TellsKept : Type 0 → Data → Data → List ℕ → Type 0

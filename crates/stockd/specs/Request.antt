@@ -1,6 +1,5 @@
 -- What a body asks for.
-use Rattle.std.specs.Prelude.{ℕ, ◌==◌, ◌&&◌, ◌||◌, List, bytes_eq, codes, Bool, false, is_some, if◌then◌else◌, Option, Some, None, option_and_then, Result, Ok, Err}
-use Rattle.std.specs.Option.{option_map_or}
+use Rattle.std.specs.Prelude.{ℕ, zero, suc, ◌&&◌, ◌||◌, List, bytes_eq, codes, Bool, false, if◌then◌else◌, Option, Some, None, option_and_then, Result, Ok, Err}
 use Rattle.ob_base.specs.Chain.{◌>>=◌}
 use Rattle.ob_base.specs.declared.id.ModelNo.{ModelNo}
 use Rattle.ob_base.specs.declared.id.RecId.{RecId}
@@ -12,6 +11,7 @@ use Rattle.ob_schema.specs.declared.info.ModelInfo.{ModelInfo}
 use Rattle.serde_json.specs.Data.{Data, array, boolean, number, object, string, no_members, put, unsigned, Items, no_items, item}
 use Rattle.serde_json.specs.Events.{items_len}
 use Rattle.serde_json.specs.Find.{as_number, as_str, as_u64}
+use Rattle.stockd.specs.Directory.{Directory}
 use Rattle.stockd.specs.declared.request.Layout.{Layout}
 use Rattle.stockd.specs.declared.request.Layout.TheVariants as layout
 use Rattle.stockd.specs.declared.request.Method.{Method}
@@ -28,19 +28,26 @@ pub record Call : Type 0 where
   pub kw : Data
   pub layout : Layout
 
--- what a body asks for, with the id by which it is answered: a call, what is told whatever the rows, or nothing, since it is malformed at a place
+-- what a body asks for, with the id by which it is answered: a call; what is told whatever the rows, or of a user whom a login names;
+-- or nothing, since an element of this number is wrong, which shows by the user or behind him, or the body is malformed at a place, which shows before
 pub data Request : Type 0 where
   called : Data → Call → Request
   told_of : Data → Data → Request
+  identified : Data → Data → Request
+  wrong : Data → (element : ℕ) → Request
   malformed : Data → List PathStep → Request
 
--- whether a JSON value is this integer
-abbrev pub is_integer : ℕ → Data → Bool
-is_integer n d = option_map_or (λ m. m == n) (option_and_then as_u64 (as_number d)) false
+-- the id that a JSON value is: an integer from 0 on
+abbrev pub whole_number : Data → Option ℕ
+whole_number d = option_and_then as_u64 (as_number d)
 
--- the caller: so far user 2 with the key `admin`
-abbrev pub is_caller : (user key : Data) → Bool
-is_caller user key = is_integer 2 user && is_text (codes "admin") key
+-- the caller of an id and a key, if that key opens a call for him
+abbrev pub caller_with : Directory → (id : ℕ) → (key : List ℕ) → Option RecId
+caller_with directory id key = if directory.may_call (record { 0 = id }) key then Some (record { 0 = id }) else None
+
+-- the caller that two JSON values name, an integer and a text
+abbrev pub caller_of : Directory → (user key : Data) → Option RecId
+caller_of directory user key = option_and_then (λ id. option_and_then (caller_with directory id) (as_str key)) (whole_number user)
 
 -- the method of a name that a model has: each can be read, searched and counted, has its fields told, and has rows deleted; rows are made of those of which a create makes any, and changed of those of which a write changes any
 abbrev pub method_named : List ModelInfo → ModelInfo → Data → Option Method
@@ -71,16 +78,17 @@ element n None = Err n
 element n (Some x) = Ok x
 
 -- the call of a caller's model and method, with the rest of the elements; the first that is wrong is told
-abbrev pub call_in : List ModelInfo → Layout → (model method args : Data) → Items → Result Call ℕ
-call_in models layout model method args rest =
+abbrev pub call_in : List ModelInfo → Layout → (model method args : Data) → Items → RecId → Result Call ℕ
+call_in models layout model method args rest caller =
     element 3 (option_and_then (model_named models) (as_str model)) >>= λ number. element 4 (method_of models number method)
-    >>= λ named. Ok (record { caller = record { 0 = 2 }; model = number; method = named; args = args; kw = named_args rest; layout = layout })
+    >>= λ named. Ok (record { caller = caller; model = number; method = named; args = args; kw = named_args rest; layout = layout })
 
 -- The call that the elements of an envelope make, or the number of the first that is wrong;
 -- where there are fewer than six, of the first that is missing.
-abbrev pub call_of : List ModelInfo → Layout → Items → Result Call ℕ
-call_of models layout (item db (item user (item key (item model (item method (item args rest)))))) = if is_text (codes "stock") db then (if is_caller user key then call_in models layout model method args rest else Err 1) else Err 0
-call_of models layout few = Err (items_len few)
+abbrev pub call_of : List ModelInfo → Directory → Layout → Items → Result Call ℕ
+call_of models directory layout (item db (item user (item key (item model (item method (item args rest)))))) =
+    if is_text (codes "stock") db then (element 1 (caller_of directory user key) >>= call_in models layout model method args rest) else Err 0
+call_of models directory layout few = Err (items_len few)
 
 -- the elements of `execute` as those of `execute_kw`: what stands behind the first five is its list of arguments
 abbrev pub listed : Items → Items
@@ -91,29 +99,27 @@ listed few = few
 abbrev pub version_json : Data
 version_json = object (put (codes "server_version") (string (codes "17.0")) (put (codes "server_serie") (string (codes "17.0")) (put (codes "protocol_version") (number (unsigned 1)) no_members)))
 
--- what `login` and `authenticate` tell of a login and a key: the user's id, else false; so far there is user 2 with `admin` for both
-abbrev pub login_json : (login key : Data) → Data
-login_json login key = if is_text (codes "admin") login && is_text (codes "admin") key then number (unsigned 2) else boolean false
+-- the id of a user, or false
+abbrev pub user_json : Option RecId → Data
+user_json None = boolean false
+user_json (Some id) = number (unsigned id.0)
 
--- whether a JSON value is a text
-abbrev pub is_any_text : Data → Bool
-is_any_text d = is_some (as_str d)
+-- What `login` and `authenticate` tell of their elements, a database, a login, a key, and maybe one that is unread: the id of the
+-- user with this login and key, else false. Or the number of the first that is wrong; where there are fewer than three, of the first that is missing.
+abbrev pub login_of : Directory → Items → Result Data ℕ
+login_of directory (item db (item login (item key rest))) =
+    if is_text (codes "stock") db then (element 1 (as_str login) >>= λ name. element 2 (as_str key) >>= λ word. Ok (user_json (directory.user_with name word))) else Err 0
+login_of directory few = Err (items_len few)
 
--- What they tell of their elements, a database, a login, a key, and maybe one that is unread; or the number
--- of the first that is wrong; where there are fewer than three, of the first that is missing.
-abbrev pub login_of : Items → Result Data ℕ
-login_of (item db (item login (item key rest))) =
-    if is_text (codes "stock") db then (if is_any_text login then (if is_any_text key then Ok (login_json login key) else Err 2) else Err 1) else Err 0
-login_of few = Err (items_len few)
-
--- the request of an id, by the call that its elements make
+-- the request of an id, by the call that its elements make: the database is read before a user is looked up, all else behind that
 abbrev pub request_by : Data → Result Call ℕ → Request
 request_by id (Ok call) = called id call
-request_by id (Err n) = malformed id (element_place n)
+request_by id (Err zero) = malformed id (element_place 0)
+request_by id (Err (suc n)) = wrong id (suc n)
 
--- the request of an id, by what is told of its elements
+-- the request of an id, by what a login tells of its elements: all are read before a user is looked up
 abbrev pub telling_by : Data → Result Data ℕ → Request
-telling_by id (Ok json) = told_of id json
+telling_by id (Ok json) = identified id json
 telling_by id (Err n) = malformed id (element_place n)
 
 -- `login` or `authenticate`
@@ -121,14 +127,14 @@ abbrev pub is_login : List ℕ → Bool
 is_login method = bytes_eq method (codes "login") || bytes_eq method (codes "authenticate")
 
 -- the request of an id, by the method of a service and its elements
-abbrev pub request_with : List ModelInfo → Data → (method : List ℕ) → Items → Request
-request_with models id method elements =
+abbrev pub request_with : List ModelInfo → Directory → Data → (method : List ℕ) → Items → Request
+request_with models directory id method elements =
     if bytes_eq method (codes "version") then told_of id version_json
-    else if is_login method then telling_by id (login_of elements)
-    else if bytes_eq method (codes "execute") then request_by id (call_of models layout.Spread (listed elements))
-    else request_by id (call_of models layout.Listed elements)
+    else if is_login method then telling_by id (login_of directory elements)
+    else if bytes_eq method (codes "execute") then request_by id (call_of models directory layout.Spread (listed elements))
+    else request_by id (call_of models directory layout.Listed elements)
 
 -- the request of a body, by its envelope
-abbrev pub request_of : List ModelInfo → Result Envelope Fault → Request
-request_of models (Ok envelope) = request_with models envelope.id envelope.method envelope.args
-request_of models (Err fault) = malformed fault.id fault.place
+abbrev pub request_of : List ModelInfo → Directory → Result Envelope Fault → Request
+request_of models directory (Ok envelope) = request_with models directory envelope.id envelope.method envelope.args
+request_of models directory (Err fault) = malformed fault.id fault.place

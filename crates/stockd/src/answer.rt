@@ -1,61 +1,40 @@
 //! The reply to one body. A reply's bytes are made before its changes are committed,
 //! so that want of memory for them comes before anything is kept.
 
-ghost use Rattle.std.specs.Prelude.{◌≡◌, ◌≤◌, ◌⊎◌, ℕ, ℤ, IfOk, IfSome, Some, Err, false, option_map};
+ghost use Rattle.std.specs.Prelude.{◌≡◌, ◌≤◌, ◌⊎◌, ℕ, ℤ, IfOk, IfSome, false, option_map};
 ghost use Rattle.serde_json.specs.View.{view, items_view};
 ghost use Rattle.serde_json.specs.Written.{has_float};
 ghost use Rattle.ob_base.specs.Times.{IsMoment};
 ghost use Rattle.ob_cache.specs.Calls.{IsAsked, IsCalled, IsResting, models_at, settled_over, standpoint};
 ghost use Rattle.ob_cache.specs.Kept.{OthersStay};
-ghost use Rattle.ob_cache.specs.Standing.{IsAtRest, NextIdsUpTo, RestsAt, Stands, Stays, max_next_id};
+ghost use Rattle.ob_cache.specs.Standing.{IsAtRest, NextIdsUpTo, Stands, Stays, max_next_id};
 ghost use Rattle.ob_cache.specs.declared.stages.Phase.TheVariants as phase;
 ghost use Rattle.ob_call.specs.Called.{called_by, result_view};
 ghost use Rattle.ob_io.specs.Cause.{Rose};
-ghost use Rattle.ob_orm.specs.RefusalText.{refusal_message, refusal_name};
-ghost use Rattle.ob_rpc.specs.Envelope.{element_place, envelope_of};
+ghost use Rattle.ob_query.specs.SearchQuestions.{OnlyAsked};
+ghost use Rattle.ob_rpc.specs.Envelope.{envelope_of};
 ghost use Rattle.ob_rpc.specs.declared.methods.Served.TheVariants.{EveryMethod};
-ghost use Rattle.ob_rpc.specs.Reply.{error, reply_form, reply_of, OutcomeHasNoFloat};
 ghost use Rattle.ob_schema.specs.Models.{HasModel, model_at};
 ghost use Rattle.ob_schema.specs.Tables.{Tables};
-ghost use Rattle.stockd.specs.Body.{AnswersOver, RepliesBy, RepliesOver, ServesOver};
+ghost use Rattle.stockd.specs.Body.{AnswersOver, RepliesAsked, RepliesBy, RepliesOver, ServesAsked, ServesOver};
 ghost use Rattle.stockd.specs.Machine.{Makes, MakesCause, Tells, TellsCause, moments_after};
 ghost use Rattle.stockd.specs.MethodCall.{call_view, handed_view};
-ghost use Rattle.stockd.specs.Reply.{Keeps, MayTell, TellsKept, TellsPlainly, text_of};
-ghost use Rattle.stockd.specs.Request.{call_of, called, listed, login_of, request_by, request_of, request_with, telling_by, version_json};
-ghost use Rattle.stockd.specs.Texts.{malformed_text, no_memory_text, outcome_text, result_text, told};
+ghost use Rattle.stockd.specs.Reply.{Keeps, TellsKept, text_of};
+ghost use Rattle.stockd.specs.Request.{call_of, called, listed, login_of, request_by, request_with, telling_by};
+ghost use Rattle.stockd.specs.Texts.{no_memory_text};
 
-use crate::places::{body_place, element_place};
+use crate::replies::{Reply, call_refused, refused, told, unread, version_told};
 use crate::request::{Layout, Method, MethodCall, ReadMethod, WriteMethod, call_of};
-use crate::service::{is_login, listed, login_of, version_json};
-use ob_base::{Ledger, NoMemory, Refusal, Sequence, Steps, Word};
+use crate::service::{is_login, listed, login_of};
+use ob_base::{Ledger, NoMemory, Refusal, Sequence, Steps};
 use ob_cache::Engine;
 use ob_call::Call;
 use ob_io::{Clock, KeepFault, Keeper};
-use ob_orm::{create, fields_get, refusal_text, unlink, write};
+use ob_orm::{create, fields_get, unlink, write};
 use ob_query::{read, read_group, search, search_count, search_read};
-use ob_rpc::{EnvFault, Envelope, Json, Outcome, Served, envelope, no_memory_reply, reply_text};
-use ob_schema::Schema;
+use ob_rpc::{EnvFault, Envelope, Json, Outcome, Served, envelope, reply_text};
 use serde_json::Map;
 use std::alloc::Global;
-
-/// The text of a reply, or that there was no memory for it.
-#[derive(Drop)]
-pub enum Reply {
-    Text(Word),
-    NoMemory,
-}
-
-impl Reply {
-    /// The text; the one for want of memory takes none.
-    pub fn as_str(&self) -> &str
-        ensures { result.now ≡ text_of self.now }
-    {
-        match self {
-            Reply::Text(text) => text.as_str(),
-            Reply::NoMemory => no_memory_reply(),
-        }
-    }
-}
 
 /// Answers one body, and carries out what it asks for.
 pub fn answer<K: Keeper, C: Clock, L: Ledger>(
@@ -108,10 +87,10 @@ fn serve<K: Keeper, L: Ledger>(
     requires rest { IsResting (standpoint K.Keeper engine.old) }
     requires moment { IsMoment now }
     requires id { has_float (view envelope.id) ≡ false }
-    ensures served { ServesOver (standpoint K.Keeper engine.old) (standpoint K.Keeper engine.new) now
-        (request_with (models_at (standpoint K.Keeper engine.old)) (view envelope.id) envelope.method (items_view envelope.args)) (text_of result) }
-    ensures causes { RepliesBy (standpoint K.Keeper engine.old) (standpoint K.Keeper engine.new) now
-        (request_with (models_at (standpoint K.Keeper engine.old)) (view envelope.id) envelope.method (items_view envelope.args)) (text_of result) }
+    ensures served { ServesAsked (standpoint K.Keeper engine.old) (standpoint K.Keeper engine.new) now
+        (λ directory. request_with (models_at (standpoint K.Keeper engine.old)) directory (view envelope.id) envelope.method (items_view envelope.args)) (text_of result) }
+    ensures causes { RepliesAsked (standpoint K.Keeper engine.old) (standpoint K.Keeper engine.new) now
+        (λ directory. request_with (models_at (standpoint K.Keeper engine.old)) directory (view envelope.id) envelope.method (items_view envelope.args)) (text_of result) }
     ensures others { OthersStay engine.old.held.models (K.kept engine.old.keeper.now) (K.kept engine.new.keeper.now) }
     ensures rests { IsAtRest engine.old.held.models engine.new.held }
     ensures lender { engine.new.keeper.ghost_name ≡ engine.old.keeper.ghost_name }
@@ -127,7 +106,7 @@ fn serve<K: Keeper, L: Ledger>(
         return version_told(alloc, &id);
     }
     if is_login(method.as_str()) {
-        return login_told(alloc, engine.schema(), &id, args.as_slice());
+        return serve_login(alloc, engine, &id, args.as_slice());
     }
     if method.as_str() == "execute" {
         return serve_spread(alloc, engine, now, steps, &id, args);
@@ -143,6 +122,27 @@ fn serve<K: Keeper, L: Ledger>(
     )
 }
 
+/// Answers what `login` or `authenticate` find, or which element is wrong.
+fn serve_login<K: Keeper>(
+    alloc: Global,
+    engine: &mut Engine<'_, K>,
+    id: &Json,
+    elements: &[Json],
+) -> Reply
+    requires rest { IsResting (standpoint K.Keeper engine.old) }
+    requires id { has_float (view id.now) ≡ false }
+    ensures served { (now : ℤ) → ServesAsked (standpoint K.Keeper engine.old) (standpoint K.Keeper engine.new) now
+        (λ directory. telling_by (view id.now) (login_of directory (items_view elements.now))) (text_of result) }
+    ensures causes { (now : ℤ) → RepliesAsked (standpoint K.Keeper engine.old) (standpoint K.Keeper engine.new) now
+        (λ directory. telling_by (view id.now) (login_of directory (items_view elements.now))) (text_of result) }
+    ensures asked { OnlyAsked K.Keeper engine.old engine.new }
+{
+    match login_of(alloc, engine, elements) {
+        Ok(json) => told(alloc, id, &Outcome::Result(json)),
+        Err(fault) => unread(alloc, engine.schema(), id, fault),
+    }
+}
+
 /// Answers the call of `execute` at its moment, whose arguments are elements by themselves.
 fn serve_spread<K: Keeper, L: Ledger>(
     alloc: Global,
@@ -155,10 +155,10 @@ fn serve_spread<K: Keeper, L: Ledger>(
     requires rest { IsResting (standpoint K.Keeper engine.old) }
     requires moment { IsMoment now }
     requires id { has_float (view id.now) ≡ false }
-    ensures served { ServesOver (standpoint K.Keeper engine.old) (standpoint K.Keeper engine.new) now
-        (request_by (view id.now) (call_of (models_at (standpoint K.Keeper engine.old)) Layout.Spread (listed (items_view elements)))) (text_of result) }
-    ensures causes { RepliesBy (standpoint K.Keeper engine.old) (standpoint K.Keeper engine.new) now
-        (request_by (view id.now) (call_of (models_at (standpoint K.Keeper engine.old)) Layout.Spread (listed (items_view elements)))) (text_of result) }
+    ensures served { ServesAsked (standpoint K.Keeper engine.old) (standpoint K.Keeper engine.new) now
+        (λ directory. request_by (view id.now) (call_of (models_at (standpoint K.Keeper engine.old)) directory Layout.Spread (listed (items_view elements)))) (text_of result) }
+    ensures causes { RepliesAsked (standpoint K.Keeper engine.old) (standpoint K.Keeper engine.new) now
+        (λ directory. request_by (view id.now) (call_of (models_at (standpoint K.Keeper engine.old)) directory Layout.Spread (listed (items_view elements)))) (text_of result) }
     ensures others { OthersStay engine.old.held.models (K.kept engine.old.keeper.now) (K.kept engine.new.keeper.now) }
     ensures rests { IsAtRest engine.old.held.models engine.new.held }
     ensures lender { engine.new.keeper.ghost_name ≡ engine.old.keeper.ghost_name }
@@ -191,18 +191,18 @@ fn serve_elements<K: Keeper, L: Ledger>(
     requires rest { IsResting (standpoint K.Keeper engine.old) }
     requires moment { IsMoment now }
     requires id { has_float (view id.now) ≡ false }
-    ensures served { ServesOver (standpoint K.Keeper engine.old) (standpoint K.Keeper engine.new) now
-        (request_by (view id.now) (call_of (models_at (standpoint K.Keeper engine.old)) layout (items_view elements.now))) (text_of result) }
-    ensures causes { RepliesBy (standpoint K.Keeper engine.old) (standpoint K.Keeper engine.new) now
-        (request_by (view id.now) (call_of (models_at (standpoint K.Keeper engine.old)) layout (items_view elements.now))) (text_of result) }
+    ensures served { ServesAsked (standpoint K.Keeper engine.old) (standpoint K.Keeper engine.new) now
+        (λ directory. request_by (view id.now) (call_of (models_at (standpoint K.Keeper engine.old)) directory layout (items_view elements.now))) (text_of result) }
+    ensures causes { RepliesAsked (standpoint K.Keeper engine.old) (standpoint K.Keeper engine.new) now
+        (λ directory. request_by (view id.now) (call_of (models_at (standpoint K.Keeper engine.old)) directory layout (items_view elements.now))) (text_of result) }
     ensures others { OthersStay engine.old.held.models (K.kept engine.old.keeper.now) (K.kept engine.new.keeper.now) }
     ensures rests { IsAtRest engine.old.held.models engine.new.held }
     ensures lender { engine.new.keeper.ghost_name ≡ engine.old.keeper.ghost_name }
     ensures count { K.faults engine.old.keeper.now ≤ K.faults engine.new.keeper.now }
 {
-    match call_of(engine.schema(), layout, elements) {
+    match call_of(engine, layout, elements) {
         Ok(call) => serve_call(alloc, engine, now, steps, id, &call),
-        Err(number) => element_refused(alloc, engine.schema(), id, number),
+        Err(fault) => unread(alloc, engine.schema(), id, fault),
     }
 }
 
@@ -384,92 +384,5 @@ fn keep<K: Keeper>(alloc: Global, engine: &mut Engine<'_, K>, id: &Json, json: J
     match fault {
         KeepFault::Failed => refused(alloc, engine.schema(), id, &Refusal::Keeper),
         KeepFault::NoMemory => Reply::NoMemory,
-    }
-}
-
-/// The reply that tells what `login` or `authenticate` find, or which element is wrong.
-fn login_told(alloc: Global, schema: &Schema, id: &Json, elements: &[Json]) -> Reply
-    requires { has_float (view id.now) ≡ false }
-    ensures { TellsPlainly schema.now (telling_by (view id.now) (login_of (items_view elements.now))) (text_of result) }
-{
-    match login_of(elements) {
-        Ok(json) => told(alloc, id, &Outcome::Result(json)),
-        Err(number) => element_refused(alloc, schema, id, number),
-    }
-}
-
-/// The reply that tells what the server is.
-fn version_told(alloc: Global, id: &Json) -> Reply
-    requires { has_float (view id.now) ≡ false }
-    ensures { MayTell (text_of result) (result_text (view id.now) version_json) }
-{
-    match version_json(alloc) {
-        Ok(json) => told(alloc, id, &Outcome::Result(json)),
-        Err(NoMemory) => Reply::NoMemory,
-    }
-}
-
-/// The reply to a request whose element of this number is wrong.
-fn element_refused(alloc: Global, schema: &Schema, id: &Json, number: u64) -> Reply
-    requires { has_float (view id.now) ≡ false }
-    ensures { MayTell (text_of result) (malformed_text schema.now (view id.now) (element_place number)) }
-{
-    match element_place(alloc, number) {
-        Ok(place) => refused(alloc, schema, id, &Refusal::Request(place)),
-        Err(NoMemory) => Reply::NoMemory,
-    }
-}
-
-/// The reply to a call that is refused; a place among its arguments is told as one of the body.
-fn call_refused(
-    alloc: Global,
-    schema: &Schema,
-    id: &Json,
-    layout: Layout,
-    refusal: Refusal,
-) -> Reply
-    requires { has_float (view id.now) ≡ false }
-    ensures { MayTell (text_of result) (outcome_text schema.now (view id.now) (told layout (Err refusal))) }
-{
-    match refusal {
-        Refusal::Request(place) => match body_place(alloc, layout, &place) {
-            Ok(place) => refused(alloc, schema, id, &Refusal::Request(place)),
-            Err(NoMemory) => Reply::NoMemory,
-        },
-        refusal => refused(alloc, schema, id, &refusal),
-    }
-}
-
-/// The reply that tells of a refusal.
-fn refused(alloc: Global, schema: &Schema, id: &Json, refusal: &Refusal) -> Reply
-    requires { has_float (view id.now) ≡ false }
-    ensures { MayTell (text_of result) (outcome_text schema.now (view id.now) (Err refusal.now)) }
-{
-    match refusal {
-        Refusal::NoMemory => Reply::NoMemory,
-        _ => error_told(alloc, schema, id, refusal),
-    }
-}
-
-/// The reply of this id that tells of a refusal.
-fn error_told(alloc: Global, schema: &Schema, id: &Json, refusal: &Refusal) -> Reply
-    requires { has_float (view id.now) ≡ false }
-    ensures { MayTell (text_of result) (reply_form (view id.now) (error (refusal_name refusal.now) (refusal_message schema.now refusal.now))) }
-{
-    match refusal_text(alloc, schema, refusal) {
-        Ok((name, message)) => told(alloc, id, &Outcome::Error { name, message }),
-        Err(NoMemory) => Reply::NoMemory,
-    }
-}
-
-/// The reply that tells of an outcome.
-fn told(alloc: Global, id: &Json, outcome: &Outcome) -> Reply
-    requires id { has_float (view id.now) ≡ false }
-    requires outcome { OutcomeHasNoFloat outcome.now }
-    ensures { MayTell (text_of result) (reply_form (view id.now) (reply_of outcome.now)) }
-{
-    match reply_text(alloc, id, outcome) {
-        Ok(text) => Reply::Text(text),
-        Err(_) => Reply::NoMemory,
     }
 }

@@ -6,20 +6,23 @@
 //!
 //! Rooms: `run` has a whole run, over any objects; `words` says what it is asked for;
 //! `session` serves the lines of the input, `lines` cuts them; `serving` serves connections,
-//! and `connection` one of them; `request` reads what a body asks for, `answer` answers it, and
-//! `places` says where it is wrong; `auditing` writes a report; `output` writes, and `ending` says
-//! how a run ends; `start` has the words of the command line and the host's things.
+//! and `connection` one of them; `request` reads what a body asks for, `callers` finds who asks,
+//! `answer` answers it, `service` what needs no call, `replies` has the replies, and `places` says
+//! where a body is wrong; `auditing` writes a report; `output` writes, and `ending` says how a run
+//! ends; `start` has the words of the command line and the host's things.
 //! Nothing but `main` stands here.
 #![tactic(auto)]
 
 mod answer;
 mod auditing;
+mod callers;
 mod connection;
 mod ending;
 mod lines;
 mod opening;
 mod output;
 mod places;
+mod replies;
 mod request;
 mod run;
 mod service;
@@ -28,8 +31,9 @@ mod session;
 mod start;
 mod words;
 
-pub use answer::{Reply, answer};
+pub use answer::answer;
 pub use connection::serve_connection;
+pub use replies::Reply;
 pub use run::run;
 use std::process::ExitCode;
 pub use words::{Store, Usage, address_of, store_of};

@@ -1,21 +1,24 @@
-//! What the elements of an envelope ask for: a call of a method of a model. The caller and which
-//! methods a model has so far stand here; the first element that is wrong is told by its number.
+//! What the elements of an envelope ask for: a call of a method of a model. Which methods a model
+//! has so far stands here; the first element that is wrong is told by its number.
 
-ghost use Rattle.std.specs.Prelude.{◌≡◌, option_and_then, IfOk, IfSome};
+ghost use Rattle.std.specs.Prelude.{◌≡◌, option_and_then, IfErr, IfOk, IfSome};
+ghost use Rattle.ob_cache.specs.Calls.{IsResting, models_at, standpoint};
+ghost use Rattle.ob_query.specs.SearchQuestions.{IsUnanswered, OnlyAsked};
 ghost use Rattle.ob_rpc.specs.Envelope.{is_text};
 ghost use Rattle.ob_schema.specs.Models.{HasModel, model_at, model_named};
 ghost use Rattle.serde_json.specs.Find.{as_str};
 ghost use Rattle.serde_json.specs.View.{view, items_view};
-ghost use Rattle.stockd.specs.MethodCall.{CallIs};
-ghost use Rattle.stockd.specs.Request.{call_of, is_caller, is_integer, method_named};
+ghost use Rattle.stockd.specs.Directory.{OfDirectory};
+ghost use Rattle.stockd.specs.MethodCall.{CallIs, IsUnread};
+ghost use Rattle.stockd.specs.Request.{call_of, method_named};
 
+use crate::callers::caller_of;
 use ob_base::{ModelNo, RecId};
+use ob_cache::Engine;
+use ob_io::{KeepFault, Keeper};
 use ob_orm::{is_creatable, is_writable};
 use ob_rpc::Json;
 use ob_schema::Schema;
-
-/// The one caller so far.
-const CALLER: RecId = RecId(2);
 
 /// The methods that read.
 #[derive(Clone, Copy, Debug, PartialEq, Eq)]
@@ -63,46 +66,55 @@ pub(crate) struct MethodCall<'a> {
     pub(crate) layout: Layout,
 }
 
+/// Why elements aren't read.
+#[derive(Clone, Copy, Debug, PartialEq, Eq)]
+pub(crate) enum ElementFault {
+    /// The element of this number is wrong, or missing.
+    Wrong(u64),
+    /// The user wasn't looked up.
+    Keeper(KeepFault),
+}
+
 /// The call that elements make: database, user, key, model, method, arguments, and maybe
 /// arguments by name. Or the number of the first that is wrong, or that is missing.
-pub(crate) fn call_of<'a>(
-    schema: &Schema,
+pub(crate) fn call_of<'a, K: Keeper>(
+    engine: &mut Engine<'_, K>,
     layout: Layout,
     elements: &'a [Json],
-) -> Result<MethodCall<'a>, u64>
-    ensures found { CallIs result (call_of schema.now layout (items_view elements.now)) }
-    ensures model { IfOk result (λ call. HasModel schema.now call.model) }
+) -> Result<MethodCall<'a>, ElementFault>
+    requires rest { IsResting (standpoint K.Keeper engine.old) }
+    ensures found { OfDirectory (standpoint K.Keeper engine.old) (λ directory.
+        CallIs result (call_of (models_at (standpoint K.Keeper engine.old)) directory layout (items_view elements.now))) }
+    ensures model { IfOk result (λ call. HasModel (models_at (standpoint K.Keeper engine.old)) call.model) }
+    ensures asked { OnlyAsked K.Keeper engine.old engine.new }
+    ensures causes { IfErr result (IsUnread (IsUnanswered K.Keeper engine.old engine.new)) }
 {
     let [db, user, key, model, method, args, named @ ..] = elements else {
-        return Err(elements.len() as u64);
+        return Err(ElementFault::Wrong(elements.len() as u64));
     };
     if !is_text(db, "stock") {
-        return Err(0);
+        return Err(ElementFault::Wrong(0));
     }
-    if !is_caller(user, key) {
-        return Err(1);
-    }
+    let caller = match caller_of(engine, user, key) {
+        Ok(Some(caller)) => caller,
+        Ok(None) => return Err(ElementFault::Wrong(1)),
+        Err(fault) => return Err(ElementFault::Keeper(fault)),
+    };
+    let schema = engine.schema();
     let Some(model) = model_named(schema, model) else {
-        return Err(3);
+        return Err(ElementFault::Wrong(3));
     };
     let Some(method) = method_named(schema, model, method) else {
-        return Err(4);
+        return Err(ElementFault::Wrong(4));
     };
     Ok(MethodCall {
-        caller: CALLER,
+        caller,
         model,
         method,
         args,
         kw: named.first(),
         layout,
     })
-}
-
-/// Whether this is the one caller, with its key.
-fn is_caller(user: &Json, key: &Json) -> bool
-    ensures { result ≡ is_caller (view user.now) (view key.now) }
-{
-    is_integer(user, 2) && is_text(key, "admin")
 }
 
 /// The model of a name.
@@ -147,16 +159,6 @@ pub(crate) fn is_text(value: &Json, text: &str) -> bool
 {
     match value.as_str() {
         Some(found) => text == found,
-        None => false,
-    }
-}
-
-/// Whether the value is this integer.
-fn is_integer(value: &Json, number: u64) -> bool
-    ensures { result ≡ is_integer number (view value.now) }
-{
-    match value.as_u64() {
-        Some(found) => found == number,
         None => false,
     }
 }

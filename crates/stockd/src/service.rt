@@ -1,16 +1,22 @@
 //! What is no call of a model: `version`, `login` and `authenticate` of the service `common`; and how
-//! the elements of `execute` stand for those of `execute_kw`. Which users there are is settled in
-//! `request`.
+//! the elements of `execute` stand for those of `execute_kw`. Who logs in is settled in `callers`.
 
-ghost use Rattle.std.specs.Prelude.{◌≡◌, IfOk, false};
+ghost use Rattle.std.specs.Prelude.{◌≡◌, IfErr, IfOk, false};
+ghost use Rattle.ob_cache.specs.Calls.{IsResting, standpoint};
+ghost use Rattle.ob_query.specs.SearchQuestions.{IsUnanswered, OnlyAsked};
 ghost use Rattle.serde_json.specs.View.{items_view, view};
 ghost use Rattle.serde_json.specs.Written.{has_float};
-ghost use Rattle.stockd.specs.Request.{is_any_text, is_login, listed, login_json, login_of, version_json};
+ghost use Rattle.stockd.specs.Directory.{OfDirectory};
+ghost use Rattle.stockd.specs.MethodCall.{IsUnread};
+ghost use Rattle.stockd.specs.Request.{is_login, listed, login_of, user_json, version_json};
 ghost use Rattle.stockd.specs.Service.{LoginIs};
 
-use crate::request::is_text;
-use ob_base::{NoMemory, Sequence};
+use crate::callers::user_with;
+use crate::request::{ElementFault, is_text};
+use ob_base::{NoMemory, RecId, Sequence};
+use ob_cache::Engine;
 use ob_call::put_member;
+use ob_io::Keeper;
 use ob_rpc::Json;
 use serde_json::Map;
 use std::alloc::Global;
@@ -39,42 +45,46 @@ pub(crate) fn is_login(method: &str) -> bool
     method == "login" || method == "authenticate"
 }
 
-/// What these tell of their elements, a database, a login and a key; or the number of the first
-/// that is wrong, or that is missing.
-pub(crate) fn login_of(elements: &[Json]) -> Result<Json, u64>
-    ensures { LoginIs result (login_of (items_view elements.now)) }
+/// What these tell of their elements, a database, a login and a key: the id of the user with this
+/// login and key, or false. Or the number of the first that is wrong, or that is missing.
+pub(crate) fn login_of<K: Keeper>(
+    alloc: Global,
+    engine: &mut Engine<'_, K>,
+    elements: &[Json],
+) -> Result<Json, ElementFault>
+    requires rest { IsResting (standpoint K.Keeper engine.old) }
+    ensures found { OfDirectory (standpoint K.Keeper engine.old) (λ directory. LoginIs result (login_of directory (items_view elements.now))) }
+    ensures asked { OnlyAsked K.Keeper engine.old engine.new }
+    ensures causes { IfErr result (IsUnread (IsUnanswered K.Keeper engine.old engine.new)) }
+    ensures plain { IfOk result (λ json. has_float (view json) ≡ false) }
 {
     let [db, login, key, ..] = elements else {
-        return Err(elements.len() as u64);
+        return Err(ElementFault::Wrong(elements.len() as u64));
     };
     if !is_text(db, "stock") {
-        return Err(0);
+        return Err(ElementFault::Wrong(0));
     }
-    if !is_any_text(login) {
-        return Err(1);
-    }
-    if !is_any_text(key) {
-        return Err(2);
-    }
-    Ok(user_json(login, key))
-}
-
-/// The id of the user with this login and key, or false.
-fn user_json(login: &Json, key: &Json) -> Json
-    ensures { view result ≡ login_json (view login.now) (view key.now) }
-{
-    if is_text(login, "admin") && is_text(key, "admin") {
-        Json::from(2u64)
-    } else {
-        Json::Bool(false)
+    let Some(login) = login.as_str() else {
+        return Err(ElementFault::Wrong(1));
+    };
+    let Some(key) = key.as_str() else {
+        return Err(ElementFault::Wrong(2));
+    };
+    match user_with(alloc, engine, login, key) {
+        Ok(user) => Ok(user_json(user)),
+        Err(fault) => Err(ElementFault::Keeper(fault)),
     }
 }
 
-/// Whether the value is a text.
-fn is_any_text(value: &Json) -> bool
-    ensures { result ≡ is_any_text (view value.now) }
+/// The id of a user, or false.
+fn user_json(user: Option<RecId>) -> Json
+    ensures told { view result ≡ user_json user }
+    ensures plain { has_float (view result) ≡ false }
 {
-    value.as_str().is_some()
+    match user {
+        Some(id) => Json::from(id.0),
+        None => Json::Bool(false),
+    }
 }
 
 /// The elements of `execute` as those of `execute_kw`.

@@ -6,7 +6,7 @@ ghost use Rattle.std.specs.Prelude.{◌≡◌, ◌≢◌, ◌↔◌, ◌<◌, �
 ghost use Rattle.ob_base.specs.declared.id.Cell.{Cell as CellData};
 ghost use Rattle.ob_orm.specs.Install as spec;
 ghost use Rattle.ob_orm.specs.Install.{ChangesAt, Gives, GivesFor};
-ghost use Rattle.ob_orm.specs.InstallSteps.{AreCounted, Finds, FindsBy, FindsManaged, HasOwnInfo, IsNoGroup, IsOwner, IsWhole, course_of, makes};
+ghost use Rattle.ob_orm.specs.InstallSteps.{AreCounted, Finds, FindsBy, FindsManaged, HasOwnInfo, IsOwner, IsWhole, course_of, makes};
 ghost use Rattle.ob_orm.specs.NewRowSteps.{MayFit};
 ghost use Rattle.ob_schema.specs.Models.{HasField, field_at, is_given_from};
 
@@ -67,8 +67,10 @@ fn managed(placed: &Placed<'_>, cell: Cell) -> Option<Broken>
     requires counted { AreCounted placed.now }
     requires all { length placed.now.ids.items ≡ length placed.now.rows.now }
     ensures is { IfSome result (λ b. b ≡ record { kind = BrokenKind.Managed; cell = cell }) }
-    ensures owned { IsSome result → (n : ℕ) × IsOwner placed.entry.now cell n × IsSomeAnd (slice_get placed.entry.now.rows.now n) (λ row. spec.is_of_group row ≡ false) }
-    ensures none { result ≡ None → (n : ℕ) → IsOwner placed.entry.now cell n → IsSomeAnd (slice_get placed.entry.now.rows.now n) (λ row. spec.is_of_group row ≡ true) }
+    ensures owned { IsSome result → (n : ℕ) × IsOwner placed.entry.now cell n
+        × IsSomeAnd (slice_get placed.entry.now.rows.now n) (λ row. spec.is_of_group row ≡ false) }
+    ensures none { result ≡ None → (n : ℕ) → IsOwner placed.entry.now cell n
+        → IsSomeAnd (slice_get placed.entry.now.rows.now n) (λ row. spec.is_of_group row ≡ true) }
 {
     match owner(placed, cell) {
         Some(number) if !is_of_group(&placed.rows[number]) => Some(Broken {
@@ -155,7 +157,8 @@ fn cell_given(
     requires whole { IsWhole maker.now.schema.now placed.now }
     requires within { number < length placed.now.rows.now }
     requires field { HasField maker.now.schema.now model field }
-    ensures { IfOk result (λ found. (cell : CellData) → (found ≡ Some cell) ↔ GivesFor maker.entry.now.schema.now (course_of maker.entry.now.schema.now placed.entry.now) number model field cell) }
+    ensures { IfOk result (λ found. (cell : CellData) → (found ≡ Some cell)
+        ↔ GivesFor maker.entry.now.schema.now (course_of maker.entry.now.schema.now placed.entry.now) number model field cell) }
 {
     // The law of registries, by which a link is a plain field.
     maker.schema.parts_fit_together();
@@ -199,7 +202,8 @@ fn forbidden_at(
     requires whole { IsWhole maker.now.schema.now placed.now }
     requires within { number < length placed.now.rows.now }
     requires field { field_at maker.now.schema.now cell.model cell.field ≡ Some info.now }
-    ensures { IfOk result (FindsBy maker.entry.now.schema.now (course_of maker.entry.now.schema.now placed.entry.now) (λ other. other ≡ cell) number) }
+    ensures { IfOk result (FindsBy maker.entry.now.schema.now (course_of maker.entry.now.schema.now placed.entry.now)
+        (λ other. other ≡ cell) number) }
 {
     if info.fixed && changes(maker, placed, number, info, cell)? {
         return Ok(Some(Broken {
@@ -225,7 +229,8 @@ fn changes(
     requires within { number < length placed.now.rows.now }
     requires field { field_at maker.now.schema.now cell.model cell.field ≡ Some info.now }
     ensures owned { IfOk result (λ changed. changed ≡ true → (n : ℕ) × IsOwner placed.entry.now cell n) }
-    ensures told { IfOk result (λ changed. IsTrue changed ↔ ChangesAt maker.entry.now.schema.now (course_of maker.entry.now.schema.now placed.entry.now) number cell) }
+    ensures told { IfOk result (λ changed. IsTrue changed
+        ↔ ChangesAt maker.entry.now.schema.now (course_of maker.entry.now.schema.now placed.entry.now) number cell) }
 {
     if !is_given(info) || !is_made_before(placed, number, cell) {
         return Ok(false);
@@ -246,7 +251,8 @@ fn is_given(info: &FieldInfo) -> bool
 fn is_made_before(placed: &Placed<'_>, number: usize, cell: Cell) -> bool
     requires { AreCounted placed.now }
     ensures before { result ≡ true → (n : ℕ) × IsOwner placed.entry.now cell n × (n < number) }
-    ensures unmade { result ≡ false → (position (makes cell) placed.entry.now.making.edits.items ≡ None) ⊎ ((n : ℕ) × IsOwner placed.entry.now cell n × (number ≤ n)) }
+    ensures unmade { result ≡ false → (position (makes cell) placed.entry.now.making.edits.items ≡ None)
+        ⊎ ((n : ℕ) × IsOwner placed.entry.now cell n × (number ≤ n)) }
 {
     match owner(placed, cell) {
         Some(first) => first < number,

@@ -3,7 +3,7 @@
 ghost use Rattle.std.specs.Prelude.{◌≡◌, ◌≤◌, [], All, IfOk, OnOk, length, map};
 ghost use Rattle.ob_base.specs.Times.{IsMoment};
 ghost use Rattle.ob_orm.specs.Install as spec;
-ghost use Rattle.ob_orm.specs.Install.{course, with_row};
+ghost use Rattle.ob_orm.specs.Install.{course_by, with_row};
 ghost use Rattle.ob_orm.specs.InstallSteps.{ArePlaced, IsPlacedBehind, IsWhole, NamesAmong, course_of, edits_of, made_by};
 ghost use Rattle.ob_orm.specs.NewRowSteps.{HoldsNextIds, IsReady, IsTyped};
 ghost use Rattle.ob_schema.specs.Models.{HasModel};
@@ -35,13 +35,13 @@ pub(crate) fn place_rows<'r>(
     rows: &'r [PresetRow],
 ) -> Result<Placed<'r>, NoMemory>
     requires preset { IsPreset maker.now.schema.now rows.now }
-    requires moment { IsMoment maker.now.now }
+    requires moment { IsMoment maker.now.author.now }
     requires ready { IsReady maker.now.schema.now making }
     requires none { making.edits.items ≡ [] }
     ensures whole { IfOk result (IsWhole maker.entry.now.schema.now) }
     ensures rows { IfOk result (λ placed. placed.rows.now ≡ rows.now) }
     ensures made { IfOk result (λ placed. HoldsNextIds maker.entry.now.schema.now (empty_tables maker.entry.now.schema.now) making
-        → course_of maker.entry.now.schema.now placed ≡ course maker.entry.now.schema.now maker.entry.now.now rows.now) }
+        → course_of maker.entry.now.schema.now placed ≡ course_by maker.entry.now.schema.now maker.entry.now.author rows.now) }
 {
     let mut counts = Vec::new(maker.alloc);
     counts.push(0)?;
@@ -60,14 +60,14 @@ pub(crate) fn place_rows<'r>(
 /// Makes a row behind others.
 fn place_row(maker: &Maker<'_>, placed: &mut Placed<'_>, row: &PresetRow) -> Result<(), NoMemory>
     requires model { HasModel maker.now.schema.now row.now.model }
-    requires moment { IsMoment maker.now.now }
+    requires moment { IsMoment maker.now.author.now }
     requires named { All (λ given. NamesAmong (length placed.old.ids.items) given.1) row.now.values }
     requires typed { All (IsTyped maker.now.schema.now row.now.model) (spec.given_by (map (λ id. id.0) placed.old.ids.items) row.now.values) }
     requires placed { ArePlaced maker.now.schema.now placed.old }
     ensures placed { OnOk result (ArePlaced maker.entry.now.schema.now placed.new) }
     ensures behind { OnOk result (IsPlacedBehind placed.old placed.new) }
     ensures made { OnOk result (HoldsNextIds maker.entry.now.schema.now (empty_tables maker.entry.now.schema.now) placed.old.making
-        → (made_by maker.entry.now.schema.now placed.new ≡ with_row maker.entry.now.schema.now maker.entry.now.now (made_by maker.entry.now.schema.now placed.old) row.now)
+        → (made_by maker.entry.now.schema.now placed.new ≡ with_row maker.entry.now.schema.now maker.entry.now.author (made_by maker.entry.now.schema.now placed.old) row.now)
         × HoldsNextIds maker.entry.now.schema.now (empty_tables maker.entry.now.schema.now) placed.new.making) }
 {
     let given = given_by(maker.alloc, placed.ids.as_slice(), row.values.as_slice())?;

@@ -1,5 +1,5 @@
-//! The values of the plain fields of a row, from those that are given: the moment of the call in
-//! its stamps, and in a row that is made also defaults.
+//! The values of the plain fields of a row, from those that are given: what the author stamps, and
+//! in a row that is made also defaults.
 
 ghost use Rattle.std.specs.Prelude.{◌≡◌, ◌++◌, All, IfOk, IfSome, option_map};
 ghost use Rattle.ob_base.specs.Times.{IsMoment};
@@ -11,11 +11,12 @@ ghost use Rattle.ob_schema.specs.Fields.{HasFieldType};
 ghost use Rattle.ob_schema.specs.Models.{HasField, HasModel, field_at};
 ghost use Rattle.ob_tables.specs.Fitting.{AreFitIn};
 
+use crate::author::{is_stamp, stamp};
 use crate::making::Maker;
-use crate::row_values::{default_value, is_stamp, push_valued};
+use crate::row_values::{default_value, push_valued};
 use ob_base::{FieldNo, ModelNo, NoMemory, Sequence, Value};
 
-/// The values of the plain fields of a row, made or changed at a moment, that get one.
+/// The values of the plain fields of a row, made or changed by the author, that get one.
 pub(crate) fn filled(
     maker: &Maker<'_>,
     made: bool,
@@ -23,9 +24,9 @@ pub(crate) fn filled(
     given: &[(FieldNo, Value)],
 ) -> Result<Sequence<(FieldNo, Value)>, NoMemory>
     requires model { HasModel maker.now.schema.now model }
-    requires moment { IsMoment maker.now.now }
+    requires moment { IsMoment maker.now.author.now }
     requires typed { All (IsTyped maker.now.schema.now model) given.now }
-    ensures value { IfOk result (λ values. values ≡ spec.filled maker.entry.now.schema.now maker.entry.now.now made model given.now) }
+    ensures value { IfOk result (λ values. values ≡ spec.filled maker.entry.now.schema.now maker.entry.now.author made model given.now) }
     ensures fit { IfOk result (AreFitIn maker.entry.now.schema.now model) }
 {
     let mut values = Sequence::new(maker.alloc);
@@ -50,15 +51,16 @@ fn filled_value(
 ) -> Result<Option<Value>, NoMemory>
     requires field { HasField maker.now.schema.now model number }
     requires makeable { IfSome (field_at maker.now.schema.now model number) IsMakeable }
-    requires moment { IsMoment maker.now.now }
+    requires moment { IsMoment maker.now.author.now }
     requires typed { All (IsTyped maker.now.schema.now model) given.now }
     ensures value { IfOk result (λ value. IfSome (field_at maker.entry.now.schema.now model number)
-        (λ field. value ≡ filled_value maker.entry.now.schema.now maker.entry.now.now made given.now (number.0, field))) }
+        (λ field. value ≡ filled_value maker.entry.now.schema.now maker.entry.now.author made given.now (number.0, field))) }
     ensures typed { IfOk result (λ value. IfSome value (HasFieldType (field_at maker.entry.now.schema.now model number))) }
 {
     let field = maker.schema.info(model, number);
-    if is_stamp(made, field.name.as_str()) {
-        return Ok(Some(Value::Moment(maker.now)));
+    let name = field.name.as_str();
+    if is_stamp(made, name) {
+        return Ok(Some(stamp(maker.author, name)));
     }
     match value_for(given, number) {
         Some(value) => Ok(Some(value.try_clone(maker.alloc)?)),

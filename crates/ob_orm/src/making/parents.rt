@@ -26,7 +26,7 @@ pub(crate) fn make_parents(
     given: &mut Vec<(FieldNo, Value)>,
 ) -> Result<(), NoMemory>
     requires model { HasModel maker.now.schema.now model }
-    requires moment { IsMoment maker.now.now }
+    requires moment { IsMoment maker.now.author.now }
     requires typed { All (IsTyped maker.now.schema.now model) given.old.items }
     requires ready { IsReady maker.now.schema.now making.old }
     ensures typed { OnOk result (All (IsTyped maker.entry.now.schema.now model) given.new.items) }
@@ -34,7 +34,7 @@ pub(crate) fn make_parents(
     ensures ready { OnOk result (IsReady maker.entry.now.schema.now making.new) }
     ensures made { OnOk result ((old : Tables) → HoldsNextIds maker.entry.now.schema.now old making.old
         → (record { tables = so_far maker.entry.now.schema.now old making.new; given = given.new.items }
-        ≡ with_parents maker.entry.now.schema.now maker.entry.now.now model (record { tables = so_far maker.entry.now.schema.now old making.old; given = given.old.items }) (parents_of maker.entry.now.schema.now model))
+        ≡ with_parents maker.entry.now.schema.now maker.entry.now.author model (record { tables = so_far maker.entry.now.schema.now old making.old; given = given.old.items }) (parents_of maker.entry.now.schema.now model))
         × HoldsNextIds maker.entry.now.schema.now old making.new) }
 {
     let parents = maker.schema.model_info(model).inherits.as_slice();
@@ -54,7 +54,7 @@ fn make_parent(
 ) -> Result<(), NoMemory>
     requires model { HasModel maker.now.schema.now model }
     requires parent { IsParentIn maker.now.schema.now model parent }
-    requires moment { IsMoment maker.now.now }
+    requires moment { IsMoment maker.now.author.now }
     requires typed { All (IsTyped maker.now.schema.now model) given.old.items }
     requires ready { IsReady maker.now.schema.now making.old }
     ensures typed { OnOk result (All (IsTyped maker.entry.now.schema.now model) given.new.items) }
@@ -62,7 +62,7 @@ fn make_parent(
     ensures ready { OnOk result (IsReady maker.entry.now.schema.now making.new) }
     ensures made { OnOk result ((old : Tables) → HoldsNextIds maker.entry.now.schema.now old making.old
         → (record { tables = so_far maker.entry.now.schema.now old making.new; given = given.new.items }
-        ≡ with_parent maker.entry.now.schema.now maker.entry.now.now model (record { tables = so_far maker.entry.now.schema.now old making.old; given = given.old.items }) parent)
+        ≡ with_parent maker.entry.now.schema.now maker.entry.now.author model (record { tables = so_far maker.entry.now.schema.now old making.old; given = given.old.items }) parent)
         × HoldsNextIds maker.entry.now.schema.now old making.new) }
 {
     if linked(given.as_slice(), parent.link).is_some() {
@@ -82,9 +82,9 @@ pub(crate) fn parent_changes(
     given: &[(FieldNo, Value)],
 ) -> Result<Vec<Edit>, NoMemory>
     requires model { HasModel maker.now.schema.now model }
-    requires moment { IsMoment maker.now.now }
+    requires moment { IsMoment maker.now.author.now }
     requires typed { All (IsTyped maker.now.schema.now model) given.now }
-    ensures edits { IfOk result (λ edits. edits.items ≡ flat_map (parent_change maker.entry.now.schema.now maker.entry.now.now model given.now) (parents_of maker.entry.now.schema.now model)) }
+    ensures edits { IfOk result (λ edits. edits.items ≡ flat_map (parent_change maker.entry.now.schema.now maker.entry.now.author model given.now) (parents_of maker.entry.now.schema.now model)) }
     ensures fit { IfOk result (λ edits. All (MayFit maker.entry.now.schema.now) edits.items) }
 {
     let mut edits = Vec::new(maker.alloc);
@@ -105,9 +105,9 @@ fn push_change(
 ) -> Result<(), NoMemory>
     requires model { HasModel maker.now.schema.now model }
     requires parent { IsParentIn maker.now.schema.now model parent }
-    requires moment { IsMoment maker.now.now }
+    requires moment { IsMoment maker.now.author.now }
     requires typed { All (IsTyped maker.now.schema.now model) given.now }
-    ensures edits { OnOk result (edits.new.items ≡ edits.old.items ++ parent_change maker.entry.now.schema.now maker.entry.now.now model given.now parent) }
+    ensures edits { OnOk result (edits.new.items ≡ edits.old.items ++ parent_change maker.entry.now.schema.now maker.entry.now.author model given.now parent) }
     ensures fit { OnOk result (All (MayFit maker.entry.now.schema.now) edits.old.items → All (MayFit maker.entry.now.schema.now) edits.new.items) }
 {
     let Some(id) = linked(given, parent.link) else {

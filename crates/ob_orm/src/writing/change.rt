@@ -13,6 +13,7 @@ ghost use Rattle.ob_orm.specs.WriteSteps.{asked_change, write_fault};
 ghost use Rattle.ob_schema.specs.Models.{HasModel, model_at};
 ghost use Rattle.ob_tables.specs.Fitting.{AreFitIn};
 
+use crate::author::Author;
 use crate::row_values::given_values;
 use crate::values::Values;
 use ob_base::{FieldNo, ModelNo, NoMemory, Refusal, Sequence, Value};
@@ -65,7 +66,11 @@ pub(crate) fn asked_change(
     let Some(ids) = &given[0] else {
         unreachable!();
     };
-    let values = given_values(alloc, schema, call.model, false, call.now, &given[1])?;
+    let author = Author {
+        user: call.caller,
+        now: call.now,
+    };
+    let values = given_values(alloc, schema, call.model, false, author, &given[1])?;
     let Ok(ids) = named_ids(alloc, ids.json) else {
         return Err(Refusal::NoMemory);
     };

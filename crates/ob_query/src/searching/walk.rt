@@ -18,7 +18,7 @@ const PAGE_ROWS: u32 = 256;
 
 /// Where a walk stands: the ids of its page that are still to come, and the last id of the page.
 #[derive(Drop)]
-pub(crate) struct Walk {
+pub struct Walk {
     page: RefList,
     place: usize,
     last: RecId,
@@ -26,7 +26,7 @@ pub(crate) struct Walk {
 
 impl Walk {
     /// A walk from the first row on.
-    pub(crate) fn new(alloc: Global) -> Walk
+    pub fn new(alloc: Global) -> Walk
         ensures page { result.page ≡ [] }
         ensures last { result.last ≡ record { 0 = 0 } }
     {
@@ -38,7 +38,7 @@ impl Walk {
     }
 
     /// The next id of the model's rows, where there is one.
-    pub(crate) fn next<K: Keeper>(
+    pub fn next<K: Keeper>(
         &mut self,
         engine: &mut Engine<'_, K>,
         model: ModelNo,

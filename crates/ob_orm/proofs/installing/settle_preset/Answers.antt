@@ -4,9 +4,10 @@ use Rattle.ob_cache.specs.Calls.{Refuses, settled_over}
 use Rattle.ob_cache.specs.Stages.{resting}
 use Rattle.ob_cache.specs.Standing.{IsAtRest, RestsAt, Stands, max_next_id}
 use Rattle.ob_io.specs.Cause.{Rose}
-use Rattle.ob_orm.proofs.CreateAnswer.{handed_on, moment_passed, sound_in}
+use Rattle.ob_orm.proofs.CreateAnswer.{author_passed, handed_on, sound_in}
 use Rattle.ob_orm.proofs.InstalledRows.{all-installed, all-so-far, broken-refused, course-is, forbidden-refused, last-tables, rests-still}
 use Rattle.ob_orm.proofs.installing.settle_preset.Goals as goal
+use Rattle.ob_orm.specs.Author.{system_at}
 use Rattle.ob_orm.specs.CreateSteps.{IsBrokenBy}
 use Rattle.ob_orm.specs.Install.{Course, IsRefused, RefusesRows, course, installed}
 use Rattle.ob_orm.specs.InstallSteps.{Finds, IsWhole, course_of}
@@ -38,7 +39,8 @@ returns-in-Ok-Some-clause-refused g c = λ tables rests.
     let schema_is : c.schema.result.now ≡ models = c.schema.ensures ∙ same.models in
     let next : HoldsNextIds models tables making =
     handed_on InstallFault c.begun.result making (λ (m : Making). (t : Tables) → RestsAt (g.K.Keeper.kept engine.keeper.now) engine.held t → HoldsNextIds models t m) c.in_ok-making.ensures.cases c.begun.ensures.told tables rests in
-    let is : course_of models placed ≡ course models c.args.now rows = course-is c.schema.result.now models schema_is _ c.args.now (moment_passed c.args.now c.requires.moment) rows placed making c.in-Ok.ensures.made tables (c.requires.new tables rests) next in
+    let is : course_of models placed ≡ course models c.args.now rows =
+    course-is c.schema.result.now models schema_is _ (system_at c.args.now) (author_passed (system_at c.args.now) c.requires.moment) rows placed making c.in-Ok.ensures.made tables (c.requires.new tables rests) next in
     let whole : IsWhole models placed = subst (λ (ms : List ModelInfo). IsWhole ms placed) schema_is c.in-Ok.ensures.whole in
     let found : Finds models (course_of models placed) (Some b) =
     subst (λ (ms : List ModelInfo). Finds ms (course_of ms placed) (Some b)) schema_is (subst (Finds c.schema.result.now (course_of c.schema.result.now placed)) c.in-Ok-Some.field-0-is c.in-Ok-Some.ensures) in
@@ -60,7 +62,8 @@ returns-in-Ok-settle_rows-clause-settled g c = λ tables rests.
     let empty = c.requires.new tables rests in
     let next : HoldsNextIds models tables making =
     handed_on InstallFault c.begun.result making (λ (m : Making). (t : Tables) → RestsAt (g.K.Keeper.kept engine.keeper.now) engine.held t → HoldsNextIds models t m) c.in_ok-making.ensures.cases c.begun.ensures.told tables rests in
-    let is : course_of models placed ≡ course models c.args.now rows = course-is c.schema.result.now models schema_is _ c.args.now (moment_passed c.args.now c.requires.moment) rows placed making c.in-Ok.ensures.made tables empty next in
+    let is : course_of models placed ≡ course models c.args.now rows =
+    course-is c.schema.result.now models schema_is _ (system_at c.args.now) (author_passed (system_at c.args.now) c.requires.moment) rows placed making c.in-Ok.ensures.made tables empty next in
     let whole : IsWhole models placed = subst (λ (ms : List ModelInfo). IsWhole ms placed) schema_is c.in-Ok.ensures.whole in
     let rests_now = rests-still (g.K.Keeper.kept engine.keeper.now) (g.K.Keeper.kept before.keeper.now) engine.held before.held same tables rests in
     let all : so_far before.held.models tables placed.making ≡ (installed models c.args.now rows).tables =
@@ -87,7 +90,8 @@ returns-in-Err-Constraint-clause-refused g c = λ tables rests.
     let empty = c.requires.new tables rests in
     let next : HoldsNextIds models tables making =
     handed_on InstallFault c.begun.result making (λ (m : Making). (t : Tables) → RestsAt (g.K.Keeper.kept engine.keeper.now) engine.held t → HoldsNextIds models t m) c.in_ok-making.ensures.cases c.begun.ensures.told tables rests in
-    let is : course_of models placed ≡ course models c.args.now rows = course-is c.schema.result.now models schema_is _ c.args.now (moment_passed c.args.now c.requires.moment) rows placed making c.in-Ok.ensures.made tables empty next in
+    let is : course_of models placed ≡ course models c.args.now rows =
+    course-is c.schema.result.now models schema_is _ (system_at c.args.now) (author_passed (system_at c.args.now) c.requires.moment) rows placed making c.in-Ok.ensures.made tables empty next in
     let whole : IsWhole models placed = subst (λ (ms : List ModelInfo). IsWhole ms placed) schema_is c.in-Ok.ensures.whole in
     let rests_now = rests-still (g.K.Keeper.kept engine.keeper.now) (g.K.Keeper.kept before.keeper.now) engine.held before.held same tables rests in
     let told = c.in-Err-Constraint.ensures.refused tables rests_now in

@@ -12,4 +12,4 @@ returns-clause-made c =
     let now : Making = record { next_ids = c.take_id.new.making.next_ids; edits = c.push.new.self } in
     one-made c.args.maker.now.schema.now c.args.model c.args.making.now now id.0 values c.in_ok-id.ensures.raised c.in_ok-id.ensures.next
     (c.in_ok-push.ensures.items ∙ ap (λ (es : Vec Edit Global). es.items ++ edit.Make c.args.model id values ∷ []) c.take_id.ensures.edits)
-    c.args.maker.now.now c.args.given.now c.in_ok-values.ensures.value c.requires.model
+    c.args.maker.now.author c.args.given.now c.in_ok-values.ensures.value c.requires.model

@@ -11,8 +11,8 @@ abbrev pub invariant-loop-given : goal.invariant-loop-given
 invariant-loop-given l = record {
   ready : IsReady l.maker.schema.now l.making;
   made : (old : Tables) → HoldsNextIds l.maker.schema.now old l.fn.making
-      → (so_far l.maker.schema.now old l.making ≡ (made_rows l.maker.schema.now l.maker.now (so_far l.maker.schema.now old l.fn.making) l.model l.yielded).tables)
-      × (map (λ id. id.0) l.ids.items ≡ (made_rows l.maker.schema.now l.maker.now (so_far l.maker.schema.now old l.fn.making) l.model l.yielded).ids)
+      → (so_far l.maker.schema.now old l.making ≡ (made_rows l.maker.schema.now l.maker.author (so_far l.maker.schema.now old l.fn.making) l.model l.yielded).tables)
+      × (map (λ id. id.0) l.ids.items ≡ (made_rows l.maker.schema.now l.maker.author (so_far l.maker.schema.now old l.fn.making) l.model l.yielded).ids)
       × HoldsNextIds l.maker.schema.now old l.making;
   typed : All (All (IsTyped l.maker.schema.now l.model)) (into_iter_items l.given-iterator);
 }

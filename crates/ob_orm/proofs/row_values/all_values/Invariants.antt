@@ -7,4 +7,4 @@ use Rattle.ob_orm.proofs.row_values.all_values.Given as goal
 
 -- the values of the fields so far, as they are meant
 abbrev pub invariant-loop-index : goal.invariant-loop-index
-invariant-loop-index l = IfSome (model_at l.schema l.model) (λ info. RowSoFar l.row.made l.row.now (object_place l.row.object) (members_view l.row.members.now.entries) info l.index l.values)
+invariant-loop-index l = IfSome (model_at l.schema l.model) (λ info. RowSoFar l.row.made l.row.author (object_place l.row.object) (members_view l.row.members.now.entries) info l.index l.values)

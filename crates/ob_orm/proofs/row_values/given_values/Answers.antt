@@ -1,5 +1,4 @@
-use Rattle.std.proofs.Common.{List, rules, w64}
-use Rattle.std.proofs.lemmas.Int.{to_z-of_z}
+use Rattle.std.proofs.Common.{List}
 use Rattle.ob_base.specs.declared.id.FieldNo.{FieldNo}
 use Rattle.ob_base.specs.declared.value.Value.{Value}
 use Rattle.ob_call.specs.Forms.{fields_at}
@@ -15,5 +14,5 @@ object_values-requires-clause-form c = form_of (fields_at c.args.schema.now c.ar
 
 pub returns-clause-value : goal.returns-clause-value
 returns-clause-value c =
-    values_given {Of = List (FieldNo × Value)} (model_at c.args.schema.now c.args.model) c.args.made _ c.args.now (to_z-of_z w64 c.args.now (search rules)) c.args.given.now
+    values_given {Of = List (FieldNo × Value)} (model_at c.args.schema.now c.args.model) c.args.made c.args.author c.args.given.now
     c.in-Some.values (λ info values. values) c.object_values.result c.in-Some.is c.object_values.ensures.value

@@ -1,5 +1,4 @@
-use Rattle.std.proofs.Common.{List, rules, w64}
-use Rattle.std.proofs.lemmas.Int.{to_z-of_z}
+use Rattle.std.proofs.Common.{List}
 use Rattle.serde_json.specs.View.{members_view, view}
 use Rattle.ob_base.specs.declared.id.FieldNo.{FieldNo}
 use Rattle.ob_base.specs.declared.value.Value.{Value}
@@ -14,5 +13,5 @@ unreachable-requires c = no_members_of (fields_at c.args.schema.now c.args.model
 
 pub returns-clause-value : goal.returns-clause-value
 returns-clause-value c =
-    values_of_members {Of = List (FieldNo × Value)} (model_at c.args.schema.now c.args.model) (fields_at c.args.schema.now c.args.model) c.args.made _ c.args.now (to_z-of_z w64 c.args.now (search rules))
+    values_of_members {Of = List (FieldNo × Value)} (model_at c.args.schema.now c.args.model) (fields_at c.args.schema.now c.args.model) c.args.made c.args.author
     (object_place c.args.object) (view c.args.json.now) (members_view c.in-Some.members.now.entries) (λ info values. values) c.all_values.result c.requires.form c.in-Some.ensures c.all_values.ensures.value

@@ -7,6 +7,7 @@ use Rattle.ob_rpc.specs.Envelope.{envelope_of}
 use Rattle.ob_rpc.specs.Seen.{seen}
 use Rattle.ob_rpc.specs.declared.methods.Served.TheVariants.{EveryMethod}
 use Rattle.serde_json.specs.View.{view}
+use Rattle.stockd.specs.Directory.{nobody}
 use Rattle.stockd.specs.Request.{request_of}
 use Rattle.stockd.proofs.AnswerLaws.{body_replies, body_serves, fault_replies, fault_serves, given_as, given_moment, none_taken, one_taken, replies_no_memory, tells_by}
 use Rattle.stockd.proofs.answer.answer.Goals as goal
@@ -43,7 +44,7 @@ returns-in-Ok-clause-causes g c =
     record {
       now = _;
       given = given_as _ _ _ (to_z-of_z _ _ fits) c.now-now.ensures.told;
-      replies = body_replies c.args.engine.now.held.models _ _ _ c.args.body.now _ (seen c.in-Ok.envelope) refl c.in-Ok.ensures.ok c.serve.ensures.causes;
+      replies = (c.serve.ensures.causes.0, body_replies c.args.engine.now.held.models c.serve.ensures.causes.0 _ _ _ c.args.body.now _ (seen c.in-Ok.envelope) refl c.in-Ok.ensures.ok c.serve.ensures.causes.1);
     }
 
 pub returns-in-Err-At-clause-causes : goal.returns-in-Err-At-clause-causes
@@ -53,13 +54,16 @@ returns-in-Err-At-clause-causes g c =
     record {
       now = moment.0;
       given = moment.1;
-      replies = fault_replies models _ moment.0 c.args.body.now _ (record { place = c.in-Err-At.place; id = view c.in-Err-At.id })
-          (rw c.in-Err-At.field-0-is at c.in-Err-At.ensures.fault)
-          (tells_by models c.schema.result.now _ (Err (refusal.Request c.in-Err-At.place)) _ c.schema.ensures c.refused.ensures);
+      replies = (
+        nobody,
+        fault_replies models nobody _ moment.0 c.args.body.now _ (record { place = c.in-Err-At.place; id = view c.in-Err-At.id })
+            (rw c.in-Err-At.field-0-is at c.in-Err-At.ensures.fault)
+            (tells_by models c.schema.result.now _ (Err (refusal.Request c.in-Err-At.place)) _ c.schema.ensures c.refused.ensures),
+      );
     }
 
 pub returns-in-Err-NoMemory-clause-causes : goal.returns-in-Err-NoMemory-clause-causes
 returns-in-Err-NoMemory-clause-causes g c =
     let models = c.args.engine.now.held.models in
     let moment = given_moment (g.C.Clock.coming c.args.clock.now) in
-    record { now = moment.0; given = moment.1; replies = replies_no_memory models _ moment.0 (request_of models (envelope_of EveryMethod c.args.body.now)) }
+    record { now = moment.0; given = moment.1; replies = (nobody, replies_no_memory models _ moment.0 (request_of models nobody (envelope_of EveryMethod c.args.body.now))) }

@@ -10,7 +10,8 @@ loop-id-init c = ap (λ (l : List RecId). numbers l ++ c.into_iter-id-iterator.r
 
 pub push-requires : goal.push-requires
 push-requires c =
-    ids-below c.loop-id.list c.in-Some.id.now c.next.new.self c.args.found.now.keys (sym (ap (λ (l : List ℕ). numbers c.loop-id.list ++ l) c.in-Some.ensures.steps) ∙ c.loop-id.invariant) c.into_iter-id-iterator.ensures.into_iter_gives.4
+    ids-below c.loop-id.list c.in-Some.id.now c.next.new.self c.args.found.now.keys
+    (sym (ap (λ (l : List ℕ). numbers c.loop-id.list ++ l) c.in-Some.ensures.steps) ∙ c.loop-id.invariant) c.into_iter-id-iterator.ensures.into_iter_gives.4
 
 pub loop-id-preserved : goal.loop-id-preserved
 loop-id-preserved c =

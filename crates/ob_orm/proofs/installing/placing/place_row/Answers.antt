@@ -46,4 +46,4 @@ returns-clause-made c = λ holds.
     let given_are : c.in_ok-given.given.items ≡ given_by (numbers old.ids.items) row.values =
     c.in_ok-given.ensures ∙ ap (λ (ids : List RecId). given_by (numbers ids) c.as_slice-2.result.now) c.as_slice.ensures.value ∙ ap (given_by (numbers old.ids.items)) c.as_slice-2.ensures in
     let made = c.in_ok-id.ensures.made (empty_tables models) holds in
-    (row-placed models c.args.maker.now.now old new row c.in_ok-given.given.items c.in_ok-id.id given_are made.0 made.1 c.in_ok-push.ensures.items, made.2)
+    (row-placed models c.args.maker.now.author old new row c.in_ok-given.given.items c.in_ok-id.id given_are made.0 made.1 c.in_ok-push.ensures.items, made.2)

@@ -36,7 +36,7 @@ loop-row-preserved c =
       count = let one = ap length says.behind.ids in let push = length_push old.ids.items says.behind.id in omega (arith, one, push, count);
       made = λ holds.
           let so = known.made holds in
-          made-more models c.args.maker.now.now rows old new row says.behind known.fit.counted within (ap (λ (n : ℕ). get_or rows n row) count ∙ sym c.row-item.is) (says.made so.next) so;
+          made-more models c.args.maker.now.author rows old new row says.behind known.fit.counted within (ap (λ (n : ℕ). get_or rows n row) count ∙ sym c.row-item.is) (says.made so.next) so;
     }
 
 pub returns-clause-whole : goal.returns-clause-whole
@@ -56,4 +56,4 @@ returns-clause-made c = λ holds.
     let rows = c.args.rows.now in
     let known = c.loop-row.invariant in
     let end : c.loop-row.row-index ≡ length rows = let out = c.loop-row-test.false in let up = c.loop-row.auto.row-index-end in omega (arith, out, up) in
-    whole-course c.args.maker.now.schema.now c.args.maker.now.now rows c.loop-row.placed known.rows (known.count ∙ end) (known.made holds)
+    whole-course c.args.maker.now.schema.now c.args.maker.now.author rows c.loop-row.placed known.rows (known.count ∙ end) (known.made holds)

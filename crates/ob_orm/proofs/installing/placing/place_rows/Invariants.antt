@@ -11,5 +11,5 @@ invariant-loop-row l = record {
   fit : ArePlaced l.maker.schema.now l.placed;
   rows : l.placed.rows.now ≡ l.rows;
   count : count_of l.placed ≡ l.row-index;
-  made : HoldsNextIds l.maker.schema.now (empty_tables l.maker.schema.now) l.fn.making → MadeSo l.maker.schema.now l.maker.now l.rows l.placed;
+  made : HoldsNextIds l.maker.schema.now (empty_tables l.maker.schema.now) l.fn.making → MadeSo l.maker.schema.now l.maker.author l.rows l.placed;
 }

@@ -8,7 +8,7 @@ use Rattle.ob_schema.specs.declared.info.ParentInfo.{ParentInfo}
 pub loop-parent-preserved : goal.loop-parent-preserved
 loop-parent-preserved c =
     let models = c.args.maker.now.schema.now in
-    let now = c.args.maker.now.now in
+    let by = c.args.maker.now.author in
     let model = c.args.model in
     let parents = c.as_slice-parents.result.now in
     let i = c.loop-parent.parent-index in
@@ -22,9 +22,9 @@ loop-parent-preserved c =
           let start : Begun = begun_by models old c.args.making.now c.args.given.now.items in
           let far = c.loop-parent.invariant.made old holds in
           let one = c.in_ok-make_parent.ensures.made old far.1 in
-          let all : with_parents models now model start (take (i + 1) parents) ≡ with_parent models now model (with_parents models now model start (take i parents)) parent =
-          ap (with_parents models now model start) (take_more parents i none c.loop-parent-test.true) ∙ with_parents-more models now model start (take i parents) parent in
-          (one.0 ∙ ap (λ (b : Begun). with_parent models now model b parent) far.0 ∙ sym all, one.1);
+          let all : with_parents models by model start (take (i + 1) parents) ≡ with_parent models by model (with_parents models by model start (take i parents)) parent =
+          ap (with_parents models by model start) (take_more parents i none c.loop-parent-test.true) ∙ with_parents-more models by model start (take i parents) parent in
+          (one.0 ∙ ap (λ (b : Begun). with_parent models by model b parent) far.0 ∙ sym all, one.1);
     }
 
 pub loop-parent-init : goal.loop-parent-init

@@ -13,6 +13,6 @@ invariant-loop-parent l = record {
   ready : IsReady l.maker.schema.now l.making;
   typed : All (IsTyped l.maker.schema.now l.model) l.given.items;
   made : (old : Tables) → HoldsNextIds l.maker.schema.now old l.fn.making
-      → (begun_by l.maker.schema.now old l.making l.given.items ≡ with_parents l.maker.schema.now l.maker.now l.model (begun_by l.maker.schema.now old l.fn.making l.fn.given.items) (take l.parent-index l.parents))
+      → (begun_by l.maker.schema.now old l.making l.given.items ≡ with_parents l.maker.schema.now l.maker.author l.model (begun_by l.maker.schema.now old l.fn.making l.fn.given.items) (take l.parent-index l.parents))
       × HoldsNextIds l.maker.schema.now old l.making;
 }

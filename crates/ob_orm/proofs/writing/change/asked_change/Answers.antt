@@ -7,7 +7,8 @@ use Rattle.ob_call.specs.Forms.{fields_at}
 use Rattle.ob_call.specs.declared.arguments.Given.{Given}
 use Rattle.ob_orm.specs.RowValues.{vals_expected}
 use Rattle.ob_orm.specs.Write.{ids_expected}
-use Rattle.ob_orm.proofs.CreateAnswer.{moment_passed}
+use Rattle.ob_orm.specs.Author.{author_by}
+use Rattle.ob_orm.proofs.CreateAnswer.{author_passed}
 use Rattle.ob_orm.proofs.FirstArguments.{pair_are, second_fit}
 use Rattle.ob_orm.proofs.WriteAnswer.{denied_change, taken_change, wrong_change}
 use Rattle.ob_orm.proofs.writing.change.asked_change.Goals as goal
@@ -32,7 +33,7 @@ returns-in_err-values-clause-value c =
     let told = rw expects at c.in_ok-given.ensures.told in
     let fit = rw expects at c.in_ok-given.ensures.fit in
     let two = pair_are ids_expected (vals_expected (fields_at c.args.schema.now call.model)) items (Some c.in-Some.ids) c.index-2.result.now fit (rw c.in-Some.is at c.index.ensures) c.index-2.ensures in
-    rw (p.1, p.2) (wrong_change c.args.schema.now call items c.in-Some.ids c.index-2.result.now _ (moment_passed call.now c.requires.moment) two told c.in_err-values.field-0.0 c.in_err-values.ensures.value)
+    rw (p.1, p.2) (wrong_change c.args.schema.now call items c.in-Some.ids c.index-2.result.now _ (author_passed (author_by call) c.requires.moment) two told c.in_err-values.field-0.0 c.in_err-values.ensures.value)
 
 pub returns-clause-value : goal.returns-clause-value
 returns-clause-value c =
@@ -42,7 +43,7 @@ returns-clause-value c =
     let told = rw expects at c.in_ok-given.ensures.told in
     let fit = rw expects at c.in_ok-given.ensures.fit in
     let two = pair_are ids_expected (vals_expected (fields_at c.args.schema.now call.model)) items (Some c.in-Some.ids) c.index-2.result.now fit (rw c.in-Some.is at c.index.ensures) c.index-2.ensures in
-    taken_change c.args.schema.now call items c.in-Some.ids c.index-2.result.now _ (moment_passed call.now c.requires.moment) two told
+    taken_change c.args.schema.now call items c.in-Some.ids c.index-2.result.now _ (author_passed (author_by call) c.requires.moment) two told
     (record { ids = c.in-Ok.ids; values = c.in_ok-values.values }) c.in-Ok.ensures c.in_ok-values.ensures.value
 
 pub returns-clause-low : goal.returns-clause-low
