@@ -2,6 +2,7 @@
 played here. A further kind of line gets its method in Case and its row in that document."""
 import copy
 import re
+import shlex
 
 import messages as m
 from process import TOP
@@ -134,7 +135,7 @@ class Case:
     # What a run is given.
 
     def set_words(self, rest):
-        self.given.words = rest.split()
+        self.given.words = shlex.split(rest)
 
     def set_text(self, rest):
         name, text = two(rest)

@@ -47,7 +47,7 @@ requests)
     seeds=${1:-1-8} count=${2:-60}
     program=$(tools/build.sh proved stockd) || exit 1
     status=0
-    for profile in mixed hostile orm groups; do
+    for profile in mixed hostile orm; do
         echo "$profile: seeds $seeds, $count requests each"
         python3 tools/compare_requests.py "$oracle" "$program" "$seeds" "$count" "$profile" || status=1
     done

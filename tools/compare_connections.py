@@ -3,10 +3,10 @@
     compare_connections.py ORACLE PROGRAM SEEDS [CONNECTIONS]
 
 SEEDS is A-B or one number. The machine's own comparison of connections goes on, with its heads, its
-cuts, its changed bytes and its pieces; what differs here are the bodies. The program asks no rights
-and doesn't serve every call, so a body is one that both answer alike: a call by the first user, who
-needs no rights, of those that compare_requests.py takes, `execute` of them, one of the service
-`common`, or text that is no call. Prints what differs and how many seeds do.
+cuts, its changed bytes and its pieces; what differs here are the bodies. The program doesn't serve
+every call, nor asks rights for each, so a body is one that both answer alike: a call that
+compare_requests.py takes, by a caller that it leaves, `execute` of them, one of the service `common`,
+or text that is no call. Prints what differs and how many seeds do.
 """
 import json
 import os
@@ -14,12 +14,8 @@ import sys
 
 import compare_requests
 
-# The state of the machine that has connections and the service `common`.
-STAGE = 7
-
-
 def taken(body):
-    """The body as the first user's, where both answer it alike; None where they don't."""
+    """The body as both answer it alike; None where they don't."""
     try:
         whole = json.loads(body)
         params = whole["params"]
@@ -28,13 +24,9 @@ def taken(body):
         return body
     if service == "common" or not isinstance(elements, list) or len(elements) < 5:
         return body
+    compare_requests.given_to_first(elements)
     spread = [*elements[:5], elements[5:]] if method == "execute" else elements
-    if not compare_requests.is_served(spread, compare_requests.LATER, False) or compare_requests.asks_keys(spread):
-        return None
-    if elements[1:3] == [2, "admin"]:
-        elements[1:3] = [1, "system"]
-    is_other = isinstance(elements[1], int) and 2 < elements[1] < 99
-    return None if is_other else json.dumps(whole).encode()
+    return json.dumps(whole).encode() if compare_requests.is_served(spread, False) else None
 
 
 def served_traffic(base, now):
@@ -60,7 +52,7 @@ def main():
     import compare_http
     import fuzz
     compare_http.Traffic = served_traffic(compare_http.Traffic, fuzz.NOW)
-    sys.argv = ["compare_http.py", "--mask", "--stage", str(STAGE), "--seeds", seeds, "--connections", *(more or ["30"]), "--", os.path.abspath(program)]
+    sys.argv = ["compare_http.py", "--mask", "--stage", compare_requests.STAGE, "--seeds", seeds, "--connections", *(more or ["30"]), "--", os.path.abspath(program)]
     sys.exit(compare_http.main())
 
 

@@ -38,6 +38,9 @@ computed='demo.line.subtotal demo.order.total demo.place.parent_path product.cat
 case_is 'an audit of nothing' "$("$program" audit "${demo[@]:1}" <&-; echo "$?")" "$(printf '%s 0 equal\n' $computed)"$'\naudit equal\n0'
 case_is 'two stores' "$("$program" "${demo[@]}" --store "$top/none/a" --store "$top/none/b" </dev/null; echo "$?")" "$usage"$'\n2'
 case_is 'a folder in place of a store' "$("$program" "${demo[@]}" --store "$top" </dev/null; echo "$?")" $'keeper fault\n6'
+case_is 'help among other words' "$("$program" call --help --cache 15 <&- | grep -c -e '--modules' -e '--listen'; echo "${PIPESTATUS[0]}")" $'2\n0'
+case_is 'the version' "$("$program" later --version <&-; echo "$?")" $'stockd 0.1.0\n0'
+case_is 'a shut output of help' "$("$program" --help 2>&1 >&-; echo "$?")" 5
 case_is 'a shut input' "$("$program" "${demo[@]}" <&-; echo "$?")" $'read fault\n4'
 case_is 'a shut output' "$("$program" "${demo[@]}" <"$top/examples/first.jsonl" 2>&1 >&-; echo "$?")" 5
 case_is 'other words and a shut output' "$("$program" later 2>&1 >&-; echo "$?")" 2

@@ -12,7 +12,7 @@ place=$(mktemp -d)
 trap 'rm -rf "$place"' EXIT INT TERM
 # More allocations than the run asks for. Each case makes some of them beforehand, so that
 # one build tries every number: the Nth of all fails, and the run comes to it sooner or later.
-most=640
+most=960
 
 tar -cf - --exclude=out crates crates.txt HANDLES | (cd "$place" && tar -xf -)
 mkdir "$place/cases"

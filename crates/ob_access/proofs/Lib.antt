@@ -5,10 +5,14 @@ pub mod Growing
 pub mod Having
 pub mod Indexing
 pub mod Inserting
+pub mod Leading
 pub mod Least
 pub mod Numbering
+pub mod Once
 pub mod Rising
 pub mod Ruled
 pub mod Searching
+pub mod Seeing
 pub mod Unfound
+pub mod Viewing
 pub mod Walking

@@ -8,3 +8,4 @@ pub mod Ops
 pub mod Policies
 pub mod Rights
 pub mod Users
+pub mod Views

@@ -1,6 +1,6 @@
 //! Laws of the definitions, as clauses of functions that do nothing.
 
-ghost use Rattle.std.specs.Prelude.{◌≡◌, ◌≢◌, ◌↔◌, [], List, Bool, Contains, None, Some, true, filter};
+ghost use Rattle.std.specs.Prelude.{◌≡◌, ◌≢◌, ◌↔◌, [], List, All, Bool, Contains, None, Some, true, filter};
 ghost use Rattle.ob_base.specs.declared.id.FieldNo.{FieldNo};
 ghost use Rattle.ob_base.specs.declared.id.ModelNo.{ModelNo};
 ghost use Rattle.ob_base.specs.declared.id.RecId.{RecId};
@@ -11,9 +11,10 @@ ghost use Rattle.ob_schema.specs.Models.{field_at};
 ghost use Rattle.ob_schema.specs.declared.info.FieldInfo.{FieldInfo};
 ghost use Rattle.ob_schema.specs.declared.info.ModelInfo.{ModelInfo};
 ghost use Rattle.ob_access.specs.Admission.{admits, applies_to, denier, rules_for};
-ghost use Rattle.ob_access.specs.Groups.{IsMember, implied_by};
+ghost use Rattle.ob_access.specs.Groups.{IsMember, implied_by, is_superuser};
 ghost use Rattle.ob_access.specs.Policies.{IsPolicyOver, PolicyData, field_access};
 ghost use Rattle.ob_access.specs.Rights.{allows, field_right, right};
+ghost use Rattle.ob_access.specs.Views.{seen_ids, sees};
 ghost use Rattle.ob_access.specs.declared.policy.Group.{Group};
 
 /// A user's groups are the least there can be: each set with the stated groups, and with each
@@ -26,7 +27,7 @@ pub fn groups_are_least()
 {}
 
 /// Of a caller's groups nothing counts but which they are: two callers of one id who are in
-/// the same groups have the same rights, and the same rows are admitted to them.
+/// the same groups have the same rights, the same rows are admitted to them, and they see the same.
 pub fn rights_go_by_groups()
     ensures right { (policy : PolicyData) (a b : List RecId) → ((id : RecId) → Contains a id ↔ Contains b id)
         → (user : RecId) (model : ModelNo) (op : Op) → right policy a user model op ≡ right policy b user model op }
@@ -37,6 +38,8 @@ pub fn rights_go_by_groups()
         → (user : RecId) (op : Op) (row : Row) → denier policy told a user op row ≡ denier policy told b user op row }
     ensures admits { (policy : PolicyData) (told : Told) (a b : List RecId) → ((id : RecId) → Contains a id ↔ Contains b id)
         → (user : RecId) (op : Op) (row : Row) → admits policy told a user op row ≡ admits policy told b user op row }
+    ensures sees { (policy : PolicyData) (told : Told) (a b : List RecId) → ((id : RecId) → Contains a id ↔ Contains b id)
+        → (user : RecId) (model : ModelNo) (id : RecId) → sees policy told a user model id ≡ sees policy told b user model id }
 {}
 
 /// The field rights of a policy over a registry are those of the fields' definitions.
@@ -75,4 +78,21 @@ pub fn nothing_denied_without_rules()
 pub fn denier_denies()
     ensures { (policy : PolicyData) (told : Told) (own : List RecId) (user : RecId) (op : Op) (row : Row)
         → (denier policy told own user op row ≡ None) ↔ (admits policy told own user op row ≡ true) }
+{}
+
+/// User 1 sees each row that is known, and of a list of rows those that are.
+pub fn user_1_sees_all()
+    ensures rows { (policy : PolicyData) (told : Told) (own : List RecId) (user : RecId) → is_superuser user ≡ true
+        → (model : ModelNo) (id : RecId) → sees policy told own user model id ≡ told.knows model id }
+    ensures lists { (policy : PolicyData) (told : Told) (own : List RecId) (user : RecId) → is_superuser user ≡ true
+        → (model : ModelNo) (ids : List RecId) → seen_ids policy told own user model ids ≡ filter (told.knows model) ids }
+{}
+
+/// Each row that a caller sees is known, and so are those that he sees of a list: he sees each of
+/// them by itself too.
+pub fn seen_rows_are_known()
+    ensures rows { (policy : PolicyData) (told : Told) (own : List RecId) (user : RecId) (model : ModelNo) (id : RecId)
+        → sees policy told own user model id ≡ true → told.knows model id ≡ true }
+    ensures lists { (policy : PolicyData) (told : Told) (own : List RecId) (user : RecId) (model : ModelNo) (ids : List RecId)
+        → All (λ id. sees policy told own user model id ≡ true) (seen_ids policy told own user model ids) }
 {}

@@ -5,7 +5,6 @@ pub mod CreateFields
 pub mod Stamps
 pub mod RowValue
 pub mod RowValues
-pub mod GivenValues
 pub mod ObjectPlaces
 pub mod CreateRows
 pub mod CreateIds
@@ -56,3 +55,4 @@ pub mod ForbiddenValues
 pub mod GivenCells
 pub mod NewStores
 pub mod InstalledRows
+pub mod LinkedRows

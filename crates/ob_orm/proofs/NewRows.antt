@@ -17,11 +17,10 @@ use Rattle.ob_base.specs.declared.id.RecId.{RecId}
 use Rattle.ob_cache.specs.Standing.{max_next_id}
 use Rattle.ob_orm.proofs.Emptied.{after-then, set-next}
 use Rattle.ob_orm.proofs.WriteEdits.{one_edit}
-use Rattle.ob_orm.specs.NewRows.{Begun, MadeRows, Values, behind, changed_values, filled, linked, made_row, made_rows, making, parent_change, parents_of, with_parent, with_parents}
+use Rattle.ob_orm.specs.NewRows.{Begun, MadeRows, Values, behind, changed_values, filled, linked, made_row, made_rows, making, parent_change, parents_of, row_edits, with_parent, with_parents}
 use Rattle.ob_orm.specs.NewRowSteps.{AddsEdits, HoldsNextIds, IsReady, MayFit, held_next, so_far}
 use Rattle.ob_orm.specs.declared.author.Author.{Author}
 use Rattle.ob_orm.specs.declared.making.next_ids.Making.{Making}
-use Rattle.ob_orm.specs.Write.{row_edits}
 use Rattle.ob_schema.specs.Models.{HasModel, model_at}
 use Rattle.ob_schema.specs.Tables.{Tables, next_of}
 use Rattle.ob_schema.specs.declared.info.ModelInfo.{ModelInfo}

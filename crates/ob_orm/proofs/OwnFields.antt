@@ -11,7 +11,7 @@ use Rattle.ob_schema.specs.Models.{field_at, field_named, fields_of, model_at}
 use Rattle.ob_schema.specs.declared.info.FieldInfo.{FieldInfo}
 use Rattle.ob_schema.specs.declared.info.ModelInfo.{ModelInfo}
 use Rattle.ob_call.specs.Forms.{fields_at}
-use Rattle.ob_orm.specs.Values.{field_of_name, is_free, is_given, is_settable, is_settable_name}
+use Rattle.ob_orm.specs.Values.{field_of_name, is_settable, is_settable_name}
 
 -- there is something at a place within
 pub there_at : {X : Type 0} (xs : List X) (i : ℕ) → i < length xs → (x : X) × (slice_get xs i ≡ Some x)
@@ -39,12 +39,7 @@ tested_by_name test models model name number f named at = by (model_at models mo
       let there : option_and_then (λ (n : FieldNo). numbered info.fields n.0) (field_named info.fields name) ≡ Some f = ap (option_and_then (λ (n : FieldNo). numbered info.fields n.0)) (sym named) ∙ own in
       sym (ap (λ (o : Option FieldInfo). option_map_or test o false) there)
 
--- whether calls give values to it
-pub given_by_name : (models : List ModelInfo) (model : ModelNo) (name : List ℕ) (number : FieldNo) (f : FieldInfo) → IfSome (model_at models model) (λ info. Some number ≡ field_named info.fields name)
-    → field_at models model number ≡ Some f → is_free f ≡ is_given (fields_at models model) name
-given_by_name = tested_by_name is_free
-
--- and in a row that is made
+-- whether calls give values to it, and to the parents' rows behind it
 pub settable_by_name : (models : List ModelInfo) (model : ModelNo) (name : List ℕ) (number : FieldNo) (f : FieldInfo) → IfSome (model_at models model) (λ info. Some number ≡ field_named info.fields name)
     → field_at models model number ≡ Some f → is_settable models f ≡ is_settable_name models (fields_at models model) name
 settable_by_name models = tested_by_name (is_settable models) models

@@ -29,9 +29,8 @@ use Rattle.ob_tables.proofs.CallerLemmas.{Field-at}
 use Rattle.ob_tables.specs.After.{edited}
 use Rattle.ob_tables.specs.Fitting.{AreFitIn, IsFitEdit, IsFitId, IsFitIn}
 use Rattle.ob_tables.specs.declared.edit.Edit.{Edit}
-use Rattle.ob_orm.specs.NewRows.{Begun, Values, behind, changed_values, field_behind, field_behind_from, filled, linked, making, parent_change, row_named, value_for, with_parent}
+use Rattle.ob_orm.specs.NewRows.{Begun, Values, behind, changed_values, field_behind, field_behind_from, filled, linked, making, parent_change, row_edits, row_named, value_for, with_parent}
 use Rattle.ob_orm.specs.NewRowSteps.{IsLowRef, IsTyped, MayFit}
-use Rattle.ob_orm.specs.Write.{row_edits}
 use Rattle.ob_orm.specs.declared.author.Author.{Author}
 use Rattle.ob_orm.proofs.WriteEdits.{fits_each, one_edit}
 

@@ -1,19 +1,17 @@
 -- What the JSON of one value gives a field of a row.
-use Rattle.std.proofs.Common.{true, true≢false, ◌||◌, not, ◌≡◌, ◌≢◌, ℕ, ◌++◌, ◌∷◌, [], Bool, false, cond, List, Option, Some, None, Result, Ok, Err, option_map, sym, ap, subst, ◌∙◌, Bor, string_bytes}
-use Rattle.std.proofs.lemmas.Bool.{and_parts, not-true, or_parts}
+use Rattle.std.proofs.Common.{true, true≢false, ◌≡◌, ◌≢◌, ℕ, ◌++◌, Bool, false, cond, List, Option, Some, None, Result, Ok, Err, option_map, sym, ap, subst, ◌∙◌, Bor, string_bytes}
 use Rattle.std.specs.Prelude.{IfSome}
 use Rattle.std.specs.BTreeMap.{is_at}
 use Rattle.std.specs.Cmp.Lexicographic.{slice_cmp}
 use Rattle.std.specs.Map.{lookup}
 use Rattle.std.specs.Ordering.{nat_cmp}
-use Rattle.serde_json.specs.Data.{Data, Members}
+use Rattle.serde_json.specs.Data.{Data}
 use Rattle.serde_json.specs.Find.{get_member}
 use Rattle.serde_json.specs.View.{view, members_view}
 use Rattle.serde_json.specs.declared.value.Value.{Value as Json}
 use Rattle.serde_json.proofs.Views.{Entry, view_of_ref, view-lookup}
 use Rattle.ob_base.specs.Chain.{◌>>=◌}
 use Rattle.ob_base.specs.declared.place.PathStep.{PathStep}
-use Rattle.ob_base.specs.declared.place.PathStep.TheVariants.{Key}
 use Rattle.ob_base.specs.declared.refusal.Refusal.{Refusal}
 use Rattle.ob_base.specs.declared.refusal.Refusal.TheVariants as refusal
 use Rattle.ob_base.specs.declared.value.Value.{Value}
@@ -24,14 +22,11 @@ use Rattle.ob_codec.specs.declared.input.Input.{Input}
 use Rattle.ob_codec.specs.declared.input.Input.TheVariants as input
 use Rattle.ob_codec.specs.declared.fault.CodecFault.{CodecFault}
 use Rattle.ob_codec.specs.declared.fault.CodecFault.TheVariants as codec
-use Rattle.ob_schema.specs.Fields.{HasFieldType, Holds, is_plain_kept}
+use Rattle.ob_schema.specs.Fields.{HasFieldType, Holds}
 use Rattle.ob_definition.specs.Types.{is_list}
 use Rattle.ob_schema.specs.declared.info.FieldInfo.{FieldInfo}
-use Rattle.ob_orm.specs.Author.{is_stamp, stamp}
-use Rattle.ob_orm.specs.RowValues.{given_of, given_value, placed, row_value}
-use Rattle.ob_orm.specs.Values.{is_free}
+use Rattle.ob_orm.specs.RowValues.{placed}
 use Rattle.ob_orm.specs.CreateSteps.{IsFaultAt, IsMakeable}
-use Rattle.ob_orm.specs.declared.author.Author.{Author}
 use Rattle.ob_call.specs.Places.{IsMalformedAt}
 use Rattle.ob_call.specs.Results.{IsResultOf}
 use Rattle.ob_orm.proofs.CreateFields.{told, tell}
@@ -105,26 +100,6 @@ FoundAt name es r = option_map (λ x. x.now) r ≡ lookup (is_at (λ k. slice_cm
 pub found : (name : List ℕ) (es : List Entry) (r : Option (Bor Json)) → FoundAt name es r → option_map (λ x. view x.now) r ≡ get_member name (members_view es)
 found name es r e = view_of_ref r ∙ ap (option_map view) e ∙ view-lookup name es
 
--- what the members give a free field is what a look-up by its name found
-pub given_free : (f : FieldInfo) (name : List ℕ) (es : List Entry) (r : Option (Bor Json)) → name ≡ f.name → is_free f ≡ true → FoundAt name es r → option_map (λ x. view x.now) r ≡ given_of (members_view es) f
-given_free f name es r same free at =
-    found name es r at ∙ ap (λ (n : List ℕ). get_member n (members_view es)) same ∙ sym (ap (λ (b : Bool). cond b (get_member f.name (members_view es)) None) free)
-
--- and another one nothing
-pub given_nothing : (f : FieldInfo) (es : List Entry) → is_free f ≡ false → None ≡ given_of (members_view es) f
-given_nothing f es free = sym (ap (λ (b : Bool). cond b (get_member f.name (members_view es)) None) free)
-
--- a free field is no list, whatever it is given
-pub free_flat : (f : FieldInfo) (r : Option (Bor Json)) → is_free f ≡ true → IfSome r (λ _. is_list f.field_type ≡ false)
-free_flat f None free = tt
-free_flat f (Some x) free =
-    let (plain, rest) = and_parts (is_plain_kept f) (not (is_list f.field_type || f.managed)) free in
-    (or_parts (is_list f.field_type) f.managed (not-true (is_list f.field_type || f.managed) rest)).0
-
--- the value of a field that is no stamp
-no_stamp : (made : Bool) (by : Author) (place : List PathStep) (ms : Members) (f : FieldInfo) → is_stamp made f.name ≡ false → row_value made by place ms f ≡ given_value made (place ++ Key f.name ∷ []) f (given_of ms f)
-no_stamp made by place ms f is = ap (λ (b : Bool). cond b (Ok (Some (stamp by f.name))) (given_value made (place ++ Key f.name ∷ []) f (given_of ms f))) is
-
 -- a value that was read is what the field gets
 abbrev pub some_of : Result Value Refusal → Result (Option Value) Refusal
 some_of (Ok v) = Ok (Some v)
@@ -135,34 +110,6 @@ IsResultOf-some (Ok v) meant is = ap (λ (m : Result Value (List PathStep)). m >
 IsResultOf-some (Err (refusal.Request place)) meant is = ap (λ (m : Result Value (List PathStep)). m >>= λ w. Ok (Some w)) is
 IsResultOf-some (Err refusal.NoMemory) meant is = tt
 IsResultOf-some (Err _) meant is = absurd is
-
--- as what the object gives it is read
-pub new_given : (o : Option FieldInfo) (f : FieldInfo) (made : Bool) (by : Author) (place : List PathStep) (ms : Members) (name : List ℕ) (x : Bor Json) (r : Result Value Refusal) → o ≡ Some f → name ≡ f.name
-    → is_stamp made name ≡ false → Some (view x.now) ≡ given_of ms f
-    → IfSome o (λ field. IsResultOf (λ w. w) r (placed (place ++ Key field.name ∷ []) (value_from field.field_type field.selection (view x.now))))
-    → IfSome o (λ field. IsResultOf (λ w. w) (some_of r) (row_value made by place ms field))
-new_given o f made by place ms name x r is same other at given =
-    let read = placed (place ++ Key f.name ∷ []) (value_from f.field_type f.selection (view x.now)) in
-    let own : IsResultOf (λ w. w) r read = told o f (λ field. IsResultOf (λ w. w) r (placed (place ++ Key field.name ∷ []) (value_from field.field_type field.selection (view x.now)))) is given in
-    let meant : row_value made by place ms f ≡ (read >>= λ v. Ok (Some v)) =
-    no_stamp made by place ms f (ap (is_stamp made) (sym same) ∙ other) ∙ ap (given_value made (place ++ Key f.name ∷ []) f) (sym at) in
-    tell o f (λ field. IsResultOf (λ w. w) (some_of r) (row_value made by place ms field)) is
-    (subst (λ (m : Result (Option Value) (List PathStep)). IsResultOf (λ w. w) (some_of r) m) (sym meant) (IsResultOf-some r read own))
-
--- its default where the object gives it nothing
-pub new_default : (o : Option FieldInfo) (f : FieldInfo) (made : Bool) (by : Author) (place : List PathStep) (ms : Members) (name : List ℕ) (own : Option Value)
-    → o ≡ Some f → name ≡ f.name → is_stamp made name ≡ false → None ≡ given_of ms f → own ≡ cond made f.default None → IfSome o (λ field. IsResultOf (λ w. w) (Ok own) (row_value made by place ms field))
-new_default o f made by place ms name own is same other at default =
-    tell o f (λ field. row_value made by place ms field ≡ Ok own) is
-    (no_stamp made by place ms f (ap (is_stamp made) (sym same) ∙ other) ∙ ap (given_value made (place ++ Key f.name ∷ []) f) (sym at) ∙ ap Ok (sym default))
-
--- what the author stamps
-pub new_stamp : (o : Option FieldInfo) (f : FieldInfo) (made : Bool) (by : Author) (place : List PathStep) (ms : Members) (name : List ℕ) (v : Value)
-    → o ≡ Some f → name ≡ f.name → is_stamp made name ≡ true → v ≡ stamp by name → IfSome o (λ field. IsResultOf (λ w. w) (Ok (Some v)) (row_value made by place ms field))
-new_stamp o f made by place ms name v is same stamped own =
-    tell o f (λ field. row_value made by place ms field ≡ Ok (Some v)) is
-    (ap (λ (b : Bool). cond b (Ok (Some (stamp by f.name))) (given_value made (place ++ Key f.name ∷ []) f (given_of ms f))) (sym (ap (is_stamp made) same) ∙ stamped)
-    ∙ ap (λ (w : Value). Ok (Some w)) (sym (own ∙ ap (stamp by) same)))
 
 -- ---- each has the type of the field
 

@@ -7,7 +7,7 @@ use Rattle.ob_base.specs.declared.id.FieldNo.{FieldNo}
 use Rattle.ob_base.specs.declared.value.Value.{Value}
 use Rattle.ob_base.specs.declared.value.Value.TheVariants as value
 use Rattle.ob_definition.specs.Types.{is_one2many}
-use Rattle.ob_expr.specs.Computing.{Lack}
+use Rattle.ob_expr.specs.Computing.{Lack, unread}
 use Rattle.ob_expr.specs.Meaning.{value_at}
 use Rattle.ob_base.specs.Limits.{max_stratum, max_tree_depth}
 use Rattle.ob_orm.proofs.Contained.{contrary}
@@ -21,7 +21,7 @@ use Rattle.ob_schema.specs.declared.info.FieldInfo.{FieldInfo}
 use Rattle.ob_schema.specs.declared.info.ModelInfo.{ModelInfo}
 use Rattle.ob_schema.specs.declared.info.Origin.{Origin}
 use Rattle.ob_schema.specs.declared.info.Origin.TheVariants as origin
-use Rattle.ob_tables.proofs.CallerLemmas.{Field-at, not_there, plain_is, value_there}
+use Rattle.ob_tables.proofs.CallerLemmas.{Field-at, not_there, plain_is, value_absent, value_there}
 
 both_true : (a b : Bool) → (a && b) ≡ true → (a ≡ true) × (b ≡ true)
 both_true true b is = (refl, is)
@@ -70,11 +70,38 @@ module _ (models : List ModelInfo) (tables : Tables) (registry : IsRegistry mode
       stepped (max_tree_depth * (max_stratum + 1) + 1) (enough models tables) (one_more (enough models tables) (max_tree_depth * (max_stratum + 1)) refl)
       ∙ value_there models tables (value_in models tables (max_tree_depth * (max_stratum + 1) + 1)) cell row info origin.Plain there at from ∙ ap (value_at cell) (plain-value row there)
 
+  -- without a row there is no value
+  absent-value : row_at tables cell.model cell.id ≡ None → val models tables cell ≡ Err (unread cell)
+  absent-value none =
+      stepped (max_tree_depth * (max_stratum + 1) + 1) (enough models tables) (one_more (enough models tables) (max_tree_depth * (max_stratum + 1)) refl)
+      ∙ value_absent models tables (value_in models tables (max_tree_depth * (max_stratum + 1) + 1)) cell none
+
 some_none : (row : PlainRow) → Some row ≡ None → ⊥
 some_none row is = cc
 
 same_ok : (a b : Value) → ◌≡◌ {A = Result Value Lack} (Ok a) (Ok b) → a ≡ b
 same_ok a b is = cc
+
+module _ (models : List ModelInfo) (tables : Tables) (registry : IsRegistry models) (cell : Cell) (info : FieldInfo) (at : field_at models cell.model cell.field ≡ Some info) (plain : is_plain_kept info ≡ true) where
+  nowhere : (o : Option FieldInfo) → option_and_then (λ (i : FieldInfo). option_and_then (plain_from tables i.origin i cell.field cell.id) None) o ≡ None
+  nowhere None = refl
+  nowhere (Some i) = refl
+
+  no_value : (v : Value) → ◌≡◌ {A = Result Value Lack} (Err (unread cell)) (Ok v) → ⊥
+  no_value v is = cc
+
+  -- a plain value that was settled is that of the tables, and there is none where none was told
+  pub settled-plain : (o : Option Value) → IsSettledAt models tables cell o → plain_at tables models cell ≡ o
+  settled-plain None none =
+      ap (λ (r : Option PlainRow). option_and_then (λ (i : FieldInfo). option_and_then (plain_from tables i.origin i cell.field cell.id) r) (field_at models cell.model cell.field)) none
+      ∙ nowhere (field_at models cell.model cell.field)
+  settled-plain (Some v) is = by (row_at tables cell.model cell.id) refl
+    where
+      by : (o : Option PlainRow) → row_at tables cell.model cell.id ≡ o → plain_at tables models cell ≡ Some v
+      by None none = absurd (no_value v (sym (absent-value models tables registry cell info at plain none) ∙ is))
+      by (Some row) there =
+          let value : val models tables cell ≡ Ok (kept_in row cell.field) = settled-value models tables registry cell info at plain row there in
+          plain-value models tables registry cell info at plain row there ∙ ap (λ (x : Value). Some x) (same_ok (kept_in row cell.field) v (sym value ∙ is))
 
 module _ (models : List ModelInfo) (tables : Tables) (registry : IsRegistry models) (cell : Cell) (info : FieldInfo) (at : field_at models cell.model cell.field ≡ Some info) (plain : is_plain_kept info ≡ true)
     (there : IsSome (kept_at tables cell)) where

@@ -1,19 +1,20 @@
 -- The edits of a change, one after another.
-use Rattle.std.proofs.Common.{◌≡◌, ◌+◌, ◌<◌, ℕ, List, [], ◌∷◌, ◌++◌, map, take, get_or, length, Option, Some, None, IsSomeAnd, append_assoc, sym, ap, ◌∙◌, arith}
-use Rattle.std.specs.Prelude.{All, option_and_then}
+use Rattle.std.proofs.Common.{◌≡◌, ◌+◌, ◌<◌, ℕ, List, [], ◌∷◌, ◌++◌, map, take, get_or, length, Option, Some, None, IsSomeAnd, append_assoc, sym, ap, subst, ◌∙◌}
+use Rattle.std.specs.Prelude.{All, OnOk, Result, Ok, Err, option_and_then}
 use Rattle.std.specs.List.{flat_map}
 use Rattle.std.proofs.lemmas.List.{flat_map_more, map-append, take_more}
-use Rattle.std.proofs.lemmas.List.Elements.{All-append, All-head, All-map, All-nil, All-tail, All-weaker}
+use Rattle.std.proofs.lemmas.List.Elements.{All-append, All-map, All-weaker}
 use Rattle.ob_base.specs.declared.id.FieldNo.{FieldNo}
 use Rattle.ob_base.specs.declared.id.ModelNo.{ModelNo}
+use Rattle.ob_base.specs.declared.id.RecId.{RecId}
 use Rattle.ob_base.specs.declared.value.Value.{Value}
-use Rattle.ob_call.proofs.CallerLemmas.{IsLow}
-use Rattle.ob_orm.specs.Write.{row_edits}
+use Rattle.ob_orm.specs.NewRows.{row_edits}
+use Rattle.ob_orm.specs.WriteSteps.{SetsFit}
 use Rattle.ob_schema.specs.Built.{numbered}
 use Rattle.ob_schema.specs.Models.{FieldHas, fields_of, model_at}
 use Rattle.ob_schema.specs.declared.info.ModelInfo.{ModelInfo}
 use Rattle.ob_tables.specs.Changes.{MakesBelow}
-use Rattle.ob_tables.specs.Fitting.{AreFitIn, AreFitValues, IsFitEdit, IsFitIn}
+use Rattle.ob_tables.specs.Fitting.{AreFitIn, AreFitValues, IsFitEdit, IsFitId, IsFitIn}
 use Rattle.ob_tables.specs.declared.edit.Edit.{Edit}
 use Rattle.ob_tables.specs.declared.edit.Edit.TheVariants as edit
 
@@ -25,13 +26,13 @@ one_edit model id given = edit.Set (record { model = model; id = record { 0 = id
 pub row_more : (model : ModelNo) (values : List (FieldNo × Value)) (id i : ℕ) (given : FieldNo × Value) (old : List Edit) → i < length values → given ≡ get_or values i given
     → (old ++ row_edits model (take i values) id) ++ one_edit model id given ∷ [] ≡ old ++ row_edits model (take (i + 1) values) id
 row_more model values id i given old lt is =
+    let more : take (i + 1) values ≡ take i values ++ given ∷ [] = take_more values i given lt ∙ ap (λ (x : FieldNo × Value). take i values ++ x ∷ []) (sym is) in
     append_assoc old (row_edits model (take i values) id) (one_edit model id given ∷ [])
-    ∙ ap (λ (es : List Edit). old ++ es) (sym (ap (map (one_edit model id)) (take_more values i given lt ∙ ap (λ (x : FieldNo × Value). take i values ++ x ∷ []) (sym is)) ∙ map-append (one_edit model id) (take i values) (given ∷ [])))
+    ∙ ap (λ (es : List Edit). old ++ es) (sym (ap (map (one_edit model id)) more ∙ map-append (one_edit model id) (take i values) (given ∷ [])))
 
--- one row more
-pub rows_more : (model : ModelNo) (values : List (FieldNo × Value)) (ids : List ℕ) (i : ℕ) → i < length ids
-    → flat_map (row_edits model values) (take i ids) ++ row_edits model values (get_or ids i 0) ≡ flat_map (row_edits model values) (take (i + 1) ids)
-rows_more model values ids i lt = flat_map_more (row_edits model values) [] (take i ids) (get_or ids i 0) ∙ sym (ap (flat_map (row_edits model values)) (take_more ids i 0 lt))
+-- the edits of one more of several things, behind others
+pub flat-more : {X : Type 0} (f : X → List Edit) (old : List Edit) (xs : List X) (i : ℕ) (d : X) → i < length xs → (old ++ flat_map f (take i xs)) ++ f (get_or xs i d) ≡ old ++ flat_map f (take (i + 1) xs)
+flat-more {X = X} f old xs i d lt = flat_map_more f old (take i xs) (get_or xs i d) ∙ sym (ap (λ (ys : List X). old ++ flat_map f ys) (take_more xs i d lt))
 
 module _ (models : List ModelInfo) (model : ModelNo) (values : List (FieldNo × Value)) where
   -- each value fits its field
@@ -41,20 +42,31 @@ module _ (models : List ModelInfo) (model : ModelNo) (values : List (FieldNo × 
     by None fit = absurd fit
     by (Some info) fit = fit.0
 
-  -- so the edits of a row do
-  row_fit : (id : ℕ) → AreFitIn models model values → IsLow id → All (IsFitEdit models) (row_edits model values id)
+  -- so the edits that set them do, in a row of an id with a next one
+  pub row_fit : (id : RecId) → AreFitIn models model values → IsFitId id → All (SetsFit models) (row_edits model values id.0)
   row_fit id fit low =
-      All-map (IsFitEdit models) (one_edit model id) values
-      (All-weaker (λ given. FieldHas models (λ field. IsFitIn field given.1) model given.0) (λ given. IsFitEdit models (one_edit model id given)) (λ given is. (omega (arith, low), is)) values (fits_each fit))
+      All-map (SetsFit models) (one_edit model id.0) values
+      (All-weaker (λ given. FieldHas models (λ field. IsFitIn field given.1) model given.0) (λ given. SetsFit models (one_edit model id.0 given)) (λ given is. (low, is)) values (fits_each fit))
 
-  -- and those of all
-  pub edits_fit : (ids : List ℕ) → AreFitIn models model values → All IsLow ids → All (IsFitEdit models) (flat_map (row_edits model values) ids)
-  edits_fit [] fit low = All-nil (IsFitEdit models)
-  edits_fit (id ∷ ids) fit low =
-      All-append (IsFitEdit models) (row_edits model values id) (flat_map (row_edits model values) ids) (row_fit id fit (All-head IsLow id ids low)) (edits_fit ids fit (All-tail IsLow id ids low))
+-- behind others too
+pub row_pushed : {X E : Type 0} (r : Result X E) (models : List ModelInfo) (old added new : List Edit) → All (SetsFit models) added → OnOk r (new ≡ old ++ added) → OnOk r (All (SetsFit models) old → All (SetsFit models) new)
+row_pushed (Ok x) models old added new fit is = λ before. subst (All (SetsFit models)) (sym is) (All-append (SetsFit models) old added before fit)
+row_pushed (Err e) models old added new fit is = tt
 
--- no row is made
-pub edits_below : (of model : ModelNo) (values : List (FieldNo × Value)) (bound : ℕ) (ids : List ℕ) → All (MakesBelow of bound) (flat_map (row_edits model values) ids)
-edits_below of model values bound [] = All-nil (MakesBelow of bound)
-edits_below of model values bound (id ∷ ids) =
-    All-append (MakesBelow of bound) (row_edits model values id) (flat_map (row_edits model values) ids) (All-map (MakesBelow of bound) (one_edit model id) values (λ k d lt. tt)) (edits_below of model values bound ids)
+-- such edits may be asked for
+set-asked : (models : List ModelInfo) (one : Edit) → SetsFit models one → IsFitEdit models one
+set-asked models (edit.Set cell v) fits = fits
+set-asked models (edit.Make model id values) fits = absurd fits
+set-asked models (edit.Gone model id) fits = absurd fits
+
+pub sets-asked : (models : List ModelInfo) (edits : List Edit) → All (SetsFit models) edits → All (IsFitEdit models) edits
+sets-asked models edits fit = All-weaker (SetsFit models) (IsFitEdit models) (set-asked models) edits fit
+
+-- and make no row
+set-below : (models : List ModelInfo) (of : ModelNo) (bound : ℕ) (one : Edit) → SetsFit models one → MakesBelow of bound one
+set-below models of bound (edit.Set cell v) fits = tt
+set-below models of bound (edit.Make model id values) fits = absurd fits
+set-below models of bound (edit.Gone model id) fits = absurd fits
+
+pub sets-below : (models : List ModelInfo) (of : ModelNo) (bound : ℕ) (edits : List Edit) → All (SetsFit models) edits → All (MakesBelow of bound) edits
+sets-below models of bound edits fit = All-weaker (SetsFit models) (MakesBelow of bound) (set-below models of bound) edits fit

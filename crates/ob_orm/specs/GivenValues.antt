@@ -1,4 +1,4 @@
--- The values that an object gives a row that is made: to its own fields and to those of its parents.
+-- The values that an object gives a row that is made or changed: to its own fields and to those of its parents.
 use Rattle.std.specs.Prelude.{List, ◌++◌, ◌∷◌, [], false, if◌then◌else◌, Option, None, Result, Ok}
 use Rattle.ob_base.specs.Chain.{◌>>=◌}
 use Rattle.ob_base.specs.declared.place.PathStep.{PathStep}

@@ -3,9 +3,9 @@ pub mod Values
 pub mod Objects
 pub mod Author
 pub mod RowValues
-pub mod Write
 pub mod NewRows
 pub mod GivenValues
+pub mod Write
 pub mod Create
 pub mod Locks
 pub mod Deletion

@@ -1,5 +1,5 @@
 -- Rows that are made of given values, one behind another, each with rows of those of its parents that no given id names.
-use Rattle.std.specs.Prelude.{◌==◌, ℕ, List, [], ◌∷◌, Bool, true, false, if◌then◌else◌, is_some, Option, Some, None, option_and_then, option_map}
+use Rattle.std.specs.Prelude.{◌==◌, ℕ, List, [], ◌∷◌, map, Bool, true, false, if◌then◌else◌, is_some, Option, Some, None, option_and_then, option_map}
 use Rattle.std.specs.List.{filter_map, flat_map}
 use Rattle.std.specs.Map.{lookup}
 use Rattle.std.specs.Option.{option_map_or, option_or}
@@ -10,7 +10,6 @@ use Rattle.ob_base.specs.declared.value.Value.{Value}
 use Rattle.ob_base.specs.declared.value.Value.TheVariants as value
 use Rattle.ob_orm.specs.Author.{is_stamp, stamp}
 use Rattle.ob_orm.specs.RowValues.{valued}
-use Rattle.ob_orm.specs.Write.{row_edits}
 use Rattle.ob_orm.specs.declared.author.Author.{Author}
 use Rattle.ob_schema.specs.Fields.{Column, plain_columns}
 use Rattle.ob_schema.specs.Models.{field_at, model_at}
@@ -30,6 +29,10 @@ Values = List (FieldNo × Value)
 -- the value that is given for a number
 abbrev pub value_for : Values → ℕ → Option Value
 value_for given number = lookup (λ field. field.0 == number) given
+
+-- each value is set in a row
+abbrev pub row_edits : ModelNo → Values → ℕ → List Edit
+row_edits model values id = map (λ given. edit.Set (record { model = model; id = record { 0 = id }; field = given.0 }) given.1) values
 
 -- the row that a value names, if it is one alone
 abbrev pub row_named : Value → Option RecId

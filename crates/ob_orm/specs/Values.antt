@@ -18,25 +18,16 @@ use Rattle.ob_call.specs.Arguments.{entries}
 abbrev pub field_of_name : List FieldInfo → List ℕ → Option FieldInfo
 field_of_name fields name = option_and_then (λ number. numbered fields number.0) (field_named fields name)
 
--- whether calls give values to a field so far: it is plain, no list of rows, and not managed
+-- whether calls give values to an own field so far: it is plain, no list of rows, and not managed
 abbrev pub is_free : FieldInfo → Bool
 is_free field = is_plain_kept field && not (is_list field.field_type || field.managed)
-
--- whether calls give a value to the field of this name
-abbrev pub is_given : List FieldInfo → List ℕ → Bool
-is_given fields name = option_map_or is_free (field_of_name fields name) false
 
 -- the place of the first key that a test refuses
 abbrev pub first_key : (List ℕ → Bool) → List (List ℕ × Data) → Option (List PathStep)
 first_key test [] = None
 first_key test (e ∷ es) = if test e.0 then first_key test es else Some (Key e.0 ∷ [])
 
--- an object of values, each for one of these fields that calls give
-abbrev pub values_fault : List FieldInfo → Data → Option (List PathStep)
-values_fault fields (object members) = first_key (is_given fields) (entries members)
-values_fault fields _ = Some []
-
--- In a row that is made, parents' rows are made or changed with it: then their fields are given too.
+-- With a row its parents' rows are made or changed: their fields are given too.
 module _ (models : List ModelInfo) where
   -- whether calls give a value to a field of this origin: of a delegated one the parent's field is free and isn't fixed, another one is free itself
   abbrev pub is_settable_from : Origin → FieldInfo → Bool

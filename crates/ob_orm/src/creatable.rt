@@ -2,7 +2,7 @@
 //! further model needs is proved before its condition goes.
 
 ghost use Rattle.std.specs.Prelude.{◌≡◌, IfSome, bytes_eq, codes, false};
-ghost use Rattle.std.specs.List.{list_all, list_any};
+ghost use Rattle.std.specs.List.{list_any};
 ghost use Rattle.std.specs.Option.{option_map_or};
 ghost use Rattle.ob_orm.specs.Creatable as spec;
 ghost use Rattle.ob_schema.specs.Models.{HasModel, model_at};
@@ -20,24 +20,24 @@ pub fn is_creatable(schema: &Schema, model: ModelNo) -> bool
     !info.managed && has_open_parents(schema, info)
 }
 
+/// Whether a write changes rows of a model: they may be changed, and those of its parents with
+/// them.
+pub fn is_writable(schema: &Schema, model: ModelNo) -> bool
+    requires model { HasModel schema.now model }
+    ensures stated { IfSome (model_at schema.now model) (λ info. result ≡ spec.is_writable schema.now info) }
+{
+    let info = schema.model_info(model);
+    is_changeable(info) && has_open_parents(schema, info)
+}
+
 /// Whether rows of a model's parents may be made and changed with its own.
 fn has_open_parents(schema: &Schema, info: &ModelInfo) -> bool
-    ensures { result ≡ list_all (λ parent. option_map_or spec.is_open (model_at schema.now parent.model) false) info.now.inherits }
+    ensures { result ≡ spec.has_open_parents schema.now info.now }
 {
     info.inherits
         .as_slice()
         .iter()
         .all(|parent| is_open_model(schema, parent.model))
-}
-
-/// Whether a write changes rows of a model: they may be changed, and it has no parents, whose rows
-/// would be changed with its own.
-pub fn is_writable(schema: &Schema, model: ModelNo) -> bool
-    requires model { HasModel schema.now model }
-    ensures stated { IfSome (model_at schema.now model) (λ info. result ≡ spec.is_writable info) }
-{
-    let info = schema.model_info(model);
-    info.inherits.is_empty() && is_changeable(info)
 }
 
 /// Whether rows of the model of a number may be made and changed, its fixed fields aside.

@@ -3,9 +3,9 @@
 //! answer is the one that the tables of plain values define. What makes rows without being called
 //! is `install`: the rows that modules bring, in a store where no row was ever made.
 //!
-//! Rooms: `creating`, `writing` and `unlinking`, with `values` (the form of an object of values),
-//! `objects` (of one, or of a list of them), `row_values` (the values that one gives a row that is
-//! changed), `making` (how rows are made of given values, with rows of their parents), `author` (who
+//! Rooms: `creating`, `writing` and `unlinking`, with `values` (to which fields calls give values),
+//! `objects` (one object of values, or a list of them), `row_values` (the value that JSON gives a
+//! field), `making` (how rows are made of given values, with rows of their parents), `author` (who
 //! makes or changes rows and when, and what that stamps in them), `there` (which rows are there),
 //! `settled` (values as they were settled last), `locking` (which rows are locked), `ids` (the cell
 //! `id` of a row) and `settling` (how edits are settled); `fields` (what fields a model has);

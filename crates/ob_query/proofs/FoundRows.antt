@@ -1,5 +1,5 @@
 -- The rows to which a walk still comes, step by step.
-use Rattle.std.proofs.Common.{◌≡◌, ℕ, zero, suc, ◌+◌, ◌<◌, ◌≤◌, Bool, true, false, cond, List, [], ◌∷◌, ◌++◌, map, filter, get_or, length, take, drop, is_some, refl, sym, ap, ◌∙◌, arith}
+use Rattle.std.proofs.Common.{◌≡◌, ℕ, zero, suc, ◌+◌, ◌<◌, ◌≤◌, Bool, true, false, cond, List, [], ◌∷◌, ◌++◌, map, filter, get_or, length, take, drop, refl, sym, ap, ◌∙◌, arith}
 use Rattle.std.specs.Prelude.{nat_lt}
 use Rattle.std.proofs.lemmas.List.{map-append, take_more}
 use Rattle.std.proofs.lemmas.List.Kept.{IsStrictlySortedBy-filter}
@@ -9,19 +9,17 @@ use Rattle.ob_base.specs.declared.id.FieldNo.{FieldNo}
 use Rattle.ob_base.specs.declared.id.ModelNo.{ModelNo}
 use Rattle.ob_base.specs.declared.id.RecId.{RecId}
 use Rattle.ob_base.specs.declared.value.Value.{Value}
-use Rattle.ob_query.proofs.SearchedIds.{all-above, all-there, few-rows}
-use Rattle.ob_query.proofs.Walks.{all-pass, rising-sorted}
-use Rattle.ob_query.specs.Search.{is_found}
+use Rattle.ob_query.proofs.SearchedIds.{all-above, few-rows}
+use Rattle.ob_query.proofs.Walks.{rising-sorted}
 use Rattle.ob_query.specs.SearchOrder.{AreOrdered, window}
-use Rattle.ob_query.specs.SearchParts.{found_ahead, found_by, is_known_found, sought_view}
+use Rattle.ob_query.specs.SearchParts.{found_ahead, found_by, is_known_found, told_to}
 use Rattle.ob_query.specs.SearchQuestions.{ahead}
 use Rattle.ob_query.specs.declared.searching.order.Key.{Key}
 use Rattle.ob_query.specs.declared.searching.sought.Sought.{Sought}
 use Rattle.ob_query.specs.declared.searching.walk.Walk.{Walk}
 use Rattle.ob_schema.specs.Broken.{AreSound}
-use Rattle.ob_schema.specs.Facts.{told_by}
 use Rattle.ob_schema.specs.Models.{HasModel, IsRegistry}
-use Rattle.ob_schema.specs.Tables.{Tables, ids_in, row_at}
+use Rattle.ob_schema.specs.Tables.{Tables, ids_in}
 use Rattle.ob_schema.specs.declared.info.OrderTerm.{OrderTerm}
 use Rattle.ob_schema.specs.declared.info.ModelInfo.{ModelInfo}
 use Rattle.ob_tables.proofs.CallerLemmas.{id_cmp, ids-rise}
@@ -44,14 +42,12 @@ begins_walk models registry tables sound model there walk page last = begins_ahe
 module _ (models : List ModelInfo) (registry : IsRegistry models) (tables : Tables) (sound : AreSound models tables) (sought : Sought) (there : HasModel models sought.model) where
   -- and to all that are found
   pub begins_found : (walk : Walk) → walk.page ≡ [] → walk.last ≡ record { 0 = 0 } → found_ahead models tables sought walk ≡ found_by models tables sought
-  begins_found walk page last =
-      ap (filter (is_known_found (told_by models tables) sought)) (begins_walk models registry tables sound sought.model there walk page last)
-      ∙ all-pass (λ id. is_some (row_at tables sought.model id)) (is_found (told_by models tables) sought.user sought.model (sought_view sought)) (ids_in tables sought.model) (all-there tables sought.model)
+  begins_found walk page last = ap (filter (is_known_found (told_to models tables sought) sought)) (begins_walk models registry tables sound sought.model there walk page last)
 
   -- they are few
   pub few_found : length (found_by models tables sought) ≤ max_id + 1
   few_found = let few = few-rows models registry tables sound sought.model there in
-      let less = short (is_found (told_by models tables) sought.user sought.model (sought_view sought)) (ids_in tables sought.model) in omega arith where
+      let less = short (is_known_found (told_to models tables sought) sought) (ids_in tables sought.model) in omega arith where
         short : (p : RecId → Bool) (xs : List RecId) → length (filter p xs) ≤ length xs
         short p [] = omega arith
         short p (x ∷ xs) = by (p x) (short p xs) where
@@ -64,7 +60,7 @@ module _ (models : List ModelInfo) (registry : IsRegistry models) (tables : Tabl
   found_ordered held ids cut = record {
     ordered = found_by models tables sought;
     same = IsPermutation-refl (found_by models tables sought);
-    rising = rising-sorted (found_by models tables sought) (IsStrictlySortedBy-filter id_cmp (is_found (told_by models tables) sought.user sought.model (sought_view sought)) (ids_in tables sought.model) (ids-rise sought.model tables));
+    rising = rising-sorted (found_by models tables sought) (IsStrictlySortedBy-filter id_cmp (is_known_found (told_to models tables sought) sought) (ids_in tables sought.model) (ids-rise sought.model tables));
     cut = cut;
   }
 

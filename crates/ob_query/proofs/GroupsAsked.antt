@@ -10,17 +10,23 @@ use Rattle.ob_call.proofs.CallerLemmas.{at_info}
 use Rattle.ob_call.specs.Arguments as arguments
 use Rattle.ob_call.specs.Arguments.{AreFit, Expected, arguments_of}
 use Rattle.ob_call.specs.ArgumentsSteps.{all_given_of, given_of}
-use Rattle.ob_call.specs.Called.{called_by}
+use Rattle.ob_call.specs.Called.{Called, called_by}
 use Rattle.ob_call.specs.Forms.{fields_at}
 use Rattle.ob_call.specs.declared.arguments.Given.{Given}
 use Rattle.ob_call.specs.declared.call.Call.{Call}
-use Rattle.ob_query.specs.GroupForms.{Aggregate, AskedGroups, GroupTerm, Grouping, Written, aggregates_in, asked_in, count_key, group_terms, groups_by, groups_expects, groups_of, json_of, used, written_in, written_of}
+use Rattle.ob_query.specs.GroupForms.{Aggregate, AskedGroups, GroupTerm, Grouping, Written, aggregates_in, asked_in, count_key, group_terms, groupings_in, groups_by, groups_expects, groups_of, json_of, used, written_in, written_of}
+use Rattle.ob_domain.specs.Naming.{named_fields}
+use Rattle.ob_query.proofs.NamedBy.{domain_same, entries_same, groupings_same, named_same}
+use Rattle.ob_query.specs.Callers.{Named, in_turn, is_first}
 use Rattle.ob_query.specs.GroupParts.{grouping_view, used_of, written_view}
+use Rattle.ob_query.specs.NamedFields.{Naming, domain_names, entries_name, entry_fields, groupings_name, groups_named, groups_names}
 use Rattle.ob_query.specs.SearchForms.{Sought, count_given, sought_in}
 use Rattle.ob_query.specs.declared.grouping.written.Written.{Written as Own}
 use Rattle.ob_schema.specs.Models.{model_at}
+use Rattle.ob_schema.specs.Paths.{step_at}
 use Rattle.ob_schema.specs.declared.info.FieldInfo.{FieldInfo}
 use Rattle.ob_schema.specs.declared.info.ModelInfo.{ModelInfo}
+use Rattle.ob_schema.specs.declared.info.Step.{Step}
 use Rattle.serde_json.specs.View.{view}
 
 -- ---- seven arguments
@@ -126,3 +132,61 @@ used-view written = by written.lazy refl where
   by : (b : Bool) → written.lazy ≡ b → map grouping_view (cond b (take 1 written.groupings.items) written.groupings.items) ≡ cond b (take 1 (map grouping_view written.groupings.items)) (map grouping_view written.groupings.items)
   by true e = sym (take-map grouping_view 1 written.groupings.items)
   by false e = refl
+
+-- ---- the fields that they name
+
+map-view : {A B C : Type 0} (f : B → C) (g : A → B) (xs : List A) → map (λ x. f (g x)) xs ≡ map f (map g xs)
+map-view f g [] = refl
+map-view f g (x ∷ xs) = ap (λ (l : List _). f (g x) ∷ l) (map-view f g xs)
+
+-- as the code has them
+abbrev pub groups_pairs : List FieldInfo → ModelNo → (domain fields groupby : Option Given) → Sought → List Step → List Named
+groups_pairs infos model domain fields groupby sought written =
+    (is_first (option_map given_of domain), named_fields model sought.tree)
+    ∷ (is_first (option_map given_of fields), map (step_at model) (option_map_or (λ g. entry_fields infos g.json) (option_map given_of fields) []))
+    ∷ (is_first (option_map given_of groupby), written) ∷ []
+
+-- those of the groupings that are written
+pub written_steps : (model : ModelNo) (infos : List FieldInfo) (written : Own) (groupby lazy : Option arguments.Given) → written_view written ≡ written_in infos (json_of groupby) (json_of lazy)
+    → map (λ g. step_at model g.field) written.groupings.items ≡ map (λ g. step_at model g.field) (option_map_or (groupings_in infos) (json_of groupby) [])
+written_steps model infos written groupby lazy is =
+    map-view (λ (g : Grouping). step_at model g.field) grouping_view written.groupings.items ∙ ap (λ (w : Written). map (λ (g : Grouping). step_at model g.field) w.groupings) is
+
+module _ (models : List ModelInfo) (c : Called) (one two three four five six seven : Option Given) (sought : Sought) (written : List Step) where
+  pub names_groups : sought ≡ sought_in models c (option_map given_of one) None None None
+      → written ≡ map (λ g. step_at c.model g.field) (option_map_or (groupings_in c.info.fields) (json_of (option_map given_of three)) [])
+      → groups_names models c (all_given_of (one ∷ two ∷ three ∷ four ∷ five ∷ six ∷ seven ∷ [])) ≡ in_turn (groups_pairs c.info.fields c.model one two three sought written)
+  names_groups is written_is =
+      let domain : Option arguments.Given = option_map given_of one in
+      let entries : Option arguments.Given = option_map given_of two in
+      let groupings : Option arguments.Given = option_map given_of three in
+      let ns : List Naming = record { given = domain; names = domain_names models c } ∷ record { given = entries; names = entries_name c } ∷ record { given = groupings; names = groupings_name c } ∷ [] in
+      let a = option_map_or (λ g. domain_names models c g.json) domain [] in
+      let b = option_map_or (λ g. entries_name c g.json) entries [] in
+      let own = map (step_at c.model) (option_map_or (λ g. entry_fields c.info.fields g.json) entries []) in
+      sym (ap (λ (s : Sought). in_turn (groups_pairs c.info.fields c.model one two three s written)) is
+      ∙ ap (λ (l : List Step). in_turn ((is_first domain, l) ∷ (is_first entries, own) ∷ (is_first groupings, written) ∷ [])) (domain_same models c domain)
+      ∙ ap (λ (l : List Step). in_turn ((is_first domain, a) ∷ (is_first entries, l) ∷ (is_first groupings, written) ∷ [])) (entries_same c entries)
+      ∙ ap (λ (l : List Step). in_turn ((is_first domain, a) ∷ (is_first entries, b) ∷ (is_first groupings, l) ∷ [])) (written_is ∙ groupings_same c groupings) ∙ named_same ns)
+
+-- seven that are given name what they do
+pub named_groups : (models : List ModelInfo) (call : Call) (items : List (Option Given)) (one two three four five six seven : Option Given) (sought : Sought) (written : Own)
+    → items ≡ one ∷ two ∷ three ∷ four ∷ five ∷ six ∷ seven ∷ []
+    → arguments_of (groups_expects models call.model (fields_at models call.model) (written_of (fields_at models call.model) (view call.args.now) (view call.kw.now))) (view call.args.now) (view call.kw.now) ≡ Ok (all_given_of items)
+    → IfSome (model_at models call.model) (λ info. sought ≡ sought_in models (called_by call info) (option_map given_of one) None None None)
+    → written_view written ≡ written_in (fields_at models call.model) (json_of (option_map given_of three)) (json_of (option_map given_of seven))
+    → IfSome (model_at models call.model) (λ info. groups_named models (called_by call info)
+    ≡ Ok (in_turn (groups_pairs (fields_at models call.model) call.model one two three sought (map (λ g. step_at call.model g.field) written.groupings.items))))
+named_groups models call items one two three four five six seven sought written are told is written_is = all (model_at models call.model) told is written_is where
+  steps : List Step
+  steps = map (λ g. step_at call.model g.field) written.groupings.items
+
+  all : (o : Option ModelInfo)
+      → arguments_of (groups_expects models call.model (option_map_or (λ info. info.fields) o []) (written_of (option_map_or (λ info. info.fields) o []) (view call.args.now) (view call.kw.now))) (view call.args.now) (view call.kw.now)
+      ≡ Ok (all_given_of items) → IfSome o (λ info. sought ≡ sought_in models (called_by call info) (option_map given_of one) None None None)
+      → written_view written ≡ written_in (option_map_or (λ info. info.fields) o []) (json_of (option_map given_of three)) (json_of (option_map given_of seven))
+      → IfSome o (λ info. groups_named models (called_by call info) ≡ Ok (in_turn (groups_pairs (option_map_or (λ info. info.fields) o []) call.model one two three sought steps)))
+  all None a b w = tt
+  all (Some info) a b w =
+      ap (λ (r : Result (List (Option arguments.Given)) (List PathStep)). r >>= λ gs. Ok (groups_names models (called_by call info) gs)) (a ∙ ap (λ (l : List (Option Given)). Ok (all_given_of l)) are)
+      ∙ ap Ok (names_groups models (called_by call info) one two three four five six seven sought steps b (written_steps call.model info.fields written (option_map given_of three) (option_map given_of seven) w))

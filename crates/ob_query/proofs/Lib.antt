@@ -1,3 +1,4 @@
+pub mod LeastFailing
 pub mod ReadObjects
 pub mod ReadSteps
 pub mod ReadGiven
@@ -5,8 +6,17 @@ pub mod ReadAnswers
 pub mod RankedRows
 pub mod Walks
 pub mod Asked
+pub mod Callers
+pub mod CallersGroups
+pub mod NamedBy
+pub mod NamingSteps
+pub mod Granted
+pub mod ToldColumns
+pub mod SearchFrom
+pub mod Refused
 pub mod SearchedIds
 pub mod FoundRows
+pub mod Missing
 pub mod SearchLoops
 pub mod SearchFields
 pub mod SearchAnswers
@@ -23,3 +33,5 @@ pub mod HeldTexts
 pub mod GroupsAsked
 pub mod GroupsAnswers
 pub mod CallerLemmas
+pub mod Isolation
+pub mod GroupIsolation

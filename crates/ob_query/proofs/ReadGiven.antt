@@ -3,7 +3,7 @@ use Rattle.std.proofs.Common.{◌≡◌, List, [], ◌∷◌, Option, Some, None
 use Rattle.ob_schema.specs.declared.info.FieldInfo.{FieldInfo}
 use Rattle.ob_call.specs.Arguments.{AreFit, Given}
 use Rattle.ob_call.specs.Forms.{ids_fault}
-use Rattle.ob_query.specs.Read.{read_expects}
+use Rattle.ob_query.specs.ReadArguments.{read_expects}
 
 -- the arguments of a read are its ids, its fields, and a way of loading
 pub record ReadGiven (gs : List (Option Given)) : Type 0 where

@@ -1,7 +1,7 @@
 -- Rows taken one after another off the front of those that are found.
 use Rattle.std.proofs.Common.{◌≡◌, ◌≢◌, ℕ, zero, suc, ◌+◌, ◌-◌, ◌^◌, ◌<◌, ◌≤◌, true, false, List, [], ◌∷◌, ◌++◌, length, take, drop, Option, Some, None, refl, sym, ap, ◌∙◌, arith, append_assoc, length-append}
 use Rattle.std.specs.Prelude.{is_some}
-use Rattle.std.proofs.lemmas.List.{append-nil, length-take}
+use Rattle.std.proofs.lemmas.List.{append-nil, length-take, take_all}
 use Rattle.ob_base.specs.Limits.{max_id}
 use Rattle.ob_query.specs.SearchOrder.{limited}
 use Rattle.ob_query.specs.SearchQuestions.{IsTaken}
@@ -74,3 +74,15 @@ module _ {A : Type 0} where
   first-full zero all ids new x are size = absurd (let e = length-append ids (x ∷ []) in omega (arith, e))
   first-full (suc n) all ids new x are size =
       sym (ap (take (suc n)) are ∙ ap (λ (m : ℕ). take m ((ids ++ x ∷ []) ++ new)) (sym size) ∙ take-front (ids ++ x ∷ []) new)
+
+  -- all there are
+  pub first-all : (limit : ℕ) (all ids front : List A) → (limit ≢ 0 → length ids < limit) → all ≡ ids ++ front → front ≡ [] → ids ≡ limited limit all
+  first-all limit all ids front fewer are none = cut limit fewer where
+    whole : all ≡ ids
+    whole = are ∙ ap (λ (l : List A). ids ++ l) none ∙ append-nil ids
+
+    cut : (limit : ℕ) → (limit ≢ 0 → length ids < limit) → ids ≡ limited limit all
+    cut zero fewer = sym whole
+    cut (suc n) fewer =
+        let low = fewer (λ e. cc) in
+        sym (ap (take (suc n)) whole ∙ take_all (suc n) ids (omega (arith, low)))

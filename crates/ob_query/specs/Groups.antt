@@ -1,9 +1,10 @@
--- The machine's `read_group`: the rows that a domain finds, by groups.
+-- The machine's `read_group`: of the rows that the caller sees those that a domain finds, by groups.
 use Rattle.std.specs.Prelude.{◌≡◌, List, [], ◌∷◌, filter, length, map, Bool, Result, Ok, Err, ⊤}
 use Rattle.std.specs.Cmp.Lexicographic.{slice_cmp}
 use Rattle.std.specs.List.{slice_index_or}
 use Rattle.std.specs.Ordering.{is_eq, on, then_cmp}
 use Rattle.std.specs.declared.cmp.Ordering.{Ordering}
+use Rattle.ob_access.specs.Policies.{PolicyData}
 use Rattle.ob_base.specs.ValueOrder.{value_order}
 use Rattle.ob_base.specs.declared.id.FieldNo.{FieldNo}
 use Rattle.ob_base.specs.declared.id.RecId.{RecId}
@@ -16,8 +17,11 @@ use Rattle.ob_codec.specs.JsonForm.{IsJsonOf}
 use Rattle.ob_query.specs.GroupAmounts.{AreDistinct, TellsAmount}
 use Rattle.ob_query.specs.GroupForms.{Aggregate, AskedGroups, GroupTerm, Grouping, groups_of}
 use Rattle.ob_query.specs.GroupPeriods.{group_value}
-use Rattle.ob_query.specs.Search.{IsMalformed, found_in, held_of, view_of}
+use Rattle.ob_query.specs.Denials.{AskCause, IsRefused, MayAsk}
+use Rattle.ob_query.specs.NamedFields.{groups_named}
+use Rattle.ob_query.specs.Search.{found_in, held_of}
 use Rattle.ob_query.specs.SearchOrder.{by_direction, unset_last, window}
+use Rattle.ob_query.specs.Views.{FromView, View}
 use Rattle.ob_schema.specs.Tables.{Tables}
 use Rattle.ob_schema.specs.declared.info.ModelInfo.{ModelInfo}
 use Rattle.serde_json.specs.Data.{Data, Members, no_members, object, put}
@@ -73,9 +77,17 @@ pub record AreTold (held : FieldNo → RecId → Value) (asked : AskedGroups) (f
   pub each_once : AreDistinct (group_order asked.terms) (keys_in held asked.groupings found) groups
   pub told : TellsEachGroup held asked found (window asked.offset asked.limit groups) objects
 
--- The machine answers with the objects of the groups of the rows that a search finds, or with why not.
-abbrev pub Groups : List ModelInfo → Called → Tables → Result Data Refusal → Type 0
-Groups models c tables (Ok json) =
-    (asked : AskedGroups) × (objects : List Data) × (groups_of models c ≡ Ok asked)
-    × AreTold (held_of (view_of models tables).told c.model) asked (found_in (view_of models tables) c asked.sought) objects × (json ≡ list_json objects)
-Groups models c tables (Err why) = IsMalformed (groups_of models c) why
+-- From a view: the objects of the groups of the rows that a search finds, or why not.
+abbrev pub GroupsOver : List ModelInfo → PolicyData → Called → View → Result Data Refusal → Type 0
+GroupsOver models policy c view (Ok json) =
+    MayAsk policy view c (groups_named models c) × (asked : AskedGroups) × (objects : List Data) × (groups_of models c ≡ Ok asked)
+    × AreTold (held_of view.told c.model) asked (found_in view c asked.sought) objects × (json ≡ list_json objects)
+GroupsOver models policy c view (Err why) = IsRefused policy view c (groups_of models c) (groups_named models c) why
+
+-- The machine answers from the caller's view.
+abbrev pub Groups : List ModelInfo → PolicyData → Called → Tables → Result Data Refusal → Type 0
+Groups models policy c tables outcome = FromView models policy c.caller (GroupsOver models policy c) tables outcome
+
+-- why it may be refused whatever the keeper tells
+abbrev pub GroupsCause : List ModelInfo → PolicyData → Called → Refusal → Type 0
+GroupsCause models policy c why = AskCause policy c (groups_of models c) (groups_named models c) why

@@ -1,4 +1,8 @@
 -- What contracts of public functions cite.
+pub mod Views
+pub mod ReadArguments
+pub mod NamedFields
+pub mod Denials
 pub mod Read
 pub mod SearchForms
 pub mod SearchOrder
@@ -7,7 +11,9 @@ pub mod GroupPeriods
 pub mod GroupAmounts
 pub mod GroupForms
 pub mod Groups
+pub mod Isolation
 -- Private: the words by which the rooms of the crate are joined.
+pub mod Callers
 pub mod ReadForm
 pub mod ReadParts
 pub mod ReadRows

@@ -1,5 +1,6 @@
 -- What the questions of a search to an engine do, and how far a walk over its rows has come.
 use Rattle.std.specs.Prelude.{◌≡◌, ◌++◌, ◌+◌, ◌*◌, ◌-◌, ◌^◌, ◌≤◌, ℕ, List, [], ◌∷◌, drop, filter, length, nat_lt, Option, Some, None, ⊤}
+use Rattle.ob_access.specs.Views.{TellsSeen}
 use Rattle.ob_base.specs.declared.id.RecId.{RecId}
 use Rattle.ob_cache.specs.Standing.{Stays}
 use Rattle.ob_cache.specs.Telling.{TellsFacts}
@@ -8,6 +9,7 @@ use Rattle.ob_io.specs.Cause.{Rose}
 use Rattle.ob_io.specs.declared.keeper.KeepFault.{KeepFault}
 use Rattle.ob_io.specs.declared.keeper.KeepFault.TheVariants as keep_fault
 use Rattle.ob_io.specs.declared.keeper.Keeper.{Ghosts}
+use Rattle.ob_query.specs.declared.caller.Caller.{Caller}
 use Rattle.ob_query.specs.declared.searching.walk.Walk.{Walk}
 use Rattle.ob_schema.specs.Facts.{Told}
 
@@ -17,6 +19,10 @@ module _ {K : Type 0} (g : Ghosts K) where
   -- what an engine tells of rows
   abbrev pub TellsOf : Engine K → Told → Type 0
   TellsOf engine = TellsFacts (g.kept engine.keeper.now) engine.held
+
+  -- what it tells a caller: what he sees of what it tells
+  abbrev pub TellsTo : Caller → Engine K → Told → Type 0
+  TellsTo by engine = TellsSeen (TellsOf engine) engine.held.models by.policy.now by.groups.now by.user
 
   -- questions alone came between the two: the keeper is still the lender's, all that is told is what it was, and the keeper's count didn't fall
   pub record OnlyAsked (old new : Engine K) : Type 0 where

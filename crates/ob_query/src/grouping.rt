@@ -5,24 +5,31 @@
 //! named), `parted` (texts in two parts), `written` (which groupings there are, before the arguments are judged), `terms` (the
 //! order of groups), `forms` (the forms of the arguments), `asked` (what these ask for), `gathered`
 //! (the rows by their groups), `amounts` (what rows sum up to) and `told_groups` (the objects of
-//! groups). What the call means is `Groups`, and it is refused only for its arguments: a change
+//! groups). What the call means is `Groups`, and why it may be refused `GroupsCause`: a change
 //! begins with these.
 
-ghost use Rattle.std.specs.Prelude.{◌≡◌, false, map, IfErr, IfOk, IfSome, List};
+ghost use Rattle.std.specs.Prelude.{◌≡◌, ◌∷◌, [], false, map, option_map, IfErr, IfOk, IfSome, List};
+ghost use Rattle.std.specs.Option.{option_map_or};
 ghost use Rattle.serde_json.specs.View.{view};
 ghost use Rattle.serde_json.specs.Written.{has_float};
 ghost use Rattle.ob_base.specs.declared.id.FieldNo.{FieldNo};
 ghost use Rattle.ob_base.specs.declared.id.RecId.{RecId};
 ghost use Rattle.ob_base.specs.declared.value.Value.{Value};
+ghost use Rattle.ob_access.specs.Policies.{IsPolicyOver};
 ghost use Rattle.ob_cache.specs.Calls.{HasTables, IsAsked, IsResting, KeeperRose, Refuses, TellsBy, models_at, standpoint};
 ghost use Rattle.ob_call.specs.Called.{called_by, result_view};
-ghost use Rattle.ob_call.specs.Results.{IsResultOf};
+ghost use Rattle.ob_call.specs.ArgumentsSteps.{given_of};
+ghost use Rattle.ob_call.specs.Forms.{fields_at};
+ghost use Rattle.ob_domain.specs.Naming.{named_fields};
+ghost use Rattle.ob_domain.specs.Trees.{tree_of_domain};
+ghost use Rattle.ob_query.specs.Callers.{IsAllowed, IsAskedBy, in_turn, is_first};
 ghost use Rattle.ob_query.specs.GroupForms.{groups_of};
 ghost use Rattle.ob_query.specs.GroupParts.{AreGathered, AreSome, IsAskedOver, TellsGroups, asked_view};
-ghost use Rattle.ob_query.specs.Groups.{Groups};
-ghost use Rattle.ob_query.specs.Search.{IsMalformed};
+ghost use Rattle.ob_query.specs.Groups.{Groups, GroupsCause};
+ghost use Rattle.ob_query.specs.NamedFields.{entry_fields, groups_named};
 ghost use Rattle.ob_query.specs.SearchQuestions.{OnlyAsked};
 ghost use Rattle.ob_schema.specs.Models.{HasModel, model_at};
+ghost use Rattle.ob_schema.specs.Paths.{step_at};
 ghost use Rattle.ob_schema.specs.Tables.{Tables};
 
 mod aggregates;
@@ -38,11 +45,16 @@ mod terms;
 mod told_groups;
 mod written;
 
+use crate::caller::{Caller, granted, groups_of, no_memory};
+use crate::grouping::aggregates::entries_naming;
 use crate::grouping::asked::{AskedGroups, GroupsArguments, groups_by};
 use crate::grouping::forms::groups_parameters;
 use crate::grouping::gathered::{Groups, gathered};
+use crate::grouping::groupings::groupings_naming;
 use crate::grouping::told_groups::group_objects;
+use crate::naming::domain_naming;
 use crate::searching::refusal_of;
+use ob_access::Policy;
 use ob_base::{Ledger, NoMemory, Refusal, Steps};
 use ob_cache::Engine;
 use ob_call::{Call, Json, arguments_of};
@@ -56,65 +68,80 @@ use std::alloc::Global;
 /// aggregates. Groups go by what they have for the groupings, rising and unset last, or as
 /// `orderby` says, from `offset` on and at most `limit` of them. With `lazy`, which is so where
 /// it isn't said, the first grouping alone is used; without groupings there is one group, also of
-/// no rows. Refused are arguments of another form, at their place. The caller sees to it that
-/// the engine rests.
+/// no rows. The rows are those that the caller sees. Refused are arguments of another form, at their
+/// place; a caller who may not read the model's rows; and one who may not read a field that the
+/// domain, an aggregate or a grouping names, used or not. The caller sees to it that the engine
+/// rests.
 pub fn read_group<K: Keeper, L: Ledger>(
     alloc: Global,
     engine: &mut Engine<'_, K>,
+    policy: &Policy,
     call: &Call<'_>,
     _steps: &mut Steps<L>,
 ) -> Result<Json, Refusal>
     requires model { HasModel (models_at (standpoint K.Keeper engine.old)) call.now.model }
     requires rest { IsResting (standpoint K.Keeper engine.old) }
+    requires policy { IsPolicyOver (models_at (standpoint K.Keeper engine.old)) policy.now }
 
     // It is the machine's grouping of the model's rows, whatever the tables.
     ensures call { let before = standpoint K.Keeper engine.old in let models = models_at before in
         IfSome (model_at models call.entry.now.model) (λ info. let c = called_by call.entry.now info in
-        IsAsked (Groups models c) before (standpoint K.Keeper engine.new) (IsMalformed (groups_of models c)) (result_view result)) }
+        IsAsked (Groups models policy.now c) before (standpoint K.Keeper engine.new) (GroupsCause models policy.now c) (result_view result)) }
     ensures plain { IfOk result (λ json. has_float (view json) ≡ false) }
 
     // It counts no evaluation.
     ensures ticks { _steps.new ≡ _steps.old }
     ensures lender { engine.new.keeper.ghost_name ≡ engine.old.keeper.ghost_name }
 {
-    grouped_rows(alloc, engine, call)
+    grouped_rows(alloc, engine, policy, call)
 }
 
 /// The groups for which a call asks.
 fn grouped_rows<K: Keeper>(
     alloc: Global,
     engine: &mut Engine<'_, K>,
+    policy: &Policy,
     call: &Call<'_>,
 ) -> Result<Json, Refusal>
     requires model { HasModel (models_at (standpoint K.Keeper engine.old)) call.now.model }
     requires rest { IsResting (standpoint K.Keeper engine.old) }
+    requires policy { IsPolicyOver (models_at (standpoint K.Keeper engine.old)) policy.now }
 
     // Over a keeper that tells its rows it is the machine's.
     ensures answer { let before = standpoint K.Keeper engine.old in let models = models_at before in (tables : Tables) → HasTables before tables
-        → IfSome (model_at models call.entry.now.model) (λ info. TellsBy (Groups models (called_by call.entry.now info)) before (standpoint K.Keeper engine.new) tables (result_view result)) }
+        → IfSome (model_at models call.entry.now.model) (λ info. TellsBy (Groups models policy.now (called_by call.entry.now info)) before (standpoint K.Keeper engine.new) tables (result_view result)) }
 
     // Over any keeper each refusal has its cause.
     ensures causes { IfErr result (Refuses (KeeperRose (standpoint K.Keeper engine.old) (standpoint K.Keeper engine.new))
-        (λ why. IfSome (model_at (models_at (standpoint K.Keeper engine.old)) call.entry.now.model) (λ info. IsMalformed (groups_of (models_at (standpoint K.Keeper engine.old)) (called_by call.entry.now info)) why))) }
+        (λ why. IfSome (model_at (models_at (standpoint K.Keeper engine.old)) call.entry.now.model) (λ info. GroupsCause (models_at (standpoint K.Keeper engine.old)) policy.now (called_by call.entry.now info) why))) }
     ensures plain { IfOk result (λ json. has_float (view json) ≡ false) }
     ensures asked { OnlyAsked K.Keeper engine.old engine.new }
 {
-    let asked = asked_groups(alloc, engine.schema(), call)?;
+    let groups = groups_of(alloc, engine, policy, call.caller)?;
+    let by = Caller {
+        policy,
+        groups: &groups,
+        user: call.caller,
+    };
+    let asked = asked_groups(alloc, engine.schema(), by, call)?;
     match gathered(alloc, engine, &asked) {
         Ok(groups) => groups_json(alloc, &asked, groups),
         Err(fault) => Err(refusal_of(fault)),
     }
 }
 
-/// What a call asks for, or the first place that is wrong.
+/// What a call asks for, or why the caller may not ask it.
 fn asked_groups<'c>(
     alloc: Global,
     schema: &Schema,
+    by: Caller<'c>,
     call: &Call<'c>,
 ) -> Result<AskedGroups<'c>, Refusal>
-    requires { HasModel schema.now call.now.model }
-    ensures asked { IfSome (model_at schema.now call.entry.now.model) (λ info. IsResultOf asked_view result (groups_of schema.now (called_by call.entry.now info))) }
-    ensures user { IfOk result (λ asked. asked.sought.user ≡ call.entry.now.caller) }
+    requires policy { IsPolicyOver schema.now by.policy.now }
+    requires model { HasModel schema.now call.now.model }
+    ensures asked { IfSome (model_at schema.now call.entry.now.model) (λ info. let c = called_by call.entry.now info in
+        IsAskedBy by.entry c.model (λ asked meant. meant ≡ asked_view asked) (groups_of schema.now c) (groups_named schema.now c) result) }
+    ensures by { IfOk result (λ asked. asked.sought.by ≡ by.entry) }
     ensures model { IfOk result (λ asked. asked.sought.model ≡ call.entry.now.model) }
     ensures over { IfOk result (IsAskedOver schema.now) }
 {
@@ -129,10 +156,36 @@ fn asked_groups<'c>(
         order: given[5],
         lazy: given[6],
     };
-    match groups_by(alloc, schema, call, arguments) {
-        Ok(asked) => Ok(asked),
+    match groups_by(alloc, schema, by, call, arguments) {
+        Ok(asked) => allowed_groups(alloc, schema, asked, arguments),
         Err(NoMemory) => Err(Refusal::NoMemory),
     }
+}
+
+/// What is asked of groups, where the caller may ask it: he may read the model's rows, and each
+/// field that the domain, an aggregate or a grouping names.
+fn allowed_groups<'c>(
+    alloc: Global,
+    schema: &Schema,
+    asked: AskedGroups<'c>,
+    arguments: GroupsArguments<'c>,
+) -> Result<AskedGroups<'c>, Refusal>
+    requires { HasModel schema.now asked.sought.model }
+    ensures { let old = asked.entry.sought in
+        IsAllowed old.by old.model (in_turn ((is_first (option_map given_of arguments.entry.domain), named_fields old.model (tree_of_domain old.domain))
+        ∷ (is_first (option_map given_of arguments.entry.fields), map (step_at old.model) (option_map_or (λ g. entry_fields (fields_at schema.now old.model) g.json) (option_map given_of arguments.entry.fields) []))
+        ∷ (is_first (option_map given_of arguments.entry.groupby), map (λ g. step_at old.model g.field) asked.entry.written.groupings.items) ∷ []))
+        (λ told. told ≡ asked.entry) result }
+{
+    let sought = &asked.sought;
+    let model = sought.model;
+    let namings = [
+        domain_naming(alloc, model, &arguments.domain, &sought.domain).map_err(no_memory)?,
+        entries_naming(alloc, schema, model, &arguments.fields).map_err(no_memory)?,
+        groupings_naming(alloc, model, &arguments.groupby, &asked.written).map_err(no_memory)?,
+    ];
+    granted(&sought.by, model, &namings)?;
+    Ok(asked)
 }
 
 /// The answer that has the objects of groups.

@@ -11,6 +11,7 @@
 //! | `http CUT,.. FAILS HEX ..` | for each CUT each item of the connection, with what is written while it comes in and its reply; then how many bytes were taken |
 //! | `written BODY` | what two replies write: one with the body that keeps the connection, and one of status 405 |
 //! | `envelope every BODY`, `envelope execute_kw BODY` | the id, the service, the method and the elements of a request, where so many methods are served; or the first place that is wrong, and the id |
+//! | `words WORD ..` | what the words of a command line ask for, each option behind the action; where they have rows kept; the port at which connections come |
 //! | `reply result ID JSON`, `reply error ID NAME MESSAGE`, `reply no_memory` | the text of the reply |
 //!
 //! A stock is `quant:free:in_date:removal:place`, a quant
@@ -30,9 +31,13 @@
 //! The BODY of `envelope` is a text, or `hex:` and digits. An ID has no space in it; NAME and
 //! MESSAGE are written as `probe_parts::words` has them.
 //!
+//! The words of `words` have one space between two, so that an empty one stands between two
+//! spaces, and are written as `probe_parts::words` has them.
+//!
 //! `times N` before `takes`, `lines`, `chain` or `http` makes that call N times and tells the
 //! last answer.
 
+use crate::command_lines::put_asked;
 use crate::connections::{put_connections, put_replies};
 use crate::envelopes::{put_envelope_of, put_reply_of};
 use crate::moves::{put_parts, put_state};
@@ -67,6 +72,7 @@ fn put_of_messages(alloc: Global, told: &mut Told, times: u32, word: &str, rest:
         "written" => put_replies(alloc, told, rest),
         "envelope" => put_envelope_of(alloc, told, rest),
         "reply" => put_reply_of(alloc, told, rest),
+        "words" => put_asked(alloc, told, rest),
         _ => told.put("no word"),
     }
 }

@@ -21,16 +21,18 @@ use Rattle.stockd.specs.Machine.{MayAnswer, MeansCause, TellsKeeper, called_at}
 use Rattle.stockd.specs.MethodCall.{IsFaultOf, IsUnread, LooksUpCaller}
 use Rattle.stockd.specs.Reply.{MayTell, RepliesTo, TellsPlainly, TellsUnread}
 use Rattle.stockd.specs.Request.{Call, Request, called, identified, malformed, request_by, telling_by, told_of, wrong}
+use Rattle.stockd.specs.Setup.{Setup, over}
 use Rattle.stockd.specs.Texts.{keeper_text, malformed_text, no_memory_text}
 use Rattle.stockd.specs.declared.request.ElementFault.{ElementFault}
 use Rattle.stockd.specs.declared.request.ElementFault.TheVariants as fault
+use Rattle.stockd.specs.declared.terms.Terms.{Terms}
 use Rattle.stockd.proofs.AnswerLaws.{plainly_replies, plainly_serves, replies_no_memory, serves_unchanged}
 
 -- ---- behind a question
 
 -- a fault of the keeper since a later moment is one since an earlier one
-module _ (models : List ModelInfo) (late rose : Type 0) (since : late → rose) where
-  answer_since : (old : Tables) (now : ℤ) (request : Request) (reply : List ℕ) (new : Tables) → MayAnswer models old now late request reply new → MayAnswer models old now rose request reply new
+module _ (setup : Setup) (late rose : Type 0) (since : late → rose) where
+  answer_since : (old : Tables) (now : ℤ) (request : Request) (reply : List ℕ) (new : Tables) → MayAnswer setup old now late request reply new → MayAnswer setup old now rose request reply new
   answer_since old now request reply new (inl answers) = inl answers
   answer_since old now request reply new (inr (same, inl unmade)) = inr (same, inl unmade)
   answer_since old now request reply new (inr (same, inr (risen, tells))) = inr (same, inr (since risen, tells))
@@ -39,10 +41,10 @@ module _ (models : List ModelInfo) (late rose : Type 0) (since : late → rose) 
   cause_since P (Ok json) cause = tt
   cause_since P (Err why) cause = Refuses-weaker late rose P P why since (λ w holds. holds) cause
 
-  replies_since : (now : ℤ) (request : Request) (reply : List ℕ) → RepliesTo models late now request reply → RepliesTo models rose now request reply
+  replies_since : (now : ℤ) (request : Request) (reply : List ℕ) → RepliesTo setup late now request reply → RepliesTo setup rose now request reply
   replies_since now (called id call) reply replies = record {
     outcome = replies.outcome;
-    cause = cause_since (λ why. IsSomeAnd (model_at models call.model) (λ info. MeansCause call.method models (called_at now call info) why)) replies.outcome replies.cause;
+    cause = cause_since (λ why. IsSomeAnd (model_at setup.models call.model) (λ info. MeansCause call.method setup.models setup.policy (called_at now call info) why)) replies.outcome replies.cause;
     tells = replies.tells;
   }
   replies_since now (told_of id json) reply (inl tells) = inl tells
@@ -55,20 +57,20 @@ module _ (models : List ModelInfo) (late rose : Type 0) (since : late → rose) 
   replies_since now (malformed id place) reply (inr (risen, tells)) = absurd tells
 
 -- who serves a request behind a question serves it
-module _ (before mid after : Standpoint) (same : Stays before.kept before.held mid.kept mid.held) (count : before.faults ≤ mid.faults) (now : ℤ) (request : Request) (reply : List ℕ) where
+module _ (terms : Terms) (before mid after : Standpoint) (same : Stays before.kept before.held mid.kept mid.held) (count : before.faults ≤ mid.faults) (now : ℤ) (request : Request) (reply : List ℕ) where
   since_question : KeeperRose mid after → KeeperRose before after
   since_question = rose_later before.faults mid.faults after.faults count
 
-  pub serves_behind : ServesOver mid after now request reply → ServesOver before after now request reply
+  pub serves_behind : ServesOver terms mid after now request reply → ServesOver terms before after now request reply
   serves_behind serves = λ tables rests.
       let standing = subst (λ (models : List ModelInfo). Stands mid.kept mid.held (resting models tables)) (sym same.models) (same.stands (resting (models_at before) tables) rests) in
-      let served = subst (λ (models : List ModelInfo). Serves models tables now (KeeperRose mid after) request reply after.kept after.held) same.models (serves tables standing) in
-      record { tables = served.tables; rests = served.rests; answer = answer_since (models_at before) (KeeperRose mid after) (KeeperRose before after) since_question tables now request reply served.tables served.answer }
+      let served = subst (λ (models : List ModelInfo). Serves (over terms models) tables now (KeeperRose mid after) request reply after.kept after.held) same.models (serves tables standing) in
+      record { tables = served.tables; rests = served.rests; answer = answer_since (over terms (models_at before)) (KeeperRose mid after) (KeeperRose before after) since_question tables now request reply served.tables served.answer }
 
-  pub replies_behind : RepliesBy mid after now request reply → RepliesBy before after now request reply
+  pub replies_behind : RepliesBy terms mid after now request reply → RepliesBy terms before after now request reply
   replies_behind replies =
-      replies_since (models_at before) (KeeperRose mid after) (KeeperRose before after) since_question now request reply
-      (subst (λ (models : List ModelInfo). RepliesTo models (KeeperRose mid after) now request reply) same.models replies)
+      replies_since (over terms (models_at before)) (KeeperRose mid after) (KeeperRose before after) since_question now request reply
+      (subst (λ (models : List ModelInfo). RepliesTo (over terms models) (KeeperRose mid after) now request reply) same.models replies)
 
 -- ---- elements that aren't read
 
@@ -96,33 +98,33 @@ keeper_told : (id : Data) (request : Request) (reply : List ℕ) → TellsKeeper
 keeper_told id request reply keeper tells = subst (TellsKeeper request) (sym tells) keeper
 
 -- what elements ask for, by what is read of them
-module _ {A : Type 0} (models : List ModelInfo) (rose : Type 0) (now : ℤ) (id : Data) (asks : Result A ℕ → Request)
-    (plain : (n : ℕ) (reply : List ℕ) → MayTell reply (malformed_text models id (element_place n)) → TellsPlainly models (asks (Err n)) reply)
+module _ {A : Type 0} (setup : Setup) (rose : Type 0) (now : ℤ) (id : Data) (asks : Result A ℕ → Request)
+    (plain : (n : ℕ) (reply : List ℕ) → MayTell reply (malformed_text setup.models id (element_place n)) → TellsPlainly setup.models (asks (Err n)) reply)
     (LooksUp : Result A ℕ → Type 0) (keeper : (made : Result A ℕ) → LooksUp made → TellsKeeper (asks made) (keeper_text id)) (IsReason : KeepFault → Type 0) (since : IsReason keep_fault.Failed → rose) where
   -- a reply that tells why they aren't read serves it
   pub unread_serves : (old : Tables) (made : Result A ℕ) (why : ElementFault) (reply : List ℕ) (kept : Option Store) (held : Holding)
-      → RestsAt kept held old → IsFaultOf LooksUp made why → IsUnread IsReason why → TellsUnread models id why reply → Serves models old now rose (asks made) reply kept held
+      → RestsAt kept held old → IsFaultOf LooksUp made why → IsUnread IsReason why → TellsUnread setup.models id why reply → Serves setup old now rose (asks made) reply kept held
   unread_serves old made (fault.Wrong n) reply kept held rests is reason tells =
-      subst (λ (m : Result A ℕ). Serves models old now rose (asks m) reply kept held) (sym is) (plainly_serves models old now rose (asks (Err n)) reply kept held rests (plain n reply tells))
+      subst (λ (m : Result A ℕ). Serves setup old now rose (asks m) reply kept held) (sym is) (plainly_serves setup old now rose (asks (Err n)) reply kept held rests (plain n reply tells))
   unread_serves old made (fault.Keeper keep_fault.Failed) reply kept held rests up reason (inl tells) =
-      serves_unchanged models old now rose (asks made) reply kept held rests (inr (refl, inr (since reason, keeper_told id (asks made) reply (keeper made up) tells)))
-  unread_serves old made (fault.Keeper keep_fault.Failed) reply kept held rests up reason (inr unmade) = serves_unchanged models old now rose (asks made) reply kept held rests (inr (refl, inl unmade))
-  unread_serves old made (fault.Keeper keep_fault.NoMemory) reply kept held rests up reason unmade = serves_unchanged models old now rose (asks made) reply kept held rests (inr (refl, inl unmade))
+      serves_unchanged setup old now rose (asks made) reply kept held rests (inr (refl, inr (since reason, keeper_told id (asks made) reply (keeper made up) tells)))
+  unread_serves old made (fault.Keeper keep_fault.Failed) reply kept held rests up reason (inr unmade) = serves_unchanged setup old now rose (asks made) reply kept held rests (inr (refl, inl unmade))
+  unread_serves old made (fault.Keeper keep_fault.NoMemory) reply kept held rests up reason unmade = serves_unchanged setup old now rose (asks made) reply kept held rests (inr (refl, inl unmade))
 
   -- and replies to it
-  keeper_replies : (request : Request) (reply : List ℕ) → TellsKeeper request (keeper_text id) → rose → reply ≡ keeper_text id → RepliesTo models rose now request reply
+  keeper_replies : (request : Request) (reply : List ℕ) → TellsKeeper request (keeper_text id) → rose → reply ≡ keeper_text id → RepliesTo setup rose now request reply
   keeper_replies (called own call) reply is risen tells = record { outcome = Err refusal.Keeper; cause = risen; tells = inl (tells ∙ is) }
   keeper_replies (told_of own json) reply is risen tells = absurd is
   keeper_replies (identified own json) reply is risen tells = inr (risen, tells ∙ is)
   keeper_replies (wrong own n) reply is risen tells = inr (risen, tells ∙ is)
   keeper_replies (malformed own place) reply is risen tells = absurd is
 
-  unmade_replies : (request : Request) (reply : List ℕ) → reply ≡ no_memory_text → RepliesTo models rose now request reply
-  unmade_replies request reply unmade = subst (λ (r : List ℕ). RepliesTo models rose now request r) (sym unmade) (replies_no_memory models rose now request)
+  unmade_replies : (request : Request) (reply : List ℕ) → reply ≡ no_memory_text → RepliesTo setup rose now request reply
+  unmade_replies request reply unmade = subst (λ (r : List ℕ). RepliesTo setup rose now request r) (sym unmade) (replies_no_memory setup rose now request)
 
-  pub unread_replies : (made : Result A ℕ) (why : ElementFault) (reply : List ℕ) → IsFaultOf LooksUp made why → IsUnread IsReason why → TellsUnread models id why reply → RepliesTo models rose now (asks made) reply
+  pub unread_replies : (made : Result A ℕ) (why : ElementFault) (reply : List ℕ) → IsFaultOf LooksUp made why → IsUnread IsReason why → TellsUnread setup.models id why reply → RepliesTo setup rose now (asks made) reply
   unread_replies made (fault.Wrong n) reply is reason tells =
-      subst (λ (m : Result A ℕ). RepliesTo models rose now (asks m) reply) (sym is) (plainly_replies models rose now (asks (Err n)) reply (plain n reply tells))
+      subst (λ (m : Result A ℕ). RepliesTo setup rose now (asks m) reply) (sym is) (plainly_replies setup rose now (asks (Err n)) reply (plain n reply tells))
   unread_replies made (fault.Keeper keep_fault.Failed) reply up reason (inl tells) = keeper_replies (asks made) reply (keeper made up) (since reason) tells
   unread_replies made (fault.Keeper keep_fault.Failed) reply up reason (inr unmade) = unmade_replies (asks made) reply unmade
   unread_replies made (fault.Keeper keep_fault.NoMemory) reply up reason unmade = unmade_replies (asks made) reply unmade

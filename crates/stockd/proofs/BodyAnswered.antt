@@ -7,11 +7,12 @@ use Rattle.ob_http.specs.Written.{Wrote, WrotePart}
 use Rattle.ob_io.specs.Cause.{Rose}
 use Rattle.ob_rpc.specs.Envelope.{envelope_of}
 use Rattle.ob_rpc.specs.declared.methods.Served.TheVariants.{EveryMethod}
-use Rattle.ob_schema.specs.declared.info.ModelInfo.{ModelInfo}
 use Rattle.stockd.specs.Body.{AnswersOver, LeavesUnread, MayBeGiven, ServesBody}
 use Rattle.stockd.specs.Exchange.{HasState, Situation}
 use Rattle.stockd.specs.ExchangeSteps.{AnswersBody, WroteOrPart}
 use Rattle.stockd.specs.Machine.{MayAnswer, State, asked_by, moments_after}
+use Rattle.stockd.specs.Setup.{Setup, over}
+use Rattle.stockd.specs.declared.terms.Terms.{Terms}
 
 -- all was written, or a front of it, by whether that failed
 pub wrote_either : {A E : Type 0} (before now : Option (List (List ℕ))) (bytes : List ℕ) (outcome : Result A E) → OnOk outcome (Wrote before now bytes) → OnErr outcome (WrotePart before now bytes)
@@ -20,21 +21,21 @@ wrote_either before now bytes (Ok value) whole part = whole
 wrote_either before now bytes (Err error) whole part = part
 
 -- in whatever state the machine is, over a clock that tells its moments, what was answered is a step of it
-module _ {A E : Type 0} (old new : Situation) (body reply : List ℕ) (keep : Bool) (outcome : Result A E) (first : State) (count : old.engine.faults ≤ new.engine.faults)
+module _ {A E : Type 0} (terms : Terms) (old new : Situation) (body reply : List ℕ) (keep : Bool) (outcome : Result A E) (first : State) (count : old.engine.faults ≤ new.engine.faults)
     (wrote : WroteOrPart outcome old.written new.written (reply_bytes 200 reply keep)) (state : HasState old first) where
-  abbrev models : List ModelInfo
-  models = models_at old.engine
+  abbrev setup : Setup
+  setup = over terms (models_at old.engine)
 
-  served_answered : ServesBody first.tables old.engine new.engine old.coming new.coming body reply → AnswersBody body keep outcome first old new
+  served_answered : ServesBody terms first.tables old.engine new.engine old.coming new.coming body reply → AnswersBody terms body keep outcome first old new
   served_answered serves =
-      let request = asked_by models first.tables body in
+      let request = asked_by setup first.tables body in
       let now : serves.now ≡ first.moments 0 = subst (λ (o : Option (ℕ → ℤ)). MayBeGiven o serves.now) state.moments serves.given in
-      let served = subst (λ (n : ℤ). MayAnswer models first.tables n (Rose old.engine.faults new.engine.faults) request reply serves.serves.tables) now serves.serves.answer in
+      let served = subst (λ (n : ℤ). MayAnswer setup first.tables n (Rose old.engine.faults new.engine.faults) request reply serves.serves.tables) now serves.serves.answer in
       record {
         reply = reply;
         state = record { tables = serves.serves.tables; moments = moments_after (envelope_of EveryMethod body) first.moments; faults = new.engine.faults };
         step = record {
-          answer = subst (λ (n : ℕ). MayAnswer models first.tables (first.moments 0) (Rose n new.engine.faults) request reply serves.serves.tables) state.faults served;
+          answer = subst (λ (n : ℕ). MayAnswer setup first.tables (first.moments 0) (Rose n new.engine.faults) request reply serves.serves.tables) state.faults served;
           moment = inl refl;
           count = omega (arith, state.faults, count);
         };
@@ -42,7 +43,7 @@ module _ {A E : Type 0} (old new : Situation) (body reply : List ℕ) (keep : Bo
         wrote = wrote;
       }
 
-  unread_answered : LeavesUnread first.tables new.engine old.coming new.coming reply → AnswersBody body keep outcome first old new
+  unread_answered : LeavesUnread first.tables new.engine old.coming new.coming reply → AnswersBody terms body keep outcome first old new
   unread_answered unread = record {
     reply = reply;
     state = record { tables = first.tables; moments = first.moments; faults = new.engine.faults };
@@ -55,8 +56,8 @@ module _ {A E : Type 0} (old new : Situation) (body reply : List ℕ) (keep : Bo
     wrote = wrote;
   }
 
-  pub body_answered : AnswersOver old.engine new.engine old.coming new.coming body reply → AnswersBody body keep outcome first old new
+  pub body_answered : AnswersOver terms old.engine new.engine old.coming new.coming body reply → AnswersBody terms body keep outcome first old new
   body_answered answered = by (answered first.tables state.tables) where
-    by : ServesBody first.tables old.engine new.engine old.coming new.coming body reply ⊎ LeavesUnread first.tables new.engine old.coming new.coming reply → AnswersBody body keep outcome first old new
+    by : ServesBody terms first.tables old.engine new.engine old.coming new.coming body reply ⊎ LeavesUnread first.tables new.engine old.coming new.coming reply → AnswersBody terms body keep outcome first old new
     by (inl serves) = served_answered serves
     by (inr unread) = unread_answered unread

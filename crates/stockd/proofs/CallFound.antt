@@ -1,5 +1,5 @@
 -- The call that six elements or more make, where each is as it has to be.
-use Rattle.std.proofs.Common.{◌≡◌, ◌<◌, ◌≢◌, arith, length, Err, ℕ, suc, Bool, true, false, List, [], ◌∷◌, Option, Some, None, Ok, Result, option_map, refl, sym, codes, Bor, slice_get}
+use Rattle.std.proofs.Common.{◌≡◌, ◌<◌, ◌≢◌, arith, length, Err, ℕ, suc, Bool, true, false, List, [], ◌∷◌, Option, Some, None, Ok, Result, option_map, refl, sym, Bor, slice_get}
 use Rattle.std.specs.Prelude.{IfSome, IsSome, option_and_then, unwrap_or}
 use Rattle.serde_json.specs.Data.{Data, object, no_members, Items, item}
 use Rattle.serde_json.specs.View.{view, items_view}
@@ -14,6 +14,7 @@ use Rattle.ob_schema.specs.Models.{HasModel, model_at, model_named}
 use Rattle.stockd.specs.Directory.{Directory}
 use Rattle.stockd.specs.MethodCall.{LooksUpCaller}
 use Rattle.stockd.specs.Request.{Call, call_in, call_of, caller_of, element, method_named, method_of, named_args, whole_number}
+use Rattle.stockd.specs.Setup.{Setup}
 use Rattle.stockd.specs.declared.request.Layout.{Layout}
 use Rattle.stockd.specs.declared.request.Method.{Method}
 
@@ -40,37 +41,37 @@ past_first : {A B : Type 0} (n : ℕ) (o : Option A) (next : A → Result B ℕ)
 past_first n None next rest = λ is. absurd cc
 past_first n (Some a) next rest = rest a
 
-module _ (models : List ModelInfo) (directory : Directory) (layout : Layout) (db user key model method args : Data) (rest : Items) where
+module _ (setup : Setup) (directory : Directory) (layout : Layout) (db user key model method args : Data) (rest : Items) where
   abbrev elements : Items
   elements = item db (item user (item key (item model (item method (item args rest)))))
 
   -- elements of another database are wrong there
-  pub no_database : is_text (codes "stock") db ≡ false → call_of models directory layout elements ≡ Err 0
+  pub no_database : is_text setup.database db ≡ false → call_of setup directory layout elements ≡ Err 0
   no_database other = rw other refl
 
-  module _ (is_db : is_text (codes "stock") db ≡ true) where
+  module _ (is_db : is_text setup.database db ≡ true) where
     -- else a caller has to be looked up
-    pub looks_up : LooksUpCaller (call_of models directory layout elements)
+    pub looks_up : LooksUpCaller (call_of setup directory layout elements)
     looks_up = rw is_db
-        (past_first 0 (caller_of directory user key) (call_in models layout model method args rest)
-        (λ caller. past_first 2 (option_and_then (model_named models) (as_str model)) _ (λ number. past_first 3 (method_of models number method) _ (λ named none. absurd cc))))
+        (past_first 0 (caller_of directory user key) (call_in setup.models layout model method args rest)
+        (λ caller. past_first 2 (option_and_then (model_named setup.models) (as_str model)) _ (λ number. past_first 3 (method_of setup.models number method) _ (λ named none. absurd cc))))
 
     -- those of no caller are wrong at the user
-    pub no_caller : caller_of directory user key ≡ None → call_of models directory layout elements ≡ Err 1
+    pub no_caller : caller_of directory user key ≡ None → call_of setup directory layout elements ≡ Err 1
     no_caller none = rw (is_db, none) refl
 
     module _ (caller : RecId) (is_caller : caller_of directory user key ≡ Some caller) where
       -- without a model of its name at that of the model
-      pub no_model : option_and_then (model_named models) (as_str model) ≡ None → call_of models directory layout elements ≡ Err 3
+      pub no_model : option_and_then (model_named setup.models) (as_str model) ≡ None → call_of setup directory layout elements ≡ Err 3
       no_model none = rw (is_db, is_caller, none) refl
 
-      module _ (m : ModelNo) (found : option_and_then (model_named models) (as_str model) ≡ Some m) where
+      module _ (m : ModelNo) (found : option_and_then (model_named setup.models) (as_str model) ≡ Some m) where
         -- without a method of it at that of the method
-        pub no_method : method_of models m method ≡ None → call_of models directory layout elements ≡ Err 4
+        pub no_method : method_of setup.models m method ≡ None → call_of setup directory layout elements ≡ Err 4
         no_method named = rw (is_db, is_caller, found, named) refl
 
         -- else they make a call
-        pub call_found : (meth : Method) → method_of models m method ≡ Some meth → call_of models directory layout elements ≡ with_kw caller layout m meth args (named_args rest)
+        pub call_found : (meth : Method) → method_of setup.models m method ≡ Some meth → call_of setup directory layout elements ≡ with_kw caller layout m meth args (named_args rest)
         call_found meth named = rw (is_db, is_caller, found, named) refl
 
 -- ---- the caller
@@ -96,11 +97,11 @@ module _ (directory : Directory) (user key : Data) where
 -- ---- all elements
 
 -- fewer than six elements are wrong at the first that is missing
-pub few_elements : (models : List ModelInfo) (directory : Directory) (layout : Layout) (vs : List Value) → length vs < 6 → call_of models directory layout (items_view vs) ≡ Err (length vs)
-few_elements models directory layout [] few = refl
-few_elements models directory layout (a ∷ []) few = refl
-few_elements models directory layout (a ∷ b ∷ []) few = refl
-few_elements models directory layout (a ∷ b ∷ c ∷ []) few = refl
-few_elements models directory layout (a ∷ b ∷ c ∷ d ∷ []) few = refl
-few_elements models directory layout (a ∷ b ∷ c ∷ d ∷ e ∷ []) few = refl
-few_elements models directory layout (a ∷ b ∷ c ∷ d ∷ e ∷ f ∷ rest) few = absurd (omega arith)
+pub few_elements : (setup : Setup) (directory : Directory) (layout : Layout) (vs : List Value) → length vs < 6 → call_of setup directory layout (items_view vs) ≡ Err (length vs)
+few_elements setup directory layout [] few = refl
+few_elements setup directory layout (a ∷ []) few = refl
+few_elements setup directory layout (a ∷ b ∷ []) few = refl
+few_elements setup directory layout (a ∷ b ∷ c ∷ []) few = refl
+few_elements setup directory layout (a ∷ b ∷ c ∷ d ∷ []) few = refl
+few_elements setup directory layout (a ∷ b ∷ c ∷ d ∷ e ∷ []) few = refl
+few_elements setup directory layout (a ∷ b ∷ c ∷ d ∷ e ∷ f ∷ rest) few = absurd (omega arith)

@@ -20,15 +20,17 @@ use Rattle.ob_schema.specs.declared.info.ModelInfo.{ModelInfo}
 use Rattle.stockd.specs.Exchange.{AreFirstItems, Exchange, HasState, Situation, answers_to, bodies_in}
 use Rattle.stockd.specs.ExchangeSteps.{AnswersBody, HasAnswered, TellsStatus, WroteOrPart, parting_behind}
 use Rattle.stockd.specs.Machine.{State, Run, Step}
+use Rattle.stockd.specs.Setup.{Setup, over}
 use Rattle.stockd.specs.declared.connection.Parting.{Parting}
 use Rattle.stockd.specs.declared.connection.Parting.TheVariants as parting
+use Rattle.stockd.specs.declared.terms.Terms.{Terms}
 use Rattle.stockd.proofs.ExchangeItems.{StandsAlone, answers_to-append, bodies_count, bodies_in-append, ends_alone, faulted, first_on, interim_of, items_end, posted, takes_front}
 use Rattle.stockd.proofs.RunOn.{rests_here, run_on}
 
 -- ---- where an exchange begins
 
-pub begins : (first : State) (stream : List ℕ) (start : Situation) (ahead : ReadAhead) → ahead ≡ record { bytes = []; taken = 0 } → HasState start first → start.left ≡ Some stream
-    → HasAnswered 0 first stream start ahead start
+pub begins : {terms : Terms} (first : State) (stream : List ℕ) (start : Situation) (ahead : ReadAhead) → ahead ≡ record { bytes = []; taken = 0 } → HasState start first → start.left ≡ Some stream
+    → HasAnswered terms 0 first stream start ahead start
 begins first stream start ahead new state told = record {
   items = [];
   rest = stream;
@@ -47,11 +49,11 @@ begins first stream start ahead new state told = record {
 -- ---- what is told of the stream
 
 -- a machine replies to each body
-pub replies_count : (models : List ModelInfo) (old : State) (bodies replies : List (List ℕ)) (new : State) → Run models old bodies replies new → length replies ≡ length bodies
-replies_count models old [] [] new run = refl
-replies_count models old [] (reply ∷ replies) new run = absurd run
-replies_count models old (body ∷ bodies) [] new run = absurd run
-replies_count models old (body ∷ bodies) (reply ∷ replies) new run = omega (arith, replies_count models run.0 bodies replies new run.2)
+pub replies_count : (setup : Setup) (old : State) (bodies replies : List (List ℕ)) (new : State) → Run setup old bodies replies new → length replies ≡ length bodies
+replies_count setup old [] [] new run = refl
+replies_count setup old [] (reply ∷ replies) new run = absurd run
+replies_count setup old (body ∷ bodies) [] new run = absurd run
+replies_count setup old (body ∷ bodies) (reply ∷ replies) new run = omega (arith, replies_count setup run.0 bodies replies new run.2)
 
 -- what holds of bytes that are to come holds of those that are told to be
 pub at_coming : (told : Option (List ℕ)) (P : List ℕ → Type 0) (bytes : List ℕ) → told ≡ Some bytes → IfSome told P → P bytes
@@ -86,7 +88,7 @@ wrote_part before now bytes (Err error) failed wrote = wrote
 
 -- ---- one item more
 
-module _ {count : ℕ} {first : State} {stream : List ℕ} {start old : Situation} {ahead : ReadAhead} (h : HasAnswered count first stream start ahead old) where
+module _ {terms : Terms} {count : ℕ} {first : State} {stream : List ℕ} {start old : Situation} {ahead : ReadAhead} (h : HasAnswered terms count first stream start ahead old) where
   -- what was written so far
   abbrev so_far : List ℕ
   so_far = answers_to h.items h.replies
@@ -97,24 +99,24 @@ module _ {count : ℕ} {first : State} {stream : List ℕ} {start old : Situatio
 
   answers_more : (item : Item) (replies : List (List ℕ)) → answers_to (h.items ++ item ∷ []) (h.replies ++ replies) ≡ so_far ++ answers_to (item ∷ []) replies
   answers_more item replies =
-      let count_is = replies_count (models_at start.engine) first (bodies_in h.items) h.replies h.state h.run ∙ bodies_count stream h.items h.rest h.are_first in
+      let count_is = replies_count (over terms (models_at start.engine)) first (bodies_in h.items) h.replies h.state h.run ∙ bodies_count stream h.items h.rest h.are_first in
       answers_to-append stream h.items (item ∷ []) h.rest h.replies replies h.are_first count_is
 
   -- a message and its reply are a step of the machine
-  run_more : (item : Item) (body reply : List ℕ) (state : State) → bodies_in (item ∷ []) ≡ body ∷ [] → Step (models_at old.engine) h.state body reply state
-      → Run (models_at start.engine) first (bodies_in (h.items ++ item ∷ [])) (h.replies ++ reply ∷ []) state
+  run_more : (item : Item) (body reply : List ℕ) (state : State) → bodies_in (item ∷ []) ≡ body ∷ [] → Step (over terms (models_at old.engine)) h.state body reply state
+      → Run (over terms (models_at start.engine)) first (bodies_in (h.items ++ item ∷ [])) (h.replies ++ reply ∷ []) state
   run_more item body reply state bodies step =
-      let models = models_at start.engine in
-      let stepped = subst (λ (m : List ModelInfo). Step m h.state body reply state) h.models_are step in
+      let setup = over terms (models_at start.engine) in
+      let stepped = subst (λ (m : List ModelInfo). Step (over terms m) h.state body reply state) h.models_are step in
       let same : bodies_in (h.items ++ item ∷ []) ≡ bodies_in h.items ++ body ∷ [] = bodies_in-append h.items (item ∷ []) ∙ ap (λ bs. bodies_in h.items ++ bs) bodies in
-      subst (λ (bs : List (List ℕ)). Run models first bs (h.replies ++ reply ∷ []) state) (sym same) (run_on models first h.state state (bodies_in h.items) h.replies body reply h.run stepped)
+      subst (λ (bs : List (List ℕ)). Run setup first bs (h.replies ++ reply ∷ []) state) (sym same) (run_on setup first h.state state (bodies_in h.items) h.replies body reply h.run stepped)
 
   -- what is no message is none
-  run_same : (item : Item) → bodies_in (item ∷ []) ≡ [] → Run (models_at start.engine) first (bodies_in (h.items ++ item ∷ [])) (h.replies ++ []) h.state
+  run_same : (item : Item) → bodies_in (item ∷ []) ≡ [] → Run (over terms (models_at start.engine)) first (bodies_in (h.items ++ item ∷ [])) (h.replies ++ []) h.state
   run_same item none =
-      let models = models_at start.engine in
+      let setup = over terms (models_at start.engine) in
       let same : bodies_in (h.items ++ item ∷ []) ≡ bodies_in h.items = bodies_in-append h.items (item ∷ []) ∙ ap (λ bs. bodies_in h.items ++ bs) none ∙ append-nil (bodies_in h.items) in
-      subst (λ (bs : List (List ℕ)). Run models first bs (h.replies ++ []) h.state) (sym same) (subst (λ (rs : List (List ℕ)). Run models first (bodies_in h.items) rs h.state) (sym (append-nil h.replies)) h.run)
+      subst (λ (bs : List (List ℕ)). Run setup first bs (h.replies ++ []) h.state) (sym same) (subst (λ (rs : List (List ℕ)). Run setup first (bodies_in h.items) rs h.state) (sym (append-nil h.replies)) h.run)
 
   module _ {item : Item} {keep : Bool} {bodies replies : List (List ℕ)} {answer : List ℕ} (alone : StandsAlone item keep bodies replies answer) (mid now : Option (List (List ℕ)))
       (line : Wrote old.written mid (interim_of item)) where
@@ -133,8 +135,8 @@ module _ {count : ℕ} {first : State} {stream : List ℕ} {start old : Situatio
 
   -- all items were answered
   served : (item : Item) (behind : List ℕ) (replies : List (List ℕ)) (state : State) (now : Situation) → IsItem h.rest item behind → goes_on item ≡ false
-      → Run (models_at start.engine) first (bodies_in (h.items ++ item ∷ [])) (h.replies ++ replies) state → HasState now state
-      → Wrote start.written now.written (answers_to (h.items ++ item ∷ []) (h.replies ++ replies)) → Exchange parting.Served first stream start now
+      → Run (over terms (models_at start.engine)) first (bodies_in (h.items ++ item ∷ [])) (h.replies ++ replies) state → HasState now state
+      → Wrote start.written now.written (answers_to (h.items ++ item ∷ []) (h.replies ++ replies)) → Exchange terms parting.Served first stream start now
   served item behind replies state now is stops run has wrote = record {
     dialogue = record { bodies = bodies_in (h.items ++ item ∷ []); replies = h.replies ++ replies; written = answers_to (h.items ++ item ∷ []) (h.replies ++ replies) };
     state = state;
@@ -146,8 +148,8 @@ module _ {count : ℕ} {first : State} {stream : List ℕ} {start old : Situatio
 
   -- the answer to the last one was cut short
   cut_short : (item : Item) (behind : List ℕ) (replies : List (List ℕ)) (state : State) (now : Situation) → IsItem h.rest item behind
-      → Run (models_at start.engine) first (bodies_in (h.items ++ item ∷ [])) (h.replies ++ replies) state → HasState now state
-      → (part : List ℕ) × IsCutShort part (answers_to (item ∷ []) replies) × Wrote start.written now.written (so_far ++ part) → Exchange parting.Failed first stream start now
+      → Run (over terms (models_at start.engine)) first (bodies_in (h.items ++ item ∷ [])) (h.replies ++ replies) state → HasState now state
+      → (part : List ℕ) × IsCutShort part (answers_to (item ∷ []) replies) × Wrote start.written now.written (so_far ++ part) → Exchange terms parting.Failed first stream start now
   cut_short item behind replies state now is run has (part, part_of, wrote) = record {
     dialogue = record { bodies = bodies_in (h.items ++ item ∷ []); replies = h.replies ++ replies; written = so_far ++ part };
     state = state;
@@ -172,7 +174,7 @@ module _ {count : ℕ} {first : State} {stream : List ℕ} {start old : Situatio
   }
 
   -- so many items were answered that there are more bytes than a connection may send, one at least for each
-  pub ends_full : max_input_bytes < count → Exchange parting.TooLong first stream start old
+  pub ends_full : max_input_bytes < count → Exchange terms parting.TooLong first stream start old
   ends_full many =
       let taken = takes_front stream h.items h.rest h.are_first in record {
         dialogue = record { bodies = bodies_in h.items; replies = h.replies; written = so_far };
@@ -204,21 +206,21 @@ module _ {count : ℕ} {first : State} {stream : List ℕ} {start old : Situatio
 
     module _ {A E : Type 0} (body : Vec ℕ Global) (keep : Bool) (received : IfSome (coming_bytes before) (λ bytes. Receives before after bytes (Post body keep)))
         (outcome : Result A E) (now : Situation) (unread : now.left ≡ left_now)
-        (answers : (state : State) → HasState (with_door left_now written_now) state → AnswersBody body.items keep outcome state (with_door left_now written_now) now) where
+        (answers : (state : State) → HasState (with_door left_now written_now) state → AnswersBody terms body.items keep outcome state (with_door left_now written_now) now) where
       abbrev message : Receives before after h.rest (Post body keep)
       message = came_in (Post body keep) received
 
-      abbrev answered : AnswersBody body.items keep outcome h.state (with_door left_now written_now) now
+      abbrev answered : AnswersBody terms body.items keep outcome h.state (with_door left_now written_now) now
       answered = answers h.state (record { tables = h.has_state.tables; moments = h.has_state.moments; faults = h.has_state.faults })
 
       abbrev alone : StandsAlone message.item keep (body.items ∷ []) (answered.reply ∷ []) (reply_bytes 200 answered.reply keep)
       alone = posted body keep message.item answered.reply message.told
 
-      ran : Run (models_at start.engine) first (bodies_in (h.items ++ message.item ∷ [])) (h.replies ++ answered.reply ∷ []) answered.state
+      ran : Run (over terms (models_at start.engine)) first (bodies_in (h.items ++ message.item ∷ [])) (h.replies ++ answered.reply ∷ []) answered.state
       ran = run_more message.item body.items answered.reply answered.state alone.bodies_are answered.step
 
       -- the reply could not be written whole
-      fails_reply : WrotePart written_now now.written (reply_bytes 200 answered.reply keep) → Exchange parting.Failed first stream start now
+      fails_reply : WrotePart written_now now.written (reply_bytes 200 answered.reply keep) → Exchange terms parting.Failed first stream start now
       fails_reply part =
           cut_short message.item message.rest (answered.reply ∷ []) answered.state now message.is_item ran answered.has_state (part_more alone written_now now.written message.interim part)
 
@@ -226,7 +228,7 @@ module _ {count : ℕ} {first : State} {stream : List ℕ} {start old : Situatio
       wrote_reply wrote = wrote_more alone written_now now.written message.interim wrote
 
       -- the connection isn't kept
-      ends_unkept : Wrote written_now now.written (reply_bytes 200 answered.reply keep) → keep ≡ false → Exchange parting.Served first stream start now
+      ends_unkept : Wrote written_now now.written (reply_bytes 200 answered.reply keep) → keep ≡ false → Exchange terms parting.Served first stream start now
       ends_unkept wrote stops =
           served message.item message.rest (answered.reply ∷ []) answered.state now message.is_item (alone.goes ∙ stops) ran answered.has_state (wrote_reply wrote)
 
@@ -235,7 +237,7 @@ module _ {count : ℕ} {first : State} {stream : List ℕ} {start old : Situatio
         first_now = first_on stream h.items h.rest message.item message.rest h.are_first message.is_item (alone.goes ∙ kept)
 
         -- it goes on
-        goes_on_by : models_at now.engine ≡ models_at old.engine → HasAnswered (count + 1) first stream start ahead_now now
+        goes_on_by : models_at now.engine ≡ models_at old.engine → HasAnswered terms (count + 1) first stream start ahead_now now
         goes_on_by same = record {
           items = h.items ++ message.item ∷ [];
           rest = message.rest;
@@ -252,7 +254,7 @@ module _ {count : ℕ} {first : State} {stream : List ℕ} {start old : Situatio
         }
 
         -- it has sent too much
-        ends_too_long : max_input_bytes < ahead_now.taken → Exchange parting.TooLong first stream start now
+        ends_too_long : max_input_bytes < ahead_now.taken → Exchange terms parting.TooLong first stream start now
         ends_too_long long =
             let told = left_told ahead_now.bytes left_now message.rest (message.rest_comes (alone.goes ∙ kept)) in
             let within = at_coming left_now (λ left. ahead_now.taken + length left ≤ length stream) told.0 told.1 within_now in
@@ -266,16 +268,16 @@ module _ {count : ℕ} {first : State} {stream : List ℕ} {start old : Situatio
             }
 
       -- a front of the reply was written
-      pub ends_unanswered : is_err outcome ≡ true → Exchange parting.Failed first stream start now
+      pub ends_unanswered : is_err outcome ≡ true → Exchange terms parting.Failed first stream start now
       ends_unanswered failed = fails_reply (wrote_part written_now now.written (reply_bytes 200 answered.reply keep) outcome failed answered.wrote)
 
       -- the reply was written, and the connection goes on or ends
       pub answered_on : is_err outcome ≡ false → (next : Option Parting) → next ≡ parting_behind keep ahead_now.taken → models_at now.engine ≡ models_at old.engine
-          → MatchOption next (HasAnswered (count + 1) first stream start ahead_now now) (λ why. Exchange why first stream start now)
+          → MatchOption next (HasAnswered terms (count + 1) first stream start ahead_now now) (λ why. Exchange terms why first stream start now)
       answered_on ok next is same = subst Goes (sym is) (by_keep keep refl)
         where
           Goes : Option Parting → Type 0
-          Goes next = MatchOption next (HasAnswered (count + 1) first stream start ahead_now now) (λ why. Exchange why first stream start now)
+          Goes next = MatchOption next (HasAnswered terms (count + 1) first stream start ahead_now now) (λ why. Exchange terms why first stream start now)
 
           whole : Wrote written_now now.written (reply_bytes 200 answered.reply keep)
           whole = wrote_whole written_now now.written (reply_bytes 200 answered.reply keep) outcome ok answered.wrote
@@ -294,7 +296,7 @@ module _ {count : ℕ} {first : State} {stream : List ℕ} {start old : Situatio
 
     -- no further message comes
     pub ends_at_end : (inlet : Inlet) → ((item : Item) → TellsItem inlet item → is_end item ≡ true) → IfSome (coming_bytes before) (λ bytes. Receives before after bytes inlet)
-        → Exchange parting.Served first stream start (with_door left_now written_now)
+        → Exchange terms parting.Served first stream start (with_door left_now written_now)
     ends_at_end inlet ends received =
         let r = came_in inlet received in
         let alone = ends_alone r.item (ends r.item r.told) in
@@ -303,7 +305,7 @@ module _ {count : ℕ} {first : State} {stream : List ℕ} {start old : Situatio
 
     -- a status was told
     pub ends_refused : (status : ℕ) (why : Parting) (now : Option (List (List ℕ))) (left : Option (List ℕ)) → IfSome (coming_bytes before) (λ bytes. Receives before after bytes (Bad status))
-        → TellsStatus why written_now now status → Exchange why first stream start (with_door left now)
+        → TellsStatus why written_now now status → Exchange terms why first stream start (with_door left now)
     ends_refused status parting.Served now left received told =
         let r = came_in (Bad status) received in
         let alone = faulted status r.item r.told in
@@ -318,7 +320,7 @@ module _ {count : ℕ} {first : State} {stream : List ℕ} {start old : Situatio
     ends_refused status parting.NoMemory now left received told = absurd told
 
     -- a read failed: what had come was answered
-    fails_reading : FailsReading before after takes.part → Exchange parting.Failed first stream start (with_door left_now written_now)
+    fails_reading : FailsReading before after takes.part → Exchange terms parting.Failed first stream start (with_door left_now written_now)
     fails_reading fails =
         let item = fails.item in
         let alone = ends_alone item fails.no_message in
@@ -344,7 +346,7 @@ module _ {count : ℕ} {first : State} {stream : List ℕ} {start old : Situatio
         }
 
     -- the interim line could not be written whole
-    fails_interim : FailsWriting before after h.rest → Exchange parting.Failed first stream start (with_door left_now written_now)
+    fails_interim : FailsWriting before after h.rest → Exchange terms parting.Failed first stream start (with_door left_now written_now)
     fails_interim fails =
         let part = fails.written.0 in record {
           dialogue = record { bodies = bodies_in h.items; replies = h.replies; written = so_far ++ part };
@@ -361,7 +363,7 @@ module _ {count : ℕ} {first : State} {stream : List ℕ} {start old : Situatio
           }));
         }
 
-    pub ends_failed : result ≡ Err http.Failed → Exchange parting.Failed first stream start (with_door left_now written_now)
+    pub ends_failed : result ≡ Err http.Failed → Exchange terms parting.Failed first stream start (with_door left_now written_now)
     ends_failed is =
         elim (at_coming (coming_bytes before) (λ bytes. FailsReading before after takes.part ⊎ FailsWriting before after bytes) h.rest h.coming (takes.failed is)) [
           | inl reading ↦ fails_reading reading
@@ -369,7 +371,7 @@ module _ {count : ℕ} {first : State} {stream : List ℕ} {start old : Situatio
         ]
 
     -- memory was wanting, before the interim line or behind it
-    wants : (part : List ℕ) → Wrote old.written written_now part → (part ≡ []) ⊎ ((part ≡ interim_bytes) × AsksInterim h.rest) → Exchange parting.NoMemory first stream start (with_door left_now written_now)
+    wants : (part : List ℕ) → Wrote old.written written_now part → (part ≡ []) ⊎ ((part ≡ interim_bytes) × AsksInterim h.rest) → Exchange terms parting.NoMemory first stream start (with_door left_now written_now)
     wants part wrote part_is = record {
       dialogue = record { bodies = bodies_in h.items; replies = h.replies; written = so_far ++ part };
       state = h.state;
@@ -379,7 +381,7 @@ module _ {count : ℕ} {first : State} {stream : List ℕ} {start old : Situatio
       ends = record { rest = h.rest; part = part; first = record { items = h.items; are_first = h.are_first; bodies_are = refl; written_is = refl }; part_is = part_is };
     }
 
-    pub ends_wanting : result ≡ Err http.NoMemory → Exchange parting.NoMemory first stream start (with_door left_now written_now)
+    pub ends_wanting : result ≡ Err http.NoMemory → Exchange terms parting.NoMemory first stream start (with_door left_now written_now)
     ends_wanting is =
         elim (takes.memory is) [
           | inl none ↦ wants [] none (inl refl)

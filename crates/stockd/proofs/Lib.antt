@@ -9,8 +9,7 @@ pub mod ReadStops
 pub mod RunOn
 pub mod ServedOn
 pub mod SessionOn
-pub mod WordsRead
-pub mod WordNumbers
+pub mod WordsAsked
 pub mod ExchangeItems
 pub mod ExchangeOn
 pub mod BodyAnswered

@@ -13,9 +13,11 @@ use Rattle.stockd.specs.Exchange.{Exchange, HasState, MayEndBy, Situation}
 use Rattle.stockd.specs.Machine.{State, Rests}
 use Rattle.stockd.specs.Reception.{IsServed, ServesEach, Visit}
 use Rattle.stockd.specs.ReceptionSteps.{HasReceived, HasStopped, IsReceiving, Post}
+use Rattle.stockd.specs.Setup.{Setup, over}
 use Rattle.stockd.specs.declared.connection.Parting.{Parting}
 use Rattle.stockd.specs.declared.connection.Parting.TheVariants as parting
 use Rattle.stockd.specs.declared.ending.Ending.TheVariants as ending
+use Rattle.stockd.specs.declared.terms.Terms.{Terms}
 use Rattle.stockd.proofs.Counts.{Rose-earlier}
 use Rattle.stockd.proofs.RunOn.{rests_here, run_from}
 
@@ -45,35 +47,35 @@ parts_more before mid came now parts bytes first let_in wrote =
 -- ---- one connection after the others
 
 -- one that was served from where the machine rested
-served_since : (models : List ModelInfo) (old past new : State) (visit : Visit) (faults faults_past faults_new : ℕ) → Rests old past → faults ≤ faults_past
-    → IsServed models past visit new faults_past faults_new → IsServed models old visit new faults faults_new
-served_since models old past new visit faults faults_past faults_new rests count served = record {
-  run = run_from models old past new visit.dialogue.bodies visit.dialogue.replies rests served.run;
+served_since : (setup : Setup) (old past new : State) (visit : Visit) (faults faults_past faults_new : ℕ) → Rests old past → faults ≤ faults_past
+    → IsServed setup past visit new faults_past faults_new → IsServed setup old visit new faults faults_new
+served_since setup old past new visit faults faults_past faults_new rests count served = record {
+  run = run_from setup old past new visit.dialogue.bodies visit.dialogue.replies rests served.run;
   left = served.left;
   ends = served.ends;
   failed = λ is. Rose-earlier faults faults_past faults_new count (served.failed is);
   count = omega (arith, count, served.count);
 }
 
-each_on : (models : List ModelInfo) (old mid new : State) (visits : List Visit) (visit : Visit) (faults faults_mid faults_new : ℕ) → ServesEach models old visits mid faults faults_mid
-    → IsServed models mid visit new faults_mid faults_new → ServesEach models old (visits ++ visit ∷ []) new faults faults_new
-each_on models old mid new [] visit faults faults_mid faults_new each served =
-    (new, faults_new, served_since models old mid new visit faults faults_mid faults_new each.0 each.1 served, (rests_here new, omega arith))
-each_on models old mid new (first ∷ visits) visit faults faults_mid faults_new each served =
-    (each.0, each.1, each.2, each_on models each.0 mid new visits visit each.1 faults_mid faults_new each.3 served)
+each_on : (setup : Setup) (old mid new : State) (visits : List Visit) (visit : Visit) (faults faults_mid faults_new : ℕ) → ServesEach setup old visits mid faults faults_mid
+    → IsServed setup mid visit new faults_mid faults_new → ServesEach setup old (visits ++ visit ∷ []) new faults faults_new
+each_on setup old mid new [] visit faults faults_mid faults_new each served =
+    (new, faults_new, served_since setup old mid new visit faults faults_mid faults_new each.0 each.1 served, (rests_here new, omega arith))
+each_on setup old mid new (first ∷ visits) visit faults faults_mid faults_new each served =
+    (each.0, each.1, each.2, each_on setup each.0 mid new visits visit each.1 faults_mid faults_new each.3 served)
 
 -- connections that were served from a later count of the keeper's faults on were from an earlier one on
-pub each_from : (models : List ModelInfo) (old from new : State) (visits : List Visit) (faults faults_now : ℕ) → Rests old from → ServesEach models from visits new faults faults_now
-    → ServesEach models old visits new faults faults_now
-each_from models old from new [] faults faults_now rests each =
+pub each_from : (setup : Setup) (old from new : State) (visits : List Visit) (faults faults_now : ℕ) → Rests old from → ServesEach setup from visits new faults faults_now
+    → ServesEach setup old visits new faults faults_now
+each_from setup old from new [] faults faults_now rests each =
     (record { tables = each.0.tables ∙ rests.tables; moments = each.0.moments ∙ rests.moments; count = omega (arith, rests.count, each.0.count) }, each.1)
-each_from models old from new (visit ∷ visits) faults faults_now rests each =
-    (each.0, each.1, served_since models old from each.0 visit faults faults each.1 rests (omega arith) each.2, each.3)
+each_from setup old from new (visit ∷ visits) faults faults_now rests each =
+    (each.0, each.1, served_since setup old from each.0 visit faults faults each.1 rests (omega arith) each.2, each.3)
 
 -- a count of the door's may have risen since
-each_since : (models : List ModelInfo) (old new : State) (visits : List Visit) (faults faults_mid faults_new : ℕ) → ServesEach models old visits new faults faults_mid → faults_new ≡ faults_mid
-    → ServesEach models old visits new faults faults_new
-each_since models old new visits faults faults_mid faults_new each same = subst (λ (n : ℕ). ServesEach models old visits new faults n) (sym same) each
+each_since : (setup : Setup) (old new : State) (visits : List Visit) (faults faults_mid faults_new : ℕ) → ServesEach setup old visits new faults faults_mid → faults_new ≡ faults_mid
+    → ServesEach setup old visits new faults faults_new
+each_since setup old new visits faults faults_mid faults_new each same = subst (λ (n : ℕ). ServesEach setup old visits new faults n) (sym same) each
 
 -- counts that are the same rose
 rose_same : {a b c d : ℕ} → a ≡ b → c ≡ d → Rose a d → Rose b c
@@ -113,7 +115,7 @@ record ComesIn (to_come : List (List ℕ)) (coming_in : Option (List (List ℕ))
 
 -- ---- how a reception begins
 
-pub begins : (first : State) (start : Post) (streams : List (List ℕ)) → HasState start.situation first → start.doorway.coming ≡ Some streams → IsReceiving 0 first start start
+pub begins : {terms : Terms} (first : State) (start : Post) (streams : List (List ℕ)) → HasState start.situation first → start.doorway.coming ≡ Some streams → IsReceiving terms 0 first start start
 begins first start streams state told = record {
   visits = [];
   to_come = streams;
@@ -131,9 +133,9 @@ begins first start streams state told = record {
   };
 }
 
-module _ {count : ℕ} {first : State} {start old : Post} (h : IsReceiving count first start old) where
+module _ {terms : Terms} {count : ℕ} {first : State} {start old : Post} (h : IsReceiving terms count first start old) where
   -- as many were served as may be
-  pub ends_at_limit : (limit : ℕ) → count ≡ limit → HasStopped ending.Done limit first start old
+  pub ends_at_limit : (limit : ℕ) → count ≡ limit → HasStopped terms ending.Done limit first start old
   ends_at_limit limit full = record {
     visits = h.visits;
     to_come = h.to_come;
@@ -152,20 +154,20 @@ module _ {count : ℕ} {first : State} {start old : Post} (h : IsReceiving count
       doorway = record { coming = coming; written = written; next_faults = next_faults; faults = faults };
     }
 
-    none_received : HasReceived h.visits h.to_come first start unserved
+    none_received : HasReceived terms h.visits h.to_come first start unserved
     none_received = record {
       came = h.received.came;
       coming = same_coming ∙ h.received.coming;
       written = same_written ∙ h.received.written;
       state = h.received.state;
-      each = each_since (models_at start.situation.engine) first h.received.state h.visits start.doorway.faults old.doorway.faults faults h.received.each same_faults;
+      each = each_since (over terms (models_at start.situation.engine)) first h.received.state h.visits start.doorway.faults old.doorway.faults faults h.received.each same_faults;
       next_count = omega (arith, h.received.next_count, no_fall);
       models_are = h.received.models_are;
       has_state = record { tables = h.received.has_state.tables; moments = h.received.has_state.moments; faults = h.received.has_state.faults };
     }
 
     -- the door has ended
-    pub ends_with_door : IfSome old.doorway.coming (λ streams. streams ≡ []) → HasStopped ending.Done limit first start unserved
+    pub ends_with_door : IfSome old.doorway.coming (λ streams. streams ≡ []) → HasStopped terms ending.Done limit first start unserved
     ends_with_door none = record {
       visits = h.visits;
       to_come = h.to_come;
@@ -175,7 +177,7 @@ module _ {count : ℕ} {first : State} {start old : Post} (h : IsReceiving count
     }
 
     -- it failed to let the next one in
-    pub ends_failed : Rose old.doorway.next_faults next_faults → HasStopped ending.ReadFault limit first start unserved
+    pub ends_failed : Rose old.doorway.next_faults next_faults → HasStopped terms ending.ReadFault limit first start unserved
     ends_failed rose = record {
       visits = h.visits;
       to_come = h.to_come;
@@ -200,16 +202,16 @@ module _ {count : ℕ} {first : State} {start old : Post} (h : IsReceiving count
     -- it was served, and shut
     module _ {A : Type 0} (limit : ℕ) (now : Post) (served : Situation) (result : Result A NoMemory) (below : count < limit)
         (faults_in faults_out : ℕ) (in_is : faults_in ≡ old.doorway.faults) (out_is : now.doorway.faults ≡ faults_out)
-        (exchange : (state : State) (stream : List ℕ) → HasState admitted state → left_in ≡ Some stream → (why : Parting) × MayEndBy (Rose faults_in faults_out) why result × Exchange why state stream admitted served)
+        (exchange : (state : State) (stream : List ℕ) → HasState admitted state → left_in ≡ Some stream → (why : Parting) × MayEndBy (Rose faults_in faults_out) why result × Exchange terms why state stream admitted served)
         (engine_is : now.situation.engine ≡ served.engine) (moments_are : now.situation.coming ≡ served.coming) (written_is : now.doorway.written ≡ served.written) (coming_is : now.doorway.coming ≡ coming_in)
         (count_is : old.doorway.faults ≤ now.doorway.faults) (next_is : old.doorway.next_faults ≤ now.doorway.next_faults) (same : models_at now.situation.engine ≡ models_at old.situation.engine) where
-      abbrev one : (why : Parting) × MayEndBy (Rose faults_in faults_out) why result × Exchange why h.received.state comes_in.stream admitted served
+      abbrev one : (why : Parting) × MayEndBy (Rose faults_in faults_out) why result × Exchange terms why h.received.state comes_in.stream admitted served
       one = exchange h.received.state comes_in.stream (record { tables = h.received.has_state.tables; moments = h.received.has_state.moments; faults = h.received.has_state.faults }) comes_in.left
 
       abbrev visit : Visit
       visit = record { stream = comes_in.stream; why = one.0; dialogue = one.2.dialogue }
 
-      was_served : IsServed (models_at old.situation.engine) h.received.state visit one.2.state old.doorway.faults now.doorway.faults
+      was_served : IsServed (over terms (models_at old.situation.engine)) h.received.state visit one.2.state old.doorway.faults now.doorway.faults
       was_served = record { run = one.2.run; left = served.left; ends = one.2.ends; failed = λ is. rose_same in_is out_is (has_failed (Rose faults_in faults_out) one.0 result one.1 is); count = count_is }
 
       state_now : HasState now.situation one.2.state
@@ -219,7 +221,7 @@ module _ {count : ℕ} {first : State} {start old : Post} (h : IsReceiving count
         faults = rw engine_is one.2.has_state.faults;
       }
 
-      received_now : HasReceived (h.visits ++ visit ∷ []) comes_in.others first start now
+      received_now : HasReceived terms (h.visits ++ visit ∷ []) comes_in.others first start now
       received_now = record {
         came = h.received.came ∙ ap (λ (streams : List (List ℕ)). Some (map (λ (v : Visit). v.stream) h.visits ++ streams)) comes_in.to_come_is
             ∙ ap Some (sym (ap (λ (streams : List (List ℕ)). streams ++ comes_in.others) (map-append (λ (v : Visit). v.stream) h.visits (visit ∷ []))
@@ -228,8 +230,8 @@ module _ {count : ℕ} {first : State} {start old : Post} (h : IsReceiving count
         written = parts_more start.doorway.written old.doorway.written written_in now.doorway.written (map (λ (v : Visit). v.dialogue.written) h.visits) one.2.dialogue.written h.received.written let_in.1 (written_is ∙ one.2.wrote)
             ∙ ap (λ (parts : List (List ℕ)). option_map (λ before. before ++ parts) start.doorway.written) (sym (map-append (λ (v : Visit). v.dialogue.written) h.visits (visit ∷ [])));
         state = one.2.state;
-        each = each_on (models_at start.situation.engine) first h.received.state one.2.state h.visits visit start.doorway.faults old.doorway.faults now.doorway.faults h.received.each
-            (subst (λ (models : List ModelInfo). IsServed models h.received.state visit one.2.state old.doorway.faults now.doorway.faults) h.received.models_are was_served);
+        each = each_on (over terms (models_at start.situation.engine)) first h.received.state one.2.state h.visits visit start.doorway.faults old.doorway.faults now.doorway.faults h.received.each
+            (subst (λ (models : List ModelInfo). IsServed (over terms models) h.received.state visit one.2.state old.doorway.faults now.doorway.faults) h.received.models_are was_served);
         next_count = omega (arith, h.received.next_count, next_is);
         models_are = same ∙ h.received.models_are;
         has_state = state_now;
@@ -239,7 +241,7 @@ module _ {count : ℕ} {first : State} {start old : Post} (h : IsReceiving count
       length_now = omega (arith, length-append h.visits (visit ∷ []), h.count_is)
 
       -- and memory sufficed
-      pub goes_on : (value : A) → result ≡ Ok value → IsReceiving (count + 1) first start now
+      pub goes_on : (value : A) → result ≡ Ok value → IsReceiving terms (count + 1) first start now
       goes_on value is = record {
         visits = h.visits ++ visit ∷ [];
         to_come = comes_in.others;
@@ -250,7 +252,7 @@ module _ {count : ℕ} {first : State} {start old : Post} (h : IsReceiving count
       }
 
       -- or was wanting
-      pub ends_wanting : (error : NoMemory) → result ≡ Err error → HasStopped ending.NoMemory limit first start now
+      pub ends_wanting : (error : NoMemory) → result ≡ Err error → HasStopped terms ending.NoMemory limit first start now
       ends_wanting error is = record {
         visits = h.visits ++ visit ∷ [];
         to_come = comes_in.others;

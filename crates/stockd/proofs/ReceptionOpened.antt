@@ -8,15 +8,18 @@ use Rattle.ob_io.specs.Cause.{Rose}
 use Rattle.ob_io.specs.Store.{Store}
 use Rattle.ob_schema.specs.Tables.{Tables}
 use Rattle.ob_schema.specs.declared.info.ModelInfo.{ModelInfo}
+use Rattle.ob_words.specs.Values.{Action, serve}
+use Rattle.ob_words.specs.Words.{Command}
 use Rattle.stockd.specs.Exchange.{Situation}
 use Rattle.stockd.specs.Outside.{Doorway, Outside, Surroundings}
 use Rattle.stockd.specs.Program.{AreLoadedBy, EndsAction, EndsServe}
 use Rattle.stockd.specs.Reception.{Reception}
 use Rattle.stockd.specs.ReceptionSteps.{HasStopped, Post}
 use Rattle.stockd.specs.Session.{StandsFor, state_at}
+use Rattle.stockd.specs.Setup.{over}
 use Rattle.stockd.specs.Store.{EndsOpening}
-use Rattle.stockd.specs.Words.{Action, Command, serve}
 use Rattle.stockd.specs.declared.ending.Ending.{Ending}
+use Rattle.stockd.specs.declared.terms.Terms.{Terms}
 use Rattle.stockd.proofs.ReceptionOn.{each_from}
 use Rattle.stockd.proofs.SessionOn.{told_rows}
 use Rattle.stockd.proofs.WholeCall.{is_there, stands_for}
@@ -26,10 +29,10 @@ abbrev pub told_at : Situation → (written : Option (List ℕ)) → Surrounding
 told_at at written = record { faults = at.engine.faults; kept = at.engine.kept; coming = at.coming; written = written }
 
 -- connections were served over a store: the rows that are kept at the end are those of the machine's tables
-pub ends_serving : (first : Tables) (why : Ending) (limit : ℕ) (moments : ℕ → ℤ) (before now : Post) (written : Option (List ℕ))
-    → OthersStay (models_at before.situation.engine) before.situation.engine.kept now.situation.engine.kept → HasStopped why limit (state_at (told_at before.situation written) first moments) before now
-    → Reception (models_at before.situation.engine) first why limit moments before.doorway now.doorway (told_at before.situation written) (told_at now.situation written)
-ends_serving first why limit moments before now written others h =
+pub ends_serving : (terms : Terms) (first : Tables) (why : Ending) (limit : ℕ) (moments : ℕ → ℤ) (before now : Post) (written : Option (List ℕ))
+    → OthersStay (models_at before.situation.engine) before.situation.engine.kept now.situation.engine.kept → HasStopped terms why limit (state_at (told_at before.situation written) first moments) before now
+    → Reception (over terms (models_at before.situation.engine)) first why limit moments before.doorway now.doorway (told_at before.situation written) (told_at now.situation written)
+ends_serving terms first why limit moments before now written others h =
     let rows = told_rows now.situation.engine.kept now.situation.engine.held h.received.state.tables h.received.has_state.tables in record {
       visits = h.visits;
       few = h.few;

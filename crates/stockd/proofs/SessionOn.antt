@@ -17,6 +17,8 @@ use Rattle.stockd.specs.Lines.{is_blank_line, bodies_of, Reading}
 use Rattle.stockd.specs.Outside.{Engaged, Surroundings}
 use Rattle.stockd.specs.Session.{reply_lines, NoneTooLong, AreRead, TakesFrom, TakesIn, WritesReplies, StandsFor, Session}
 use Rattle.stockd.specs.SessionSteps.{Beginning, Ends, HasRead, HasReadAll, HasReadTo, StopsReading, HasServed, StopsWriting, GoesOn, ServesMore, StopsAt}
+use Rattle.stockd.specs.Setup.{over}
+use Rattle.stockd.specs.declared.terms.Terms.{Terms}
 use Rattle.stockd.proofs.ReadOn.{lines_fit}
 use Rattle.stockd.proofs.ReadStops.{told_before, are_read}
 use Rattle.stockd.proofs.ServedOn.{served_none}
@@ -51,8 +53,8 @@ told_rows None held tables rests = absurd rests.over
 told_rows (Some store) held tables rests = (store, refl, record { kept = rests.over.kept; sound = rests.over.sound })
 
 -- the session ends with all replies written
-ends_served : {before : Surroundings} {first : Tables} {bodies : List (List ℕ)} {at : Engaged} (h : HasServed before first bodies at) (left left_now : Option (List ℕ)) (why : Ending)
-    → TakesFrom why left left_now bodies → CutsNone why → Session at.held.models first why left left_now before at.now
+ends_served : {terms : Terms} {before : Surroundings} {first : Tables} {bodies : List (List ℕ)} {at : Engaged} (h : HasServed terms before first bodies at) (left left_now : Option (List ℕ)) (why : Ending)
+    → TakesFrom why left left_now bodies → CutsNone why → Session (over terms at.held.models) first why left left_now before at.now
 ends_served {bodies = bodies} {at = at} h left left_now why takes_in told =
     let rows = told_rows at.now.kept at.held h.tables h.rests in record {
       bodies = bodies;
@@ -73,8 +75,8 @@ ends_served {bodies = bodies} {at = at} h left left_now why takes_in told =
     }
 
 -- the session ends where no further line is read
-pub ends_reading : {from : Beginning} {reader : Reading} {left : Option (List ℕ)} {at : Engaged} (h : GoesOn from reader left at) {left_now : Option (List ℕ)} (why : Ending)
-    → ((stream : List ℕ) (lines : List (List ℕ)) → HasRead stream reader left lines → StopsReading why stream left_now lines) → CutsNone why → Ends at.held.models from why left_now at.now
+pub ends_reading : {terms : Terms} {from : Beginning} {reader : Reading} {left : Option (List ℕ)} {at : Engaged} (h : GoesOn terms from reader left at) {left_now : Option (List ℕ)} (why : Ending)
+    → ((stream : List ℕ) (lines : List (List ℕ)) → HasRead stream reader left lines → StopsReading why stream left_now lines) → CutsNone why → Ends (over terms at.held.models) from why left_now at.now
 ends_reading {from} h {left_now} why stops told =
     ends_served h.served from.left left_now why (IfSome_then from.left h.read (λ stream read. let stop = stops stream h.lines read in (stop.left, stop.left_is, stop.takes_in))) told
 
@@ -95,9 +97,9 @@ none_read : (left : Option (List ℕ)) (reader : Reading) → reader ≡ record 
 none_read None reader new = tt
 none_read (Some stream) reader new = read_none stream reader new
 
-pub begins : (from : Beginning) {reader : Reading} (held : Holding) → reader ≡ record { held = []; line = []; lines = 0; consumed = 0 }
-    → RestsAt from.now.kept held from.first → GoesOn from reader from.left (record { now = from.now; held = held })
-begins from {reader} held new rests = record { lines = []; read = none_read from.left reader new; served = served_none from.now from.first held rests }
+pub begins : {terms : Terms} (from : Beginning) {reader : Reading} (held : Holding) → reader ≡ record { held = []; line = []; lines = 0; consumed = 0 }
+    → RestsAt from.now.kept held from.first → GoesOn terms from reader from.left (record { now = from.now; held = held })
+begins {terms} from {reader} held new rests = record { lines = []; read = none_read from.left reader new; served = served_none terms from.now from.first held rests }
 
 -- nothing was read
 none_taken : (left : Option (List ℕ)) → TakesFrom ending.NoMemory left left []
@@ -106,9 +108,9 @@ none_taken (Some stream) =
     (stream, refl, (0, record { read = []; stream_is = refl; within = omega arith; among = record { bodies_are = refl; none_too_long = λ k below. absurd (omega arith) } }))
 
 -- there was no memory for a reader
-pub ends_at_once : (from : Beginning) (held : Holding) → RestsAt from.now.kept held from.first → Ends held.models from ending.NoMemory from.left from.now
-ends_at_once from held rests =
-    ends_served (served_none from.now from.first held rests) from.left from.left ending.NoMemory (none_taken from.left) (λ replies. refl)
+pub ends_at_once : (terms : Terms) (from : Beginning) (held : Holding) → RestsAt from.now.kept held from.first → Ends (over terms held.models) from ending.NoMemory from.left from.now
+ends_at_once terms from held rests =
+    ends_served (served_none terms from.now from.first held rests) from.left from.left ending.NoMemory (none_taken from.left) (λ replies. refl)
 
 -- over the models that the engine had before: that it rests, what rows stay, and the session
 
@@ -118,9 +120,9 @@ rest_on first then = record { models_are = then.models_are ∙ first.models_are;
 pub others_over : {models now_models : List ModelInfo} {before now : Option Store} → now_models ≡ models → OthersStay now_models before now → OthersStay models before now
 others_over {before = before} {now = now} same others = subst (λ (models : List ModelInfo). OthersStay models before now) same others
 
-pub over_same : {models now_models : List ModelInfo} {from : Beginning} {why : Ending} {left : Option (List ℕ)} {now : Surroundings} → now_models ≡ models
-    → Ends now_models from why left now → Ends models from why left now
-over_same {from = from} {why = why} {left = left} {now = now} same ends = subst (λ (models : List ModelInfo). Ends models from why left now) same ends
+pub over_same : (terms : Terms) {models now_models : List ModelInfo} {from : Beginning} {why : Ending} {left : Option (List ℕ)} {now : Surroundings} → now_models ≡ models
+    → Ends (over terms now_models) from why left now → Ends (over terms models) from why left now
+over_same terms {from = from} {why = why} {left = left} {now = now} same ends = subst (λ (models : List ModelInfo). Ends (over terms models) from why left now) same ends
 
 -- a line more
 
@@ -128,21 +130,21 @@ bodies_of-append : (lines more : List (List ℕ)) → bodies_of (lines ++ more) 
 bodies_of-append lines more =
     filter-append (λ (line : List ℕ). not (is_blank_line line)) lines more
 
-served_more : {from : Beginning} {reader : Reading} {left : Option (List ℕ)} {old : Engaged} (h : GoesOn from reader left old) (line : List ℕ) (new : Engaged)
-    → ServesMore (bodies_of (line ∷ [])) old new → HasServed from.now from.first (bodies_of (h.lines ++ line ∷ [])) new
-served_more {from} h line new serves =
-    subst (λ bodies. HasServed from.now from.first bodies new) (sym (bodies_of-append h.lines (line ∷ []))) (serves from.now from.first (bodies_of h.lines) h.served)
+served_more : {terms : Terms} {from : Beginning} {reader : Reading} {left : Option (List ℕ)} {old : Engaged} (h : GoesOn terms from reader left old) (line : List ℕ) (new : Engaged)
+    → ServesMore terms (bodies_of (line ∷ [])) old new → HasServed terms from.now from.first (bodies_of (h.lines ++ line ∷ [])) new
+served_more {terms} {from} h line new serves =
+    subst (λ bodies. HasServed terms from.now from.first bodies new) (sym (bodies_of-append h.lines (line ∷ []))) (serves from.now from.first (bodies_of h.lines) h.served)
 
-pub goes_on : {from : Beginning} {reader next : Reading} {left left_now : Option (List ℕ)} {old : Engaged} (h : GoesOn from reader left old) (line : List ℕ) (new : Engaged)
+pub goes_on : {terms : Terms} {from : Beginning} {reader next : Reading} {left left_now : Option (List ℕ)} {old : Engaged} (h : GoesOn terms from reader left old) (line : List ℕ) (new : Engaged)
     → ((stream : List ℕ) (lines : List (List ℕ)) → HasRead stream reader left lines → HasRead stream next left_now (lines ++ line ∷ []))
-    → ServesMore (bodies_of (line ∷ [])) old new → GoesOn from next left_now new
+    → ServesMore terms (bodies_of (line ∷ [])) old new → GoesOn terms from next left_now new
 goes_on {from} h line new reads serves =
     record { lines = h.lines ++ line ∷ []; read = IfSome_then from.left h.read (λ stream read. reads stream h.lines read); served = served_more h line new serves }
 
 -- the last line had no line feed
-pub ends_at_end : {from : Beginning} {reader : Reading} {left left_now : Option (List ℕ)} {old : Engaged} (h : GoesOn from reader left old) (line : List ℕ) (new : Engaged)
+pub ends_at_end : {terms : Terms} {from : Beginning} {reader : Reading} {left left_now : Option (List ℕ)} {old : Engaged} (h : GoesOn terms from reader left old) (line : List ℕ) (new : Engaged)
     → ((stream : List ℕ) (lines : List (List ℕ)) → HasRead stream reader left lines → HasReadAll stream left_now (lines ++ line ∷ []))
-    → ServesMore (bodies_of (line ∷ [])) old new → Ends new.held.models from ending.Done left_now new.now
+    → ServesMore terms (bodies_of (line ∷ [])) old new → Ends (over terms new.held.models) from ending.Done left_now new.now
 ends_at_end {from} {left_now = left_now} h line new reads serves =
     ends_served (served_more h line new serves) from.left left_now ending.Done (IfSome_then from.left h.read (λ stream read. taken stream (reads stream h.lines read))) (λ replies. refl)
   where
@@ -184,8 +186,8 @@ bodies_of-body lines line body =
     bodies_of-append lines (line ∷ []) ∙ ap (λ more. bodies_of lines ++ more) last
 
 -- the sink failed within the reply's line
-stopped : {before : Surroundings} {first : Tables} {bodies : List (List ℕ)} {at : Engaged} (h : StopsWriting before first bodies at) (left left_now : Option (List ℕ))
-    → TakesFrom ending.WriteFault left left_now bodies → Session at.held.models first ending.WriteFault left left_now before at.now
+stopped : {terms : Terms} {before : Surroundings} {first : Tables} {bodies : List (List ℕ)} {at : Engaged} (h : StopsWriting terms before first bodies at) (left left_now : Option (List ℕ))
+    → TakesFrom ending.WriteFault left left_now bodies → Session (over terms at.held.models) first ending.WriteFault left left_now before at.now
 stopped {bodies = bodies} {at = at} h left left_now takes_in =
     let rows = told_rows at.now.kept at.held h.tables h.rests in record {
       bodies = bodies;
@@ -205,10 +207,10 @@ stopped {bodies = bodies} {at = at} h left left_now takes_in =
       writes = h.writes;
     }
 
-pub ends_writing : {from : Beginning} {reader : Reading} {left left_now : Option (List ℕ)} {old : Engaged} (h : GoesOn from reader left old)
+pub ends_writing : {terms : Terms} {from : Beginning} {reader : Reading} {left left_now : Option (List ℕ)} {old : Engaged} (h : GoesOn terms from reader left old)
     (whole : Bool) (next : Reading) (line : List ℕ) (new : Engaged)
     → ((stream : List ℕ) (lines : List (List ℕ)) → HasRead stream reader left lines → HasReadTo whole stream next left_now (lines ++ line ∷ []))
-    → is_blank_line line ≡ false → StopsAt line old new → Ends new.held.models from ending.WriteFault left_now new.now
+    → is_blank_line line ≡ false → StopsAt terms line old new → Ends (over terms new.held.models) from ending.WriteFault left_now new.now
 ends_writing {from} {left_now = left_now} h whole next line new reads body stops =
     stopped (stops from.now from.first (bodies_of h.lines) h.served) from.left left_now (IfSome_then from.left h.read (λ stream read. taken stream (reads stream h.lines read)))
   where

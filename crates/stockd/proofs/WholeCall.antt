@@ -12,14 +12,15 @@ use Rattle.ob_load.specs.declared.fault.FaultyModule.{FaultyModule}
 use Rattle.ob_schema.specs.Broken.{AreSound}
 use Rattle.ob_schema.specs.Tables.{Tables}
 use Rattle.ob_schema.specs.declared.info.ModelInfo.{ModelInfo}
+use Rattle.ob_words.specs.Values.{Action, audit, call, serve}
+use Rattle.ob_words.specs.Words.{Command}
 use Rattle.stockd.specs.declared.ending.Ending.TheVariants as ending
 use Rattle.stockd.specs.declared.ending.Ending.{Ending}
 use Rattle.stockd.specs.Ending.{HasReason}
 use Rattle.stockd.specs.Outside.{Outside, Surroundings}
-use Rattle.stockd.specs.Program.{AreLoadedBy, EndsAction, EndsAudit, EndsCall, HasCauses, IsUntouched}
+use Rattle.stockd.specs.Program.{AreLoadedBy, EndsAction, EndsAudit, EndsCall, IsUntouched}
 use Rattle.stockd.specs.Session.{StandsFor, Session, state_at}
 use Rattle.stockd.specs.Store.{EndsLoading, EndsOpening, TellsFault}
-use Rattle.stockd.specs.Words.{Action, Command, audit, call, serve}
 use Rattle.stockd.proofs.RunOn.{run_from}
 
 -- a fault that is the first one, and is told, stops the loading
@@ -85,29 +86,3 @@ called action command why store before after is ends = rw is ends
 
 pub audited : (action : Action) (command : Command) (why : Ending) (store : Store) (before after : Outside) → action ≡ audit → EndsAudit command why store before after → EndsAction action command why store before after
 audited action command why store before after is ends = rw is ends
-
--- words that ask for nothing end with status 2, whatever the objects do
-pub no_command : (command : Option Command) (before after : Outside) (status : ℕ) → status ≡ 2 → command ≡ None → HasCauses command before after status
-no_command command before after status is none = record {
-  ending = ending.Usage;
-  status_is = is;
-  differs = λ one. absurd (omega arith);
-  usage = λ _. none;
-  other_words = λ _. is;
-  read_fault = λ four. absurd (omega arith);
-  write_fault = λ five. absurd (omega arith);
-  keeper_fault = λ six. absurd (omega arith);
-}
-
--- where memory is wanting for the words of a command
-pub no_room : (command : Option Command) (before after : Outside) (status : ℕ) → status ≡ 7 → (command ≡ None → ⊥) → HasCauses command before after status
-no_room command before after status is asked = record {
-  ending = ending.NoMemory;
-  status_is = is;
-  differs = λ one. absurd (omega arith);
-  usage = λ two. absurd (omega arith);
-  other_words = λ none. absurd (asked none);
-  read_fault = λ four. absurd (omega arith);
-  write_fault = λ five. absurd (omega arith);
-  keeper_fault = λ six. absurd (omega arith);
-}

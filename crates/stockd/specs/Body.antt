@@ -6,7 +6,8 @@ use Rattle.ob_io.specs.Store.{Store}
 use Rattle.ob_rpc.specs.Envelope.{envelope_of}
 use Rattle.ob_rpc.specs.declared.methods.Served.TheVariants.{EveryMethod}
 use Rattle.ob_schema.specs.Tables.{Tables}
-use Rattle.ob_schema.specs.declared.info.ModelInfo.{ModelInfo}
+use Rattle.stockd.specs.Setup.{Setup, over}
+use Rattle.stockd.specs.declared.terms.Terms.{Terms}
 use Rattle.stockd.specs.Directory.{Directory, directory_of}
 use Rattle.stockd.specs.Request.{Request, request_of}
 use Rattle.stockd.specs.Machine.{MayAnswer, asked_by, moments_after}
@@ -14,19 +15,20 @@ use Rattle.stockd.specs.Reply.{RepliesTo}
 use Rattle.stockd.specs.Texts.{no_memory_text}
 
 -- The machine may give this reply, and go on from old to tables at which the engine then rests.
-pub record Serves (models : List ModelInfo) (old : Tables) (now : ℤ) (rose : Type 0) (request : Request) (reply : List ℕ) (kept_now : Option Store) (held_now : Holding) : Type 0 where
+pub record Serves (setup : Setup) (old : Tables) (now : ℤ) (rose : Type 0) (request : Request) (reply : List ℕ) (kept_now : Option Store) (held_now : Holding) : Type 0 where
   pub tables : Tables
   pub rests : RestsAt kept_now held_now tables
-  pub answer : MayAnswer models old now rose request reply tables
+  pub answer : MayAnswer setup old now rose request reply tables
 
 -- at whatever tables the engine rests before it, the request is served
-abbrev pub ServesOver : (before after : Standpoint) → ℤ → Request → List ℕ → Type 0
-ServesOver before after now request reply = (tables : Tables) → HasTables before tables → Serves (models_at before) tables now (KeeperRose before after) request reply after.kept after.held
+abbrev pub ServesOver : Terms → (before after : Standpoint) → ℤ → Request → List ℕ → Type 0
+ServesOver terms before after now request reply = (tables : Tables) → HasTables before tables → Serves (over terms (models_at before)) tables now (KeeperRose before after) request reply after.kept after.held
 
 -- at whatever tables it rests, what is asked for by those who may call over them is served
-abbrev pub ServesAsked : (before after : Standpoint) → ℤ → (Directory → Request) → List ℕ → Type 0
-ServesAsked before after now asks reply =
-    (tables : Tables) → HasTables before tables → Serves (models_at before) tables now (KeeperRose before after) (asks (directory_of (models_at before) tables)) reply after.kept after.held
+abbrev pub ServesAsked : Terms → (before after : Standpoint) → ℤ → (Directory → Request) → List ℕ → Type 0
+ServesAsked terms before after now asks reply =
+    (tables : Tables) → HasTables before tables
+    → Serves (over terms (models_at before)) tables now (KeeperRose before after) (asks (directory_of (models_at before) tables)) reply after.kept after.held
 
 -- a moment that a clock may give: the first of those that it tells, where it tells them
 abbrev pub MayBeGiven : Option (ℕ → ℤ) → ℤ → Type 0
@@ -37,10 +39,10 @@ abbrev pub TakesMoment : (before now : Option (ℕ → ℤ)) → (body : List �
 TakesMoment before now body = now ≡ option_map (moments_after (envelope_of EveryMethod body)) before
 
 -- the request of a body was served, at a moment that the clock gave
-pub record ServesBody (old : Tables) (before after : Standpoint) (coming_before coming_now : Option (ℕ → ℤ)) (body reply : List ℕ) : Type 0 where
+pub record ServesBody (terms : Terms) (old : Tables) (before after : Standpoint) (coming_before coming_now : Option (ℕ → ℤ)) (body reply : List ℕ) : Type 0 where
   pub now : ℤ
   pub given : MayBeGiven coming_before now
-  pub serves : Serves (models_at before) old now (KeeperRose before after) (asked_by (models_at before) old body) reply after.kept after.held
+  pub serves : Serves (over terms (models_at before)) old now (KeeperRose before after) (asked_by (over terms (models_at before)) old body) reply after.kept after.held
   pub taken : TakesMoment coming_before coming_now body
 
 -- memory was wanting before the body was read: that is told, and nothing else happened
@@ -50,20 +52,20 @@ pub record LeavesUnread (old : Tables) (after : Standpoint) (coming_before comin
   pub coming : coming_now ≡ coming_before
 
 -- at whatever tables the engine rests before it, the body is answered
-abbrev pub AnswersOver : (before after : Standpoint) → (coming_before coming_now : Option (ℕ → ℤ)) → (body reply : List ℕ) → Type 0
-AnswersOver before after coming_before coming_now body reply =
-    (tables : Tables) → HasTables before tables → ServesBody tables before after coming_before coming_now body reply ⊎ LeavesUnread tables after coming_before coming_now reply
+abbrev pub AnswersOver : Terms → (before after : Standpoint) → (coming_before coming_now : Option (ℕ → ℤ)) → (body reply : List ℕ) → Type 0
+AnswersOver terms before after coming_before coming_now body reply =
+    (tables : Tables) → HasTables before tables → ServesBody terms tables before after coming_before coming_now body reply ⊎ LeavesUnread tables after coming_before coming_now reply
 
 -- whatever the keeper tells, the reply to a request has its cause
-abbrev pub RepliesBy : (before after : Standpoint) → ℤ → Request → List ℕ → Type 0
-RepliesBy before after now request reply = RepliesTo (models_at before) (KeeperRose before after) now request reply
+abbrev pub RepliesBy : Terms → (before after : Standpoint) → ℤ → Request → List ℕ → Type 0
+RepliesBy terms before after now request reply = RepliesTo (over terms (models_at before)) (KeeperRose before after) now request reply
 
 -- so has that to what is asked for, whoever may call
-abbrev pub RepliesAsked : (before after : Standpoint) → ℤ → (Directory → Request) → List ℕ → Type 0
-RepliesAsked before after now asks reply = (directory : Directory) × RepliesBy before after now (asks directory) reply
+abbrev pub RepliesAsked : Terms → (before after : Standpoint) → ℤ → (Directory → Request) → List ℕ → Type 0
+RepliesAsked terms before after now asks reply = (directory : Directory) × RepliesBy terms before after now (asks directory) reply
 
 -- and that to a body, at a moment that the clock may have given
-pub record RepliesOver (before after : Standpoint) (coming_before : Option (ℕ → ℤ)) (body reply : List ℕ) : Type 0 where
+pub record RepliesOver (terms : Terms) (before after : Standpoint) (coming_before : Option (ℕ → ℤ)) (body reply : List ℕ) : Type 0 where
   pub now : ℤ
   pub given : MayBeGiven coming_before now
-  pub replies : RepliesAsked before after now (λ directory. request_of (models_at before) directory (envelope_of EveryMethod body)) reply
+  pub replies : RepliesAsked terms before after now (λ directory. request_of (over terms (models_at before)) directory (envelope_of EveryMethod body)) reply

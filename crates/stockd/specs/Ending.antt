@@ -34,6 +34,13 @@ last_line ending.Differs = []
 last_line ending.WriteFault = []
 last_line why = last_text why ++ 10 ∷ []
 
+-- how a run may end that only tells something
+abbrev pub EndsTelling : (output_rose : Type 0) → Ending → Type 0
+EndsTelling output_rose ending.Done = ⊤
+EndsTelling output_rose ending.WriteFault = output_rose
+EndsTelling output_rose ending.NoMemory = ⊤
+EndsTelling output_rose _ = ⊥
+
 -- how a session may end
 abbrev pub IsSessionEnding : Ending → Type 0
 IsSessionEnding ending.Done = ⊤

@@ -12,8 +12,10 @@ use Rattle.ob_io.specs.declared.clock.Clock.{Ghosts as ClockGhosts}
 use Rattle.ob_io.specs.declared.door.Door.{Ghosts as DoorGhosts}
 use Rattle.ob_io.specs.declared.keeper.Keeper.{Ghosts as KeeperGhosts}
 use Rattle.stockd.specs.Machine.{State, Run}
+use Rattle.stockd.specs.Setup.{over}
 use Rattle.stockd.specs.declared.connection.Parting.{Parting}
 use Rattle.stockd.specs.declared.connection.Parting.TheVariants as parting
+use Rattle.stockd.specs.declared.terms.Terms.{Terms}
 
 -- ---- items and their answers
 
@@ -132,10 +134,10 @@ pub record HasState (now : Situation) (state : State) : Type 0 where
 
 -- An exchange over one connection: the machine's replies to the bodies that were taken in, in turn, its state after them, and
 -- what was written, by how the connection ended.
-pub record Exchange (why : Parting) (first : State) (stream : List ℕ) (before now : Situation) : Type 0 where
+pub record Exchange (terms : Terms) (why : Parting) (first : State) (stream : List ℕ) (before now : Situation) : Type 0 where
   pub dialogue : Dialogue
   pub state : State
-  pub run : Run (models_at before.engine) first dialogue.bodies dialogue.replies state
+  pub run : Run (over terms (models_at before.engine)) first dialogue.bodies dialogue.replies state
   pub has_state : HasState now state
   pub wrote : Wrote before.written now.written dialogue.written
   pub ends : EndsBy why stream now.left dialogue

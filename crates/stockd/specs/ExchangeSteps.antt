@@ -8,11 +8,13 @@ use Rattle.ob_http.specs.Reply.{reply_bytes}
 use Rattle.ob_http.specs.Written.{Wrote, WrotePart}
 use Rattle.stockd.specs.Exchange.{AreFirstItems, HasState, Situation, answers_to, bodies_in}
 use Rattle.stockd.specs.Machine.{State, Run, Step}
+use Rattle.stockd.specs.Setup.{over}
 use Rattle.stockd.specs.declared.connection.Parting.{Parting}
 use Rattle.stockd.specs.declared.connection.Parting.TheVariants as parting
+use Rattle.stockd.specs.declared.terms.Terms.{Terms}
 
 -- So many first items of the stream were taken in and answered, and what stands behind them is still to come.
-pub record HasAnswered (count : ℕ) (first : State) (stream : List ℕ) (before : Situation) (ahead : ReadAhead) (now : Situation) : Type 0 where
+pub record HasAnswered (terms : Terms) (count : ℕ) (first : State) (stream : List ℕ) (before : Situation) (ahead : ReadAhead) (now : Situation) : Type 0 where
   pub items : List Item
   pub rest : List ℕ
   pub are_first : AreFirstItems stream items rest
@@ -21,7 +23,7 @@ pub record HasAnswered (count : ℕ) (first : State) (stream : List ℕ) (before
   pub within : IfSome now.left (λ left. ahead.taken + length left ≤ length stream)
   pub replies : List (List ℕ)
   pub state : State
-  pub run : Run (models_at before.engine) first (bodies_in items) replies state
+  pub run : Run (over terms (models_at before.engine)) first (bodies_in items) replies state
   pub models_are : models_at now.engine ≡ models_at before.engine
   pub has_state : HasState now state
   pub wrote : Wrote before.written now.written (answers_to items replies)
@@ -32,10 +34,10 @@ WroteOrPart (Ok _) before now bytes = Wrote before now bytes
 WroteOrPart (Err _) before now bytes = WrotePart before now bytes
 
 -- a body was answered by a step of the machine, whose reply was written, or a front of it where that failed
-pub record AnswersBody {A E : Type 0} (body : List ℕ) (keep : Bool) (result : Result A E) (first : State) (before now : Situation) : Type 0 where
+pub record AnswersBody {A E : Type 0} (terms : Terms) (body : List ℕ) (keep : Bool) (result : Result A E) (first : State) (before now : Situation) : Type 0 where
   pub reply : List ℕ
   pub state : State
-  pub step : Step (models_at before.engine) first body reply state
+  pub step : Step (over terms (models_at before.engine)) first body reply state
   pub has_state : HasState now state
   pub wrote : WroteOrPart result before.written now.written (reply_bytes 200 reply keep)
 

@@ -1,13 +1,13 @@
 pub mod Lines
 pub mod LineSteps
 pub mod Directory
+pub mod Setup
 pub mod Request
 pub mod MethodCall
 pub mod Service
 pub mod Texts
 pub mod Machine
-pub mod Words
-pub mod WordPieces
+pub mod Isolation
 pub mod Ending
 pub mod Store
 pub mod Audit

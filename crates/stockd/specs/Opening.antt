@@ -12,6 +12,7 @@ use Rattle.ob_schema.specs.declared.preset.PresetRow.{PresetRow}
 use Rattle.stockd.specs.Outside.{Doorway, Surroundings}
 use Rattle.stockd.specs.Reception.{Reception}
 use Rattle.stockd.specs.Session.{Session, StandsFor}
+use Rattle.stockd.specs.Setup.{Setup}
 use Rattle.stockd.specs.declared.ending.Ending.{Ending}
 use Rattle.stockd.specs.declared.ending.Ending.TheVariants as ending
 
@@ -92,16 +93,16 @@ module _ (models : List ModelInfo) (preset : List PresetRow) (why : Ending) wher
     pub kept : now.kept ≡ before.kept
     pub written : now.written ≡ before.written
 
-module _ (models : List ModelInfo) (preset : List PresetRow) (first : Tables) (why : Ending) where
+module _ (setup : Setup) (preset : List PresetRow) (first : Tables) (why : Ending) where
   -- lines were served over a store of these tables, from those on that it then had; or nothing was read, since the opening stopped
   abbrev pub ServesLines : (left left_now : Option (List ℕ)) → (before now : Surroundings) → Type 0
   ServesLines left left_now before now =
-      (IsStopped models preset why first before now × (left_now ≡ left))
-      ⊎ ((begun : Tables) × (opened : Surroundings) × Opening models preset first begun before opened × Session models begun why left left_now opened now)
+      (IsStopped setup.models preset why first before now × (left_now ≡ left))
+      ⊎ ((begun : Tables) × (opened : Surroundings) × Opening setup.models preset first begun before opened × Session setup begun why left left_now opened now)
 
   -- connections were served over it so, by the moments that were still to come; or none was let in
   abbrev pub ServesDoor : (limit : ℕ) → (door door_now : Doorway) → (before now : Surroundings) → Type 0
   ServesDoor limit door door_now before now =
-      (IsStopped models preset why first before now × (door_now ≡ door))
-      ⊎ ((begun : Tables) × (opened : Surroundings) × (moments : ℕ → ℤ) × Opening models preset first begun before opened × (opened.coming ≡ Some moments)
-      × Reception models begun why limit moments door door_now opened now)
+      (IsStopped setup.models preset why first before now × (door_now ≡ door))
+      ⊎ ((begun : Tables) × (opened : Surroundings) × (moments : ℕ → ℤ) × Opening setup.models preset first begun before opened × (opened.coming ≡ Some moments)
+      × Reception setup begun why limit moments door door_now opened now)

@@ -3,11 +3,11 @@ use Rattle.std.specs.Prelude.{◌≡◌, ℕ, ℤ, ◌≤◌, ◌⊎◌, ◌++�
 use Rattle.ob_cache.specs.Kept.{OthersStay}
 use Rattle.ob_io.specs.Cause.{Rose}
 use Rattle.ob_io.specs.Store.{Store}
-use Rattle.ob_access.specs.Policies.{PolicyData}
 use Rattle.ob_load.specs.Loading.{IsLoaded}
 use Rattle.ob_load.specs.Texts.{AgreesWith, FileTexts, text_in}
+use Rattle.ob_words.specs.Values.{Action, audit, call, serve}
+use Rattle.ob_words.specs.Words.{Asked, AsksForAudit, Command}
 use Rattle.ob_schema.specs.Tables.{Tables, empty_tables}
-use Rattle.ob_schema.specs.declared.info.ModelInfo.{ModelInfo}
 use Rattle.ob_schema.specs.declared.preset.PresetRow.{PresetRow}
 use Rattle.stockd.specs.declared.ending.Ending.{Ending}
 use Rattle.stockd.specs.declared.ending.Ending.TheVariants as ending
@@ -15,14 +15,17 @@ use Rattle.stockd.specs.Ending.{status_of, last_line, WritesLast}
 use Rattle.stockd.specs.Opening.{Opening, StopsFilling, TakesMoment}
 use Rattle.stockd.specs.Outside.{Outside, Surroundings}
 use Rattle.stockd.specs.Session.{StandsFor, Session}
+use Rattle.stockd.specs.Setup.{Setup}
 use Rattle.stockd.specs.Audit.{TellsReport}
 use Rattle.stockd.specs.Reception.{Reception}
 use Rattle.stockd.specs.Store.{EndsLoading, EndsOpening}
-use Rattle.stockd.specs.Words.{Action, Command, audit, call, serve}
 
--- the modules that are asked for have these models and bring these rows, in texts that the files tell, where they do
-abbrev pub AreLoadedBy : Command → Option FileTexts → List ModelInfo → List PresetRow → Type 0
-AreLoadedBy command told models preset = (texts : FileTexts) × AgreesWith told texts × (policy : PolicyData) × IsLoaded (text_in texts command.folder) command.names models policy preset
+-- the modules that are asked for have these models, say who may ask for what, and bring these rows, in texts that the files tell, where they do; and the database is the one that is asked for
+pub record AreLoadedBy (command : Command) (told : Option FileTexts) (setup : Setup) (preset : List PresetRow) : Type 0 where
+  pub texts : FileTexts
+  pub agrees : AgreesWith told texts
+  pub loaded : IsLoaded (text_in texts command.folder) command.names setup.models setup.policy preset
+  pub database : setup.database ≡ command.database
 
 -- nothing was read, written or taken from the clock, and what is kept stays
 pub record IsUntouched (left_before left_now : Option (List ℕ)) (before now : Surroundings) : Type 0 where
@@ -40,34 +43,34 @@ pub record Unloaded (command : Command) (why : Ending) (before after : Outside) 
 
 -- the store wasn't opened: nothing was read, written or taken from the clock, and what is kept stays
 pub record Stopped (command : Command) (why : Ending) (store : Store) (before after : Outside) : Type 0 where
-  pub models : List ModelInfo
+  pub setup : Setup
   pub preset : List PresetRow
-  pub loaded : AreLoadedBy command before.texts models preset
-  pub stops : EndsOpening models store (Rose before.standing.faults after.standing.faults) why
+  pub loaded : AreLoadedBy command before.texts setup preset
+  pub stops : EndsOpening setup.models store (Rose before.standing.faults after.standing.faults) why
   pub same : IsUntouched before.left after.left before.standing after.standing
 
 -- a new store didn't get the rows that modules bring: nothing was read or written, what is kept stays, and a moment was taken from the clock
 pub record Unfilled (command : Command) (why : Ending) (store : Store) (before after : Outside) : Type 0 where
-  pub models : List ModelInfo
+  pub setup : Setup
   pub preset : List PresetRow
-  pub loaded : AreLoadedBy command before.texts models preset
-  pub new : StandsFor models (empty_tables models) store
+  pub loaded : AreLoadedBy command before.texts setup preset
+  pub new : StandsFor setup.models (empty_tables setup.models) store
   pub moment : ℤ
   pub takes : TakesMoment moment before.standing.coming after.standing.coming
-  pub stops : StopsFilling models preset moment (Rose before.standing.faults after.standing.faults) why
+  pub stops : StopsFilling setup.models preset moment (Rose before.standing.faults after.standing.faults) why
   pub same : IsUntouched before.left after.left (record before.standing { coming = after.standing.coming }) after.standing
 
 -- a store that stands for sound tables was opened, and a session served from those on that it then had, which ends with a fault of reading only where the source failed
 pub record Opened (command : Command) (why : Ending) (store : Store) (before after : Outside) : Type 0 where
-  pub models : List ModelInfo
+  pub setup : Setup
   pub preset : List PresetRow
-  pub loaded : AreLoadedBy command before.texts models preset
+  pub loaded : AreLoadedBy command before.texts setup preset
   pub first : Tables
-  pub stands : StandsFor models first store
+  pub stands : StandsFor setup.models first store
   pub begun : Tables
   pub opened : Surroundings
-  pub opening : Opening models preset first begun before.standing opened
-  pub session : Session models begun why before.left after.left opened after.standing
+  pub opening : Opening setup.models preset first begun before.standing opened
+  pub session : Session setup begun why before.left after.left opened after.standing
   pub read_fault : why ≡ ending.ReadFault → Rose before.source_faults after.source_faults
 
 -- the store wasn't opened, or a new one didn't get its rows
@@ -80,11 +83,11 @@ EndsCall command why store before after = Unloaded command why before after ⊎ 
 
 -- the rows were audited: nothing was read or taken from the clock, what is kept stays, and of the report this was written
 pub record Audited (command : Command) (why : Ending) (store : Store) (before after : Outside) : Type 0 where
-  pub models : List ModelInfo
+  pub setup : Setup
   pub preset : List PresetRow
-  pub loaded : AreLoadedBy command before.texts models preset
+  pub loaded : AreLoadedBy command before.texts setup preset
   pub written : List ℕ
-  pub tells : TellsReport models store (Rose before.standing.faults after.standing.faults) why written
+  pub tells : TellsReport setup.models store (Rose before.standing.faults after.standing.faults) why written
   pub same : IsUntouched before.left after.left (record before.standing { written = option_map (λ w. w ++ written) before.standing.written }) after.standing
 
 -- what `audit` did up to its last line
@@ -94,17 +97,17 @@ EndsAudit command why store before after = Unloaded command why before after ⊎
 -- a store that stands for sound tables was opened, and connections were served from those on that it then had, by the moments that were still to come;
 -- nothing was read or written elsewhere
 pub record Received (command : Command) (why : Ending) (store : Store) (before after : Outside) : Type 0 where
-  pub models : List ModelInfo
+  pub setup : Setup
   pub preset : List PresetRow
-  pub loaded : AreLoadedBy command before.texts models preset
+  pub loaded : AreLoadedBy command before.texts setup preset
   pub first : Tables
-  pub stands : StandsFor models first store
+  pub stands : StandsFor setup.models first store
   pub begun : Tables
   pub opened : Surroundings
-  pub opening : Opening models preset first begun before.standing opened
+  pub opening : Opening setup.models preset first begun before.standing opened
   pub moments : ℕ → ℤ
   pub moments_are : opened.coming ≡ Some moments
-  pub reception : Reception models begun why command.limit moments before.door after.door opened after.standing
+  pub reception : Reception setup begun why command.limit moments before.door after.door opened after.standing
   pub left : after.left ≡ before.left
   pub written : after.standing.written ≡ before.standing.written
 
@@ -123,7 +126,7 @@ EndsAction audit command why store before after = EndsAudit command why store be
 
 -- what is kept stays; or of rows under numbers that no model of the modules has all do
 abbrev pub KeepsOthers : Command → (texts : Option FileTexts) → (before now : Option Store) → Type 0
-KeepsOthers command texts before now = (now ≡ before) ⊎ ((models : List ModelInfo) × (preset : List PresetRow) × AreLoadedBy command texts models preset × OthersStay models before now)
+KeepsOthers command texts before now = (now ≡ before) ⊎ ((setup : Setup) × (preset : List PresetRow) × AreLoadedBy command texts setup preset × OthersStay setup.models before now)
 
 -- what a run told before its last line was written
 abbrev pub before_last : Outside → (written : Option (List ℕ)) → (sink_faults : ℕ) → Outside
@@ -145,14 +148,15 @@ pub record RunsOver (command : Command) (store : Store) (before after : Outside)
 abbrev pub Runs : Command → (before after : Outside) → ℕ → Type 0
 Runs command before after status = (store : Store) → before.standing.kept ≡ Some store → RunsOver command store before after status
 
--- When each status may come, whatever the objects tell: 1 for an audit alone; 2 exactly for words that ask for nothing
--- that is served; 4, 5 and 6 only where the count of the files, the source or the door's `next`, the sink and the keeper rose.
-pub record HasCauses (command : Option Command) (before after : Outside) (status : ℕ) : Type 0 where
+-- When each status may come, whatever the objects tell: 1 for an audit alone; 2 for words that ask for nothing that is served alone,
+-- which get it, or 7 where memory is wanting; 4, 5 and 6 only where the count of the files, the source or the door's `next`, the sink
+-- and the keeper rose.
+pub record HasCauses (asked : Option Asked) (before after : Outside) (status : ℕ) : Type 0 where
   pub ending : Ending
   pub status_is : status ≡ status_of ending
-  pub differs : status ≡ 1 → IsSomeAnd command (λ asked. asked.action ≡ audit)
-  pub usage : status ≡ 2 → command ≡ None
-  pub other_words : command ≡ None → status ≡ 2
+  pub differs : status ≡ 1 → IsSomeAnd asked AsksForAudit
+  pub usage : status ≡ 2 → asked ≡ None
+  pub other_words : asked ≡ None → (status ≡ 2) ⊎ (status ≡ 7)
   pub read_fault : status ≡ 4 → Rose before.file_faults after.file_faults ⊎ (Rose before.source_faults after.source_faults ⊎ Rose before.door.next_faults after.door.next_faults)
   pub write_fault : status ≡ 5 → Rose before.sink_faults after.sink_faults
   pub keeper_fault : status ≡ 6 → Rose before.standing.faults after.standing.faults

@@ -12,6 +12,7 @@ use Rattle.ob_schema.specs.Tables.{Tables}
 use Rattle.ob_schema.specs.declared.info.ModelInfo.{ModelInfo}
 use Rattle.stockd.specs.Machine.{MeansCause, TellsKeeper, called_at}
 use Rattle.stockd.specs.Request.{Call, Request, called, identified, malformed, told_of, wrong}
+use Rattle.stockd.specs.Setup.{Setup}
 use Rattle.stockd.specs.declared.request.ElementFault.{ElementFault}
 use Rattle.stockd.specs.declared.request.ElementFault.TheVariants as fault
 use Rattle.stockd.specs.declared.replies.Reply.{Reply}
@@ -28,10 +29,10 @@ abbrev pub MayTell : List ℕ → List ℕ → Type 0
 MayTell reply text = (reply ≡ text) ⊎ (reply ≡ no_memory_text)
 
 -- Whatever the keeper tells, the reply to a call tells of a result, or of a refusal by a cause that its method has; of a fault of the keeper only where its count rose.
-pub record RepliesToCall (models : List ModelInfo) (rose : Type 0) (now : ℤ) (id : Data) (call : Call) (reply : List ℕ) : Type 0 where
+pub record RepliesToCall (setup : Setup) (rose : Type 0) (now : ℤ) (id : Data) (call : Call) (reply : List ℕ) : Type 0 where
   pub outcome : Result Data Refusal
-  pub cause : IfErr outcome (Refuses rose (λ why. IsSomeAnd (model_at models call.model) (λ info. MeansCause call.method models (called_at now call info) why)))
-  pub tells : MayTell reply (outcome_text models id (told call.layout outcome))
+  pub cause : IfErr outcome (Refuses rose (λ why. IsSomeAnd (model_at setup.models call.model) (λ info. MeansCause call.method setup.models setup.policy (called_at now call info) why)))
+  pub tells : MayTell reply (outcome_text setup.models id (told call.layout outcome))
 
 -- the reply to a request that is no call: what is told, the element that is wrong first, or the place of the body that is
 abbrev pub TellsPlainly : List ModelInfo → Request → List ℕ → Type 0
@@ -48,9 +49,9 @@ TellsUnread models id (fault.Keeper keep_fault.Failed) reply = MayTell reply (ke
 TellsUnread models id (fault.Keeper keep_fault.NoMemory) reply = reply ≡ no_memory_text
 
 -- the reply to a request; of one for which a user is looked up it may tell of a fault of the keeper, where its count rose
-abbrev pub RepliesTo : List ModelInfo → Type 0 → ℤ → Request → List ℕ → Type 0
-RepliesTo models rose now (called id call) reply = RepliesToCall models rose now id call reply
-RepliesTo models rose now request reply = TellsPlainly models request reply ⊎ (rose × TellsKeeper request reply)
+abbrev pub RepliesTo : Setup → Type 0 → ℤ → Request → List ℕ → Type 0
+RepliesTo setup rose now (called id call) reply = RepliesToCall setup rose now id call reply
+RepliesTo setup rose now request reply = TellsPlainly setup.models request reply ⊎ (rose × TellsKeeper request reply)
 
 -- the reply tells of the result, or of a fault of the keeper, whose count rose
 abbrev pub TellsKept : Type 0 → Data → Data → List ℕ → Type 0

@@ -12,6 +12,7 @@ use Rattle.serde_json.specs.Data.{Data, array, boolean, number, object, string, 
 use Rattle.serde_json.specs.Events.{items_len}
 use Rattle.serde_json.specs.Find.{as_number, as_str, as_u64}
 use Rattle.stockd.specs.Directory.{Directory}
+use Rattle.stockd.specs.Setup.{Setup}
 use Rattle.stockd.specs.declared.request.Layout.{Layout}
 use Rattle.stockd.specs.declared.request.Layout.TheVariants as layout
 use Rattle.stockd.specs.declared.request.Method.{Method}
@@ -59,7 +60,7 @@ method_named models info d =
     else if is_text (codes "read_group") d then Some (method.Reads reading.ReadGroup)
     else if is_text (codes "fields_get") d then Some (method.Reads reading.FieldsGet)
     else if is_text (codes "create") d && is_creatable models info then Some (method.Writes writing.Create)
-    else if is_text (codes "write") d && is_writable info then Some (method.Writes writing.Write)
+    else if is_text (codes "write") d && is_writable models info then Some (method.Writes writing.Write)
     else if is_text (codes "unlink") d then Some (method.Writes writing.Unlink)
     else None
 
@@ -85,10 +86,10 @@ call_in models layout model method args rest caller =
 
 -- The call that the elements of an envelope make, or the number of the first that is wrong;
 -- where there are fewer than six, of the first that is missing.
-abbrev pub call_of : List ModelInfo → Directory → Layout → Items → Result Call ℕ
-call_of models directory layout (item db (item user (item key (item model (item method (item args rest)))))) =
-    if is_text (codes "stock") db then (element 1 (caller_of directory user key) >>= call_in models layout model method args rest) else Err 0
-call_of models directory layout few = Err (items_len few)
+abbrev pub call_of : Setup → Directory → Layout → Items → Result Call ℕ
+call_of setup directory layout (item db (item user (item key (item model (item method (item args rest)))))) =
+    if is_text setup.database db then (element 1 (caller_of directory user key) >>= call_in setup.models layout model method args rest) else Err 0
+call_of setup directory layout few = Err (items_len few)
 
 -- the elements of `execute` as those of `execute_kw`: what stands behind the first five is its list of arguments
 abbrev pub listed : Items → Items
@@ -106,10 +107,10 @@ user_json (Some id) = number (unsigned id.0)
 
 -- What `login` and `authenticate` tell of their elements, a database, a login, a key, and maybe one that is unread: the id of the
 -- user with this login and key, else false. Or the number of the first that is wrong; where there are fewer than three, of the first that is missing.
-abbrev pub login_of : Directory → Items → Result Data ℕ
-login_of directory (item db (item login (item key rest))) =
-    if is_text (codes "stock") db then (element 1 (as_str login) >>= λ name. element 2 (as_str key) >>= λ word. Ok (user_json (directory.user_with name word))) else Err 0
-login_of directory few = Err (items_len few)
+abbrev pub login_of : (database : List ℕ) → Directory → Items → Result Data ℕ
+login_of database directory (item db (item login (item key rest))) =
+    if is_text database db then (element 1 (as_str login) >>= λ name. element 2 (as_str key) >>= λ word. Ok (user_json (directory.user_with name word))) else Err 0
+login_of database directory few = Err (items_len few)
 
 -- the request of an id, by the call that its elements make: the database is read before a user is looked up, all else behind that
 abbrev pub request_by : Data → Result Call ℕ → Request
@@ -127,14 +128,14 @@ abbrev pub is_login : List ℕ → Bool
 is_login method = bytes_eq method (codes "login") || bytes_eq method (codes "authenticate")
 
 -- the request of an id, by the method of a service and its elements
-abbrev pub request_with : List ModelInfo → Directory → Data → (method : List ℕ) → Items → Request
-request_with models directory id method elements =
+abbrev pub request_with : Setup → Directory → Data → (method : List ℕ) → Items → Request
+request_with setup directory id method elements =
     if bytes_eq method (codes "version") then told_of id version_json
-    else if is_login method then telling_by id (login_of directory elements)
-    else if bytes_eq method (codes "execute") then request_by id (call_of models directory layout.Spread (listed elements))
-    else request_by id (call_of models directory layout.Listed elements)
+    else if is_login method then telling_by id (login_of setup.database directory elements)
+    else if bytes_eq method (codes "execute") then request_by id (call_of setup directory layout.Spread (listed elements))
+    else request_by id (call_of setup directory layout.Listed elements)
 
 -- the request of a body, by its envelope
-abbrev pub request_of : List ModelInfo → Directory → Result Envelope Fault → Request
-request_of models directory (Ok envelope) = request_with models directory envelope.id envelope.method envelope.args
-request_of models directory (Err fault) = malformed fault.id fault.place
+abbrev pub request_of : Setup → Directory → Result Envelope Fault → Request
+request_of setup directory (Ok envelope) = request_with setup directory envelope.id envelope.method envelope.args
+request_of setup directory (Err fault) = malformed fault.id fault.place

@@ -12,6 +12,7 @@ use Rattle.stockd.specs.Ending.{IsCutShort}
 use Rattle.stockd.specs.Lines.{is_line_feed, lines_of, bodies_of, line_back, line_size, IsTooLong}
 use Rattle.stockd.specs.Machine.{State, Run}
 use Rattle.stockd.specs.Outside.{Surroundings}
+use Rattle.stockd.specs.Setup.{Setup}
 
 -- the replies, each with its line feed
 abbrev pub reply_lines : List (List ℕ) → List ℕ
@@ -97,18 +98,18 @@ state_at at tables moments = record { tables = tables; moments = moments; faults
 -- A session over a keeper that tells its rows, from these tables on: the machine's replies to the bodies
 -- that were taken in, and its tables, for which the kept rows stand; rows of other models stay. What the
 -- source, the clock and the sink tell is of these bodies, of the machine's moments and of its replies.
-pub record Session (models : List ModelInfo) (first : Tables) (why : Ending) (left_before left_now : Option (List ℕ)) (before now : Surroundings) : Type 0 where
+pub record Session (setup : Setup) (first : Tables) (why : Ending) (left_before left_now : Option (List ℕ)) (before now : Surroundings) : Type 0 where
   pub bodies : List (List ℕ)
   pub replies : List (List ℕ)
   pub tables : Tables
   pub moments : ℕ → ℤ
   pub rest : ℕ → ℤ
-  pub run : Run models (state_at before first moments) bodies replies (state_at now tables rest)
+  pub run : Run setup (state_at before first moments) bodies replies (state_at now tables rest)
   pub gives : GivesMoments before.coming now.coming moments rest
   pub store : Store
   pub kept_is : now.kept ≡ Some store
-  pub stands : StandsFor models tables store
-  pub others : OthersStay models before.kept now.kept
+  pub stands : StandsFor setup.models tables store
+  pub others : OthersStay setup.models before.kept now.kept
   pub takes_in : TakesFrom why left_before left_now bodies
   pub written : List ℕ
   pub written_is : now.written ≡ option_map (λ w. w ++ written) before.written

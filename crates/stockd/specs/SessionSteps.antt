@@ -3,12 +3,13 @@ use Rattle.std.specs.Prelude.{◌≡◌, ℕ, Bool, true, false, ℤ, List, [], 
 use Rattle.ob_cache.specs.Kept.{OthersStay}
 use Rattle.ob_cache.specs.Standing.{RestsAt}
 use Rattle.ob_schema.specs.Tables.{Tables}
-use Rattle.ob_schema.specs.declared.info.ModelInfo.{ModelInfo}
 use Rattle.stockd.specs.declared.ending.Ending.{Ending}
 use Rattle.stockd.specs.declared.ending.Ending.TheVariants.{WriteFault}
+use Rattle.stockd.specs.declared.terms.Terms.{Terms}
 use Rattle.stockd.specs.Lines.{lines_of, bodies_of, Reading, stream_of}
 use Rattle.stockd.specs.Machine.{Run}
 use Rattle.stockd.specs.Outside.{Engaged, Surroundings}
+use Rattle.stockd.specs.Setup.{Setup, over}
 use Rattle.stockd.specs.Session.{GivesMoments, NoneTooLong, Session, TakesIn, WritesReplies, reply_lines, state_at}
 
 -- the lines, each with its line feed, as replies are written too
@@ -45,25 +46,25 @@ pub record StopsReading (why : Ending) (stream : List ℕ) (left_now : Option (L
 
 -- The machine answered these bodies from its first tables on, each reply is written on its line,
 -- and the engine rests at its tables: that is where the keeper, the clock and the sink stand.
-pub record HasServed (before : Surroundings) (first : Tables) (bodies : List (List ℕ)) (at : Engaged) : Type 0 where
+pub record HasServed (terms : Terms) (before : Surroundings) (first : Tables) (bodies : List (List ℕ)) (at : Engaged) : Type 0 where
   pub replies : List (List ℕ)
   pub tables : Tables
   pub moments : ℕ → ℤ
   pub rest : ℕ → ℤ
-  pub run : Run at.held.models (state_at before first moments) bodies replies (state_at at.now tables rest)
+  pub run : Run (over terms at.held.models) (state_at before first moments) bodies replies (state_at at.now tables rest)
   pub gives : GivesMoments before.coming at.now.coming moments rest
   pub rests : RestsAt at.now.kept at.held tables
   pub others : OthersStay at.held.models before.kept at.now.kept
   pub written_is : at.now.written ≡ option_map (λ w. w ++ reply_lines replies) before.written
 
 -- The machine answered these bodies, and the sink failed within the last reply's line.
-pub record StopsWriting (before : Surroundings) (first : Tables) (bodies : List (List ℕ)) (at : Engaged) : Type 0 where
+pub record StopsWriting (terms : Terms) (before : Surroundings) (first : Tables) (bodies : List (List ℕ)) (at : Engaged) : Type 0 where
   pub replies : List (List ℕ)
   pub tables : Tables
   pub moments : ℕ → ℤ
   pub rest : ℕ → ℤ
   pub written : List ℕ
-  pub run : Run at.held.models (state_at before first moments) bodies replies (state_at at.now tables rest)
+  pub run : Run (over terms at.held.models) (state_at before first moments) bodies replies (state_at at.now tables rest)
   pub gives : GivesMoments before.coming at.now.coming moments rest
   pub rests : RestsAt at.now.kept at.held tables
   pub others : OthersStay at.held.models before.kept at.now.kept
@@ -71,12 +72,12 @@ pub record StopsWriting (before : Surroundings) (first : Tables) (bodies : List 
   pub writes : WritesReplies WriteFault replies written
 
 -- Wherever a session stood, it stands so after these bodies more.
-abbrev pub ServesMore : List (List ℕ) → (old new : Engaged) → Type 0
-ServesMore more old new = (before : Surroundings) (first : Tables) (bodies : List (List ℕ)) → HasServed before first bodies old → HasServed before first (bodies ++ more) new
+abbrev pub ServesMore : Terms → List (List ℕ) → (old new : Engaged) → Type 0
+ServesMore terms more old new = (before : Surroundings) (first : Tables) (bodies : List (List ℕ)) → HasServed terms before first bodies old → HasServed terms before first (bodies ++ more) new
 
 -- Wherever a session stood, it stops so within the reply to one body more.
-abbrev pub StopsAt : List ℕ → (old new : Engaged) → Type 0
-StopsAt body old new = (before : Surroundings) (first : Tables) (bodies : List (List ℕ)) → HasServed before first bodies old → StopsWriting before first (bodies ++ body ∷ []) new
+abbrev pub StopsAt : Terms → List ℕ → (old new : Engaged) → Type 0
+StopsAt terms body old new = (before : Surroundings) (first : Tables) (bodies : List (List ℕ)) → HasServed terms before first bodies old → StopsWriting terms before first (bodies ++ body ∷ []) new
 
 -- where a session began: what the source had left, what the others told, and the machine's first tables
 pub record Beginning : Type 0 where
@@ -85,11 +86,11 @@ pub record Beginning : Type 0 where
   pub first : Tables
 
 -- A session that goes on: lines were read, and those that aren't blank were served.
-pub record GoesOn (from : Beginning) (reader : Reading) (left_now : Option (List ℕ)) (at : Engaged) : Type 0 where
+pub record GoesOn (terms : Terms) (from : Beginning) (reader : Reading) (left_now : Option (List ℕ)) (at : Engaged) : Type 0 where
   pub lines : List (List ℕ)
   pub read : IfSome from.left (λ stream. HasRead stream reader left_now lines)
-  pub served : HasServed from.now from.first (bodies_of lines) at
+  pub served : HasServed terms from.now from.first (bodies_of lines) at
 
 -- A session that ended.
-abbrev pub Ends : List ModelInfo → Beginning → Ending → (left_now : Option (List ℕ)) → Surroundings → Type 0
-Ends models from why left_now now = Session models from.first why from.left left_now from.now now
+abbrev pub Ends : Setup → Beginning → Ending → (left_now : Option (List ℕ)) → Surroundings → Type 0
+Ends setup from why left_now now = Session setup from.first why from.left left_now from.now now

@@ -4,6 +4,7 @@
 ghost use Rattle.std.specs.Prelude.{◌≡◌, ◌≤◌, ◌⊎◌, ℕ, ℤ, IfOk, IfSome, false, option_map};
 ghost use Rattle.serde_json.specs.View.{view, items_view};
 ghost use Rattle.serde_json.specs.Written.{has_float};
+ghost use Rattle.ob_access.specs.Policies.{IsPolicyOver};
 ghost use Rattle.ob_base.specs.Times.{IsMoment};
 ghost use Rattle.ob_cache.specs.Calls.{IsAsked, IsCalled, IsResting, models_at, settled_over, standpoint};
 ghost use Rattle.ob_cache.specs.Kept.{OthersStay};
@@ -21,11 +22,15 @@ ghost use Rattle.stockd.specs.Machine.{Makes, MakesCause, Tells, TellsCause, mom
 ghost use Rattle.stockd.specs.MethodCall.{call_view, handed_view};
 ghost use Rattle.stockd.specs.Reply.{Keeps, TellsKept, text_of};
 ghost use Rattle.stockd.specs.Request.{call_of, called, listed, login_of, request_by, request_with, telling_by};
+ghost use Rattle.stockd.specs.Setup.{over};
 ghost use Rattle.stockd.specs.Texts.{no_memory_text};
+ghost use Rattle.stockd.specs.declared.terms.Terms.{Terms};
 
 use crate::replies::{Reply, call_refused, refused, told, unread, version_told};
 use crate::request::{Layout, Method, MethodCall, ReadMethod, WriteMethod, call_of};
 use crate::service::{is_login, listed, login_of};
+use crate::terms::Terms;
+use ob_access::Policy;
 use ob_base::{Ledger, NoMemory, Refusal, Sequence, Steps};
 use ob_cache::Engine;
 use ob_call::Call;
@@ -36,24 +41,26 @@ use ob_rpc::{EnvFault, Envelope, Json, Outcome, Served, envelope, reply_text};
 use serde_json::Map;
 use std::alloc::Global;
 
-/// Answers one body, and carries out what it asks for.
+/// Answers one body on these terms, and carries out what it asks for.
 pub fn answer<K: Keeper, C: Clock, L: Ledger>(
     alloc: Global,
     engine: &mut Engine<'_, K>,
+    terms: &Terms<'_>,
     clock: &mut C,
     steps: &mut Steps<L>,
     body: &[u8],
 ) -> Reply
     requires rest { IsAtRest engine.old.held.models engine.old.held }
+    requires policy { IsPolicyOver (models_at (standpoint K.Keeper engine.old)) terms.now.policy.now }
 
     // Over a keeper that tells its rows it is a step of the machine, at the moment that the clock gave.
-    ensures served { AnswersOver (standpoint K.Keeper engine.old) (standpoint K.Keeper engine.new) (C.coming clock.old) (C.coming clock.new) body.now (text_of result) }
+    ensures served { AnswersOver terms.now (standpoint K.Keeper engine.old) (standpoint K.Keeper engine.new) (C.coming clock.old) (C.coming clock.new) body.now (text_of result) }
     // A request takes one moment. Where memory is wanting to read the body, none is taken.
     ensures moments { (C.coming clock.new ≡ option_map (moments_after (envelope_of EveryMethod body.now)) (C.coming clock.old))
         ⊎ ((text_of result ≡ no_memory_text) × (C.coming clock.new ≡ C.coming clock.old)) }
     // Whatever the keeper tells, each refusal has its cause: a malformed body the first place that is wrong, a
     // call one that its method has; a fault of the keeper is told only where its count rose.
-    ensures causes { RepliesOver (standpoint K.Keeper engine.old) (standpoint K.Keeper engine.new) (C.coming clock.old) body.now (text_of result) }
+    ensures causes { RepliesOver terms.now (standpoint K.Keeper engine.old) (standpoint K.Keeper engine.new) (C.coming clock.old) body.now (text_of result) }
     // Rows of other models stay.
     ensures others { OthersStay engine.old.held.models (K.kept engine.old.keeper.now) (K.kept engine.new.keeper.now) }
     ensures rests { IsAtRest engine.old.held.models engine.new.held }
@@ -63,7 +70,7 @@ pub fn answer<K: Keeper, C: Clock, L: Ledger>(
     match envelope(alloc, Served::EveryMethod, body) {
         Ok(envelope) => {
             let now = clock.now();
-            serve(alloc, engine, now, steps, envelope)
+            serve(alloc, engine, terms, now, steps, envelope)
         }
         Err(EnvFault::At(place, id)) => refused(
             alloc,
@@ -80,17 +87,19 @@ pub fn answer<K: Keeper, C: Clock, L: Ledger>(
 fn serve<K: Keeper, L: Ledger>(
     alloc: Global,
     engine: &mut Engine<'_, K>,
+    terms: &Terms<'_>,
     now: i64,
     steps: &mut Steps<L>,
     envelope: Envelope,
 ) -> Reply
     requires rest { IsResting (standpoint K.Keeper engine.old) }
+    requires policy { IsPolicyOver (models_at (standpoint K.Keeper engine.old)) terms.now.policy.now }
     requires moment { IsMoment now }
     requires id { has_float (view envelope.id) ≡ false }
-    ensures served { ServesAsked (standpoint K.Keeper engine.old) (standpoint K.Keeper engine.new) now
-        (λ directory. request_with (models_at (standpoint K.Keeper engine.old)) directory (view envelope.id) envelope.method (items_view envelope.args)) (text_of result) }
-    ensures causes { RepliesAsked (standpoint K.Keeper engine.old) (standpoint K.Keeper engine.new) now
-        (λ directory. request_with (models_at (standpoint K.Keeper engine.old)) directory (view envelope.id) envelope.method (items_view envelope.args)) (text_of result) }
+    ensures served { ServesAsked terms.now (standpoint K.Keeper engine.old) (standpoint K.Keeper engine.new) now
+        (λ directory. request_with (over terms.now (models_at (standpoint K.Keeper engine.old))) directory (view envelope.id) envelope.method (items_view envelope.args)) (text_of result) }
+    ensures causes { RepliesAsked terms.now (standpoint K.Keeper engine.old) (standpoint K.Keeper engine.new) now
+        (λ directory. request_with (over terms.now (models_at (standpoint K.Keeper engine.old))) directory (view envelope.id) envelope.method (items_view envelope.args)) (text_of result) }
     ensures others { OthersStay engine.old.held.models (K.kept engine.old.keeper.now) (K.kept engine.new.keeper.now) }
     ensures rests { IsAtRest engine.old.held.models engine.new.held }
     ensures lender { engine.new.keeper.ghost_name ≡ engine.old.keeper.ghost_name }
@@ -106,14 +115,15 @@ fn serve<K: Keeper, L: Ledger>(
         return version_told(alloc, &id);
     }
     if is_login(method.as_str()) {
-        return serve_login(alloc, engine, &id, args.as_slice());
+        return serve_login(alloc, engine, terms, &id, args.as_slice());
     }
     if method.as_str() == "execute" {
-        return serve_spread(alloc, engine, now, steps, &id, args);
+        return serve_spread(alloc, engine, terms, now, steps, &id, args);
     }
     serve_elements(
         alloc,
         engine,
+        terms,
         now,
         steps,
         &id,
@@ -126,18 +136,19 @@ fn serve<K: Keeper, L: Ledger>(
 fn serve_login<K: Keeper>(
     alloc: Global,
     engine: &mut Engine<'_, K>,
+    terms: &Terms<'_>,
     id: &Json,
     elements: &[Json],
 ) -> Reply
     requires rest { IsResting (standpoint K.Keeper engine.old) }
     requires id { has_float (view id.now) ≡ false }
-    ensures served { (now : ℤ) → ServesAsked (standpoint K.Keeper engine.old) (standpoint K.Keeper engine.new) now
-        (λ directory. telling_by (view id.now) (login_of directory (items_view elements.now))) (text_of result) }
-    ensures causes { (now : ℤ) → RepliesAsked (standpoint K.Keeper engine.old) (standpoint K.Keeper engine.new) now
-        (λ directory. telling_by (view id.now) (login_of directory (items_view elements.now))) (text_of result) }
+    ensures served { (now : ℤ) → ServesAsked terms.now (standpoint K.Keeper engine.old) (standpoint K.Keeper engine.new) now
+        (λ directory. telling_by (view id.now) (login_of terms.now.database.now directory (items_view elements.now))) (text_of result) }
+    ensures causes { (now : ℤ) → RepliesAsked terms.now (standpoint K.Keeper engine.old) (standpoint K.Keeper engine.new) now
+        (λ directory. telling_by (view id.now) (login_of terms.now.database.now directory (items_view elements.now))) (text_of result) }
     ensures asked { OnlyAsked K.Keeper engine.old engine.new }
 {
-    match login_of(alloc, engine, elements) {
+    match login_of(alloc, engine, terms.database, elements) {
         Ok(json) => told(alloc, id, &Outcome::Result(json)),
         Err(fault) => unread(alloc, engine.schema(), id, fault),
     }
@@ -147,18 +158,20 @@ fn serve_login<K: Keeper>(
 fn serve_spread<K: Keeper, L: Ledger>(
     alloc: Global,
     engine: &mut Engine<'_, K>,
+    terms: &Terms<'_>,
     now: i64,
     steps: &mut Steps<L>,
     id: &Json,
     elements: Sequence<Json>,
 ) -> Reply
     requires rest { IsResting (standpoint K.Keeper engine.old) }
+    requires policy { IsPolicyOver (models_at (standpoint K.Keeper engine.old)) terms.now.policy.now }
     requires moment { IsMoment now }
     requires id { has_float (view id.now) ≡ false }
-    ensures served { ServesAsked (standpoint K.Keeper engine.old) (standpoint K.Keeper engine.new) now
-        (λ directory. request_by (view id.now) (call_of (models_at (standpoint K.Keeper engine.old)) directory Layout.Spread (listed (items_view elements)))) (text_of result) }
-    ensures causes { RepliesAsked (standpoint K.Keeper engine.old) (standpoint K.Keeper engine.new) now
-        (λ directory. request_by (view id.now) (call_of (models_at (standpoint K.Keeper engine.old)) directory Layout.Spread (listed (items_view elements)))) (text_of result) }
+    ensures served { ServesAsked terms.now (standpoint K.Keeper engine.old) (standpoint K.Keeper engine.new) now
+        (λ directory. request_by (view id.now) (call_of (over terms.now (models_at (standpoint K.Keeper engine.old))) directory Layout.Spread (listed (items_view elements)))) (text_of result) }
+    ensures causes { RepliesAsked terms.now (standpoint K.Keeper engine.old) (standpoint K.Keeper engine.new) now
+        (λ directory. request_by (view id.now) (call_of (over terms.now (models_at (standpoint K.Keeper engine.old))) directory Layout.Spread (listed (items_view elements)))) (text_of result) }
     ensures others { OthersStay engine.old.held.models (K.kept engine.old.keeper.now) (K.kept engine.new.keeper.now) }
     ensures rests { IsAtRest engine.old.held.models engine.new.held }
     ensures lender { engine.new.keeper.ghost_name ≡ engine.old.keeper.ghost_name }
@@ -168,6 +181,7 @@ fn serve_spread<K: Keeper, L: Ledger>(
         Ok(elements) => serve_elements(
             alloc,
             engine,
+            terms,
             now,
             steps,
             id,
@@ -182,6 +196,7 @@ fn serve_spread<K: Keeper, L: Ledger>(
 fn serve_elements<K: Keeper, L: Ledger>(
     alloc: Global,
     engine: &mut Engine<'_, K>,
+    terms: &Terms<'_>,
     now: i64,
     steps: &mut Steps<L>,
     id: &Json,
@@ -189,19 +204,20 @@ fn serve_elements<K: Keeper, L: Ledger>(
     elements: &[Json],
 ) -> Reply
     requires rest { IsResting (standpoint K.Keeper engine.old) }
+    requires policy { IsPolicyOver (models_at (standpoint K.Keeper engine.old)) terms.now.policy.now }
     requires moment { IsMoment now }
     requires id { has_float (view id.now) ≡ false }
-    ensures served { ServesAsked (standpoint K.Keeper engine.old) (standpoint K.Keeper engine.new) now
-        (λ directory. request_by (view id.now) (call_of (models_at (standpoint K.Keeper engine.old)) directory layout (items_view elements.now))) (text_of result) }
-    ensures causes { RepliesAsked (standpoint K.Keeper engine.old) (standpoint K.Keeper engine.new) now
-        (λ directory. request_by (view id.now) (call_of (models_at (standpoint K.Keeper engine.old)) directory layout (items_view elements.now))) (text_of result) }
+    ensures served { ServesAsked terms.now (standpoint K.Keeper engine.old) (standpoint K.Keeper engine.new) now
+        (λ directory. request_by (view id.now) (call_of (over terms.now (models_at (standpoint K.Keeper engine.old))) directory layout (items_view elements.now))) (text_of result) }
+    ensures causes { RepliesAsked terms.now (standpoint K.Keeper engine.old) (standpoint K.Keeper engine.new) now
+        (λ directory. request_by (view id.now) (call_of (over terms.now (models_at (standpoint K.Keeper engine.old))) directory layout (items_view elements.now))) (text_of result) }
     ensures others { OthersStay engine.old.held.models (K.kept engine.old.keeper.now) (K.kept engine.new.keeper.now) }
     ensures rests { IsAtRest engine.old.held.models engine.new.held }
     ensures lender { engine.new.keeper.ghost_name ≡ engine.old.keeper.ghost_name }
     ensures count { K.faults engine.old.keeper.now ≤ K.faults engine.new.keeper.now }
 {
-    match call_of(engine, layout, elements) {
-        Ok(call) => serve_call(alloc, engine, now, steps, id, &call),
+    match call_of(engine, terms, layout, elements) {
+        Ok(call) => serve_call(alloc, engine, terms, now, steps, id, &call),
         Err(fault) => unread(alloc, engine.schema(), id, fault),
     }
 }
@@ -210,17 +226,19 @@ fn serve_elements<K: Keeper, L: Ledger>(
 fn serve_call<K: Keeper, L: Ledger>(
     alloc: Global,
     engine: &mut Engine<'_, K>,
+    terms: &Terms<'_>,
     now: i64,
     steps: &mut Steps<L>,
     id: &Json,
     call: &MethodCall<'_>,
 ) -> Reply
     requires rest { IsResting (standpoint K.Keeper engine.old) }
+    requires policy { IsPolicyOver (models_at (standpoint K.Keeper engine.old)) terms.now.policy.now }
     requires moment { IsMoment now }
     requires model { HasModel (models_at (standpoint K.Keeper engine.old)) call.now.model }
     requires id { has_float (view id.now) ≡ false }
-    ensures served { ServesOver (standpoint K.Keeper engine.old) (standpoint K.Keeper engine.new) now (called (view id.now) (call_view call.now)) (text_of result) }
-    ensures causes { RepliesBy (standpoint K.Keeper engine.old) (standpoint K.Keeper engine.new) now (called (view id.now) (call_view call.now)) (text_of result) }
+    ensures served { ServesOver terms.now (standpoint K.Keeper engine.old) (standpoint K.Keeper engine.new) now (called (view id.now) (call_view call.now)) (text_of result) }
+    ensures causes { RepliesBy terms.now (standpoint K.Keeper engine.old) (standpoint K.Keeper engine.new) now (called (view id.now) (call_view call.now)) (text_of result) }
     ensures others { OthersStay engine.old.held.models (K.kept engine.old.keeper.now) (K.kept engine.new.keeper.now) }
     ensures rests { IsAtRest engine.old.held.models engine.new.held }
     ensures lender { engine.new.keeper.ghost_name ≡ engine.old.keeper.ghost_name }
@@ -236,7 +254,16 @@ fn serve_call<K: Keeper, L: Ledger>(
     };
     match call.method {
         Method::Reads(method) => {
-            serve_reading(alloc, engine, steps, id, method, call.layout, &handed)
+            serve_reading(
+                alloc,
+                engine,
+                terms,
+                steps,
+                id,
+                method,
+                call.layout,
+                &handed,
+            )
         }
         Method::Writes(method) => {
             serve_writing(alloc, engine, steps, id, method, call.layout, &handed)
@@ -248,6 +275,7 @@ fn serve_call<K: Keeper, L: Ledger>(
 fn serve_reading<K: Keeper, L: Ledger>(
     alloc: Global,
     engine: &mut Engine<'_, K>,
+    terms: &Terms<'_>,
     steps: &mut Steps<L>,
     id: &Json,
     method: ReadMethod,
@@ -255,19 +283,20 @@ fn serve_reading<K: Keeper, L: Ledger>(
     call: &Call<'_>,
 ) -> Reply
     requires rest { IsResting (standpoint K.Keeper engine.old) }
+    requires policy { IsPolicyOver (models_at (standpoint K.Keeper engine.old)) terms.now.policy.now }
     requires moment { IsMoment call.now.now }
     requires model { HasModel (models_at (standpoint K.Keeper engine.old)) call.now.model }
     requires id { has_float (view id.now) ≡ false }
-    ensures served { ServesOver (standpoint K.Keeper engine.old) (standpoint K.Keeper engine.new) call.entry.now.now
+    ensures served { ServesOver terms.now (standpoint K.Keeper engine.old) (standpoint K.Keeper engine.new) call.entry.now.now
         (called (view id.now) (handed_view layout (Method.Reads method) call.entry.now)) (text_of result) }
-    ensures causes { RepliesBy (standpoint K.Keeper engine.old) (standpoint K.Keeper engine.new) call.entry.now.now
+    ensures causes { RepliesBy terms.now (standpoint K.Keeper engine.old) (standpoint K.Keeper engine.new) call.entry.now.now
         (called (view id.now) (handed_view layout (Method.Reads method) call.entry.now)) (text_of result) }
     ensures others { OthersStay engine.old.held.models (K.kept engine.old.keeper.now) (K.kept engine.new.keeper.now) }
     ensures rests { IsAtRest engine.old.held.models engine.new.held }
     ensures lender { engine.new.keeper.ghost_name ≡ engine.old.keeper.ghost_name }
     ensures count { K.faults engine.old.keeper.now ≤ K.faults engine.new.keeper.now }
 {
-    match tell(alloc, engine, steps, method, call) {
+    match tell(alloc, engine, terms.policy, steps, method, call) {
         Ok(json) => told(alloc, id, &Outcome::Result(json)),
         Err(refusal) => call_refused(alloc, engine.schema(), id, layout, refusal),
     }
@@ -287,9 +316,9 @@ fn serve_writing<K: Keeper, L: Ledger>(
     requires moment { IsMoment call.now.now }
     requires model { HasModel (models_at (standpoint K.Keeper engine.old)) call.now.model }
     requires id { has_float (view id.now) ≡ false }
-    ensures served { ServesOver (standpoint K.Keeper engine.old) (standpoint K.Keeper engine.new) call.entry.now.now
+    ensures served { (terms : Terms) → ServesOver terms (standpoint K.Keeper engine.old) (standpoint K.Keeper engine.new) call.entry.now.now
         (called (view id.now) (handed_view layout (Method.Writes method) call.entry.now)) (text_of result) }
-    ensures causes { RepliesBy (standpoint K.Keeper engine.old) (standpoint K.Keeper engine.new) call.entry.now.now
+    ensures causes { (terms : Terms) → RepliesBy terms (standpoint K.Keeper engine.old) (standpoint K.Keeper engine.new) call.entry.now.now
         (called (view id.now) (handed_view layout (Method.Writes method) call.entry.now)) (text_of result) }
     ensures others { OthersStay engine.old.held.models (K.kept engine.old.keeper.now) (K.kept engine.new.keeper.now) }
     ensures rests { IsAtRest engine.old.held.models engine.new.held }
@@ -306,26 +335,28 @@ fn serve_writing<K: Keeper, L: Ledger>(
 fn tell<K: Keeper, L: Ledger>(
     alloc: Global,
     engine: &mut Engine<'_, K>,
+    policy: &Policy,
     steps: &mut Steps<L>,
     method: ReadMethod,
     call: &Call<'_>,
 ) -> Result<Json, Refusal>
     requires model { HasModel (models_at (standpoint K.Keeper engine.old)) call.now.model }
     requires rest { IsResting (standpoint K.Keeper engine.old) }
+    requires policy { IsPolicyOver (models_at (standpoint K.Keeper engine.old)) policy.now }
     ensures call { IfSome (model_at (models_at (standpoint K.Keeper engine.old)) call.entry.now.model) (λ info.
-        IsAsked (Tells method (models_at (standpoint K.Keeper engine.old)) (called_by call.entry.now info)) (standpoint K.Keeper engine.old) (standpoint K.Keeper engine.new)
-        (TellsCause method (models_at (standpoint K.Keeper engine.old)) (called_by call.entry.now info)) (result_view result)) }
+        IsAsked (Tells method (models_at (standpoint K.Keeper engine.old)) policy.now (called_by call.entry.now info)) (standpoint K.Keeper engine.old) (standpoint K.Keeper engine.new)
+        (TellsCause method (models_at (standpoint K.Keeper engine.old)) policy.now (called_by call.entry.now info)) (result_view result)) }
     ensures plain { IfOk result (λ json. has_float (view json) ≡ false) }
     ensures same { Stays (K.kept engine.old.keeper.now) engine.old.held (K.kept engine.new.keeper.now) engine.new.held }
     ensures count { K.faults engine.old.keeper.now ≤ K.faults engine.new.keeper.now }
     ensures lender { engine.new.keeper.ghost_name ≡ engine.old.keeper.ghost_name }
 {
     match method {
-        ReadMethod::Read => read(alloc, engine, call, steps),
-        ReadMethod::Search => search(alloc, engine, call, steps),
-        ReadMethod::SearchCount => search_count(alloc, engine, call, steps),
-        ReadMethod::SearchRead => search_read(alloc, engine, call, steps),
-        ReadMethod::ReadGroup => read_group(alloc, engine, call, steps),
+        ReadMethod::Read => read(alloc, engine, policy, call, steps),
+        ReadMethod::Search => search(alloc, engine, policy, call, steps),
+        ReadMethod::SearchCount => search_count(alloc, engine, policy, call, steps),
+        ReadMethod::SearchRead => search_read(alloc, engine, policy, call, steps),
+        ReadMethod::ReadGroup => read_group(alloc, engine, policy, call, steps),
         ReadMethod::FieldsGet => fields_get(alloc, engine, call, steps),
     }
 }

@@ -4,6 +4,7 @@
 //! is answered in `answer`; only the order of reading, answering and writing may be changed here.
 
 ghost use Rattle.std.specs.Prelude.{◌≡◌, ◌≤◌, ◌+◌, ℕ, List, Some, IsErr, MatchOption};
+ghost use Rattle.ob_access.specs.Policies.{IsPolicyOver};
 ghost use Rattle.ob_cache.specs.Kept.{OthersStay};
 ghost use Rattle.ob_cache.specs.Standing.{IsAtRest};
 ghost use Rattle.ob_http.specs.Reply.{IsFaultStatus};
@@ -13,6 +14,7 @@ ghost use Rattle.stockd.specs.ExchangeSteps.{AnswersBody, HasAnswered, TellsStat
 ghost use Rattle.stockd.specs.Machine.{State};
 
 use crate::answer::answer;
+use crate::terms::Terms;
 use ob_base::limits::MAX_INPUT_BYTES;
 use ob_base::{Ledger, NoMemory, Steps};
 use ob_cache::Engine;
@@ -33,23 +35,25 @@ pub(crate) enum Parting {
     NoMemory,
 }
 
-/// Serves the door's current connection: its messages are answered in order under status 200,
-/// also those that are refused, until it ends, isn't kept, sends what is no message that is
+/// Serves the door's current connection on these terms: its messages are answered in order under
+/// status 200, also those that are refused, until it ends, isn't kept, sends what is no message that is
 /// served, or sends more than 2^40 bytes. Shutting it is left to the caller. Where reading or
 /// writing fails, that ends the connection alone.
 pub fn serve_connection<K: Keeper, D: Door, C: Clock, L: Ledger>(
     alloc: Global,
     engine: &mut Engine<'_, K>,
+    terms: &Terms<'_>,
     door: &mut D,
     clock: &mut C,
     steps: &mut Steps<L>,
 ) -> Result<(), NoMemory>
     requires rest { IsAtRest engine.old.held.models engine.old.held }
+    requires policy { IsPolicyOver engine.old.held.models terms.now.policy.now }
     // Over an engine that rests at tables, and objects that tell what they hold, it is a run
     // of the machine over the bodies that were taken in, with what was written by it.
     ensures exchange { (first : State) (stream : List ℕ) → HasState (situation K.Keeper C.Clock D.Door engine.old clock.old door.old) first → D.left door.old ≡ Some stream
         → (why : Parting) × MayEndBy (Rose (D.faults door.old) (D.faults door.new)) why result
-        × Exchange why first stream (situation K.Keeper C.Clock D.Door engine.old clock.old door.old) (situation K.Keeper C.Clock D.Door engine.new clock.new door.new) }
+        × Exchange terms.now why first stream (situation K.Keeper C.Clock D.Door engine.old clock.old door.old) (situation K.Keeper C.Clock D.Door engine.new clock.new door.new) }
     ensures rests { IsAtRest engine.old.held.models engine.new.held }
     ensures door_count { D.faults door.old ≤ D.faults door.new }
     ensures keeper_count { K.faults engine.old.keeper.now ≤ K.faults engine.new.keeper.now }
@@ -58,7 +62,7 @@ pub fn serve_connection<K: Keeper, D: Door, C: Clock, L: Ledger>(
     ensures other_rows { OthersStay engine.old.held.models (K.kept engine.old.keeper.now) (K.kept engine.new.keeper.now) }
     ensures lender { engine.new.keeper.ghost_name ≡ engine.old.keeper.ghost_name }
 {
-    match serve_items(alloc, engine, door, clock, steps) {
+    match serve_items(alloc, engine, terms, door, clock, steps) {
         Parting::Served | Parting::Failed | Parting::TooLong => Ok(()),
         Parting::NoMemory => Err(NoMemory),
     }
@@ -69,13 +73,15 @@ pub fn serve_connection<K: Keeper, D: Door, C: Clock, L: Ledger>(
 fn serve_items<K: Keeper, D: Door, C: Clock, L: Ledger>(
     alloc: Global,
     engine: &mut Engine<'_, K>,
+    terms: &Terms<'_>,
     door: &mut D,
     clock: &mut C,
     steps: &mut Steps<L>,
 ) -> Parting
     requires rest { IsAtRest engine.old.held.models engine.old.held }
+    requires policy { IsPolicyOver engine.old.held.models terms.now.policy.now }
     ensures exchange { (first : State) (stream : List ℕ) → HasState (situation K.Keeper C.Clock D.Door engine.old clock.old door.old) first → D.left door.old ≡ Some stream
-        → Exchange result first stream (situation K.Keeper C.Clock D.Door engine.old clock.old door.old) (situation K.Keeper C.Clock D.Door engine.new clock.new door.new) }
+        → Exchange terms.now result first stream (situation K.Keeper C.Clock D.Door engine.old clock.old door.old) (situation K.Keeper C.Clock D.Door engine.new clock.new door.new) }
     ensures failed { result ≡ Parting.Failed → Rose (D.faults door.old) (D.faults door.new) }
     ensures rests { IsAtRest engine.old.held.models engine.new.held }
     ensures door_count { D.faults door.old ≤ D.faults door.new }
@@ -86,7 +92,7 @@ fn serve_items<K: Keeper, D: Door, C: Clock, L: Ledger>(
 {
     let mut held = Held::new(alloc);
     for _item in 0..=MAX_INPUT_BYTES {
-        if let Some(parting) = serve_item(alloc, engine, door, clock, steps, &mut held) {
+        if let Some(parting) = serve_item(alloc, engine, terms, door, clock, steps, &mut held) {
             return parting;
         }
     }
@@ -97,17 +103,19 @@ fn serve_items<K: Keeper, D: Door, C: Clock, L: Ledger>(
 fn serve_item<K: Keeper, D: Door, C: Clock, L: Ledger>(
     alloc: Global,
     engine: &mut Engine<'_, K>,
+    terms: &Terms<'_>,
     door: &mut D,
     clock: &mut C,
     steps: &mut Steps<L>,
     held: &mut Held,
 ) -> Option<Parting>
     requires rest { IsAtRest engine.old.held.models engine.old.held }
+    requires policy { IsPolicyOver engine.old.held.models terms.now.policy.now }
     // The exchange goes on by one item, or ends.
     ensures exchange { (count : ℕ) (first : State) (stream : List ℕ) (start : Situation)
-        → HasAnswered count first stream start held.old (situation K.Keeper C.Clock D.Door engine.old clock.old door.old)
-        → MatchOption result (HasAnswered (count + 1) first stream start held.new (situation K.Keeper C.Clock D.Door engine.new clock.new door.new))
-        (λ why. Exchange why first stream start (situation K.Keeper C.Clock D.Door engine.new clock.new door.new)) }
+        → HasAnswered terms.now count first stream start held.old (situation K.Keeper C.Clock D.Door engine.old clock.old door.old)
+        → MatchOption result (HasAnswered terms.now (count + 1) first stream start held.new (situation K.Keeper C.Clock D.Door engine.new clock.new door.new))
+        (λ why. Exchange terms.now why first stream start (situation K.Keeper C.Clock D.Door engine.new clock.new door.new)) }
     ensures failed { result ≡ Some Parting.Failed → Rose (D.faults door.old) (D.faults door.new) }
     ensures rests { IsAtRest engine.old.held.models engine.new.held }
     ensures door_count { D.faults door.old ≤ D.faults door.new }
@@ -118,7 +126,7 @@ fn serve_item<K: Keeper, D: Door, C: Clock, L: Ledger>(
 {
     match next_request(door, held) {
         Ok(Inlet::Post { body, keep }) => {
-            if answer_body(alloc, engine, door, clock, steps, &body, keep).is_err() {
+            if answer_body(alloc, engine, terms, door, clock, steps, &body, keep).is_err() {
                 return Some(Parting::Failed);
             }
             parting_after(keep, held.taken())
@@ -135,6 +143,7 @@ fn serve_item<K: Keeper, D: Door, C: Clock, L: Ledger>(
 fn answer_body<K: Keeper, D: Door, C: Clock, L: Ledger>(
     alloc: Global,
     engine: &mut Engine<'_, K>,
+    terms: &Terms<'_>,
     door: &mut D,
     clock: &mut C,
     steps: &mut Steps<L>,
@@ -142,9 +151,10 @@ fn answer_body<K: Keeper, D: Door, C: Clock, L: Ledger>(
     keep: bool,
 ) -> Result<(), Failed>
     requires rest { IsAtRest engine.old.held.models engine.old.held }
+    requires policy { IsPolicyOver engine.old.held.models terms.now.policy.now }
     // In whatever state the machine is, it is a step of it.
     ensures answers { (first : State) → HasState (situation K.Keeper C.Clock D.Door engine.old clock.old door.old) first
-        → AnswersBody body.now keep result first (situation K.Keeper C.Clock D.Door engine.old clock.old door.old) (situation K.Keeper C.Clock D.Door engine.new clock.new door.new) }
+        → AnswersBody terms.now body.now keep result first (situation K.Keeper C.Clock D.Door engine.old clock.old door.old) (situation K.Keeper C.Clock D.Door engine.new clock.new door.new) }
     ensures unread { D.left door.new ≡ D.left door.old }
     ensures cause { HasCause (D.faults door.old) (D.faults door.new) (IsErr result) }
     ensures rests { IsAtRest engine.old.held.models engine.new.held }
@@ -153,7 +163,7 @@ fn answer_body<K: Keeper, D: Door, C: Clock, L: Ledger>(
     ensures other_rows { OthersStay engine.old.held.models (K.kept engine.old.keeper.now) (K.kept engine.new.keeper.now) }
     ensures lender { engine.new.keeper.ghost_name ≡ engine.old.keeper.ghost_name }
 {
-    let reply = answer(alloc, engine, clock, steps, body);
+    let reply = answer(alloc, engine, terms, clock, steps, body);
     write_reply(door, 200, reply.as_str().as_bytes(), keep)
 }
 

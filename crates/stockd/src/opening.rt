@@ -3,6 +3,7 @@
 
 ghost use Rattle.std.specs.Prelude.{◌≡◌, ◌≤◌, ℕ, ℤ, List, Option, Some, IfErr, OnErr, OnOk};
 ghost use Rattle.ob_base.specs.Times.{IsMoment};
+ghost use Rattle.ob_access.specs.Policies.{IsPolicyOver};
 ghost use Rattle.ob_cache.specs.Calls.{HasTables, IsResting, KeeperRose, models_at, standpoint};
 ghost use Rattle.ob_cache.specs.Kept.{OthersStay};
 ghost use Rattle.ob_cache.specs.Standing.{IsAtRest, RestsAt};
@@ -14,10 +15,12 @@ ghost use Rattle.stockd.specs.Ending.{HasReason};
 ghost use Rattle.stockd.specs.Opening.{Begins, ServesDoor, ServesLines, StopsFilling, StopsUnfilled};
 ghost use Rattle.stockd.specs.OpeningSteps.{IsAskingEnding, IsFillingEnding, IsRowEnding, NamesOne};
 ghost use Rattle.stockd.specs.Outside.{doorway, surroundings};
+ghost use Rattle.stockd.specs.Setup.{over};
 
 use crate::ending::Ending;
 use crate::serving::serve_connections;
 use crate::session::serve_lines;
+use crate::terms::Terms;
 use ob_base::{Silent, Steps, Word};
 use ob_cache::Engine;
 use ob_io::{Clock, Door, KeepFault, Keeper, Sink, Source};
@@ -29,16 +32,18 @@ use std::alloc::Global;
 pub(crate) fn filled_lines<K: Keeper, S: Source, W: Sink, C: Clock>(
     alloc: Global,
     engine: &mut Engine<'_, K>,
+    terms: &Terms<'_>,
     preset: &Preset,
     input: &mut S,
     output: &mut W,
     clock: &mut C,
 ) -> Ending
     requires rest { IsAtRest engine.old.held.models engine.old.held }
+    requires policy { IsPolicyOver engine.old.held.models terms.now.policy.now }
     requires preset { IsPreset engine.old.held.models preset.now.rows }
     ensures outcome { let before = surroundings K.Keeper W.Sink C.Clock engine.old.keeper.now output.old clock.old in let now = surroundings K.Keeper W.Sink C.Clock engine.new.keeper.now output.new clock.new in
         (first : Tables) → RestsAt (K.kept engine.old.keeper.now) engine.old.held first
-        → ServesLines engine.old.held.models preset.now.rows first result (S.left input.old) (S.left input.new) before now }
+        → ServesLines (over terms.now engine.old.held.models) preset.now.rows first result (S.left input.old) (S.left input.new) before now }
     ensures reason { HasReason ⊥ (Rose (S.faults input.old) (S.faults input.new))
         (Rose (W.faults output.old) (W.faults output.new))
         (Rose (K.faults engine.old.keeper.now) (K.faults engine.new.keeper.now)) result }
@@ -48,7 +53,7 @@ pub(crate) fn filled_lines<K: Keeper, S: Source, W: Sink, C: Clock>(
     ensures lender { engine.new.keeper.ghost_name ≡ engine.old.keeper.ghost_name }
 {
     match fill(alloc, engine, preset, clock) {
-        Ok(()) => serve_lines(alloc, engine, input, output, clock),
+        Ok(()) => serve_lines(alloc, engine, terms, input, output, clock),
         Err(ending) => ending,
     }
 }
@@ -57,16 +62,18 @@ pub(crate) fn filled_lines<K: Keeper, S: Source, W: Sink, C: Clock>(
 pub(crate) fn filled_connections<K: Keeper, D: Door, C: Clock>(
     alloc: Global,
     engine: &mut Engine<'_, K>,
+    terms: &Terms<'_>,
     preset: &Preset,
     door: &mut D,
     clock: &mut C,
     most: u32,
 ) -> Ending
     requires rest { IsAtRest engine.old.held.models engine.old.held }
+    requires policy { IsPolicyOver engine.old.held.models terms.now.policy.now }
     requires preset { IsPreset engine.old.held.models preset.now.rows }
     ensures outcome { (first : Tables) (streams : List (List ℕ)) (moments : ℕ → ℤ) (written : Option (List ℕ)) → D.coming door.old ≡ Some streams → C.coming clock.old ≡ Some moments
         → RestsAt (K.kept engine.old.keeper.now) engine.old.held first
-        → ServesDoor engine.old.held.models preset.now.rows first result most (doorway D.Door door.old) (doorway D.Door door.new)
+        → ServesDoor (over terms.now engine.old.held.models) preset.now.rows first result most (doorway D.Door door.old) (doorway D.Door door.new)
         (record { faults = K.faults engine.old.keeper.now; kept = K.kept engine.old.keeper.now; coming = C.coming clock.old; written = written })
         (record { faults = K.faults engine.new.keeper.now; kept = K.kept engine.new.keeper.now; coming = C.coming clock.new; written = written }) }
     ensures reason { HasReason ⊥ (Rose (D.next_faults door.old) (D.next_faults door.new)) ⊥ (Rose (K.faults engine.old.keeper.now) (K.faults engine.new.keeper.now)) result }
@@ -75,7 +82,7 @@ pub(crate) fn filled_connections<K: Keeper, D: Door, C: Clock>(
     ensures lender { engine.new.keeper.ghost_name ≡ engine.old.keeper.ghost_name }
 {
     match fill(alloc, engine, preset, clock) {
-        Ok(()) => serve_connections(alloc, engine, door, clock, most),
+        Ok(()) => serve_connections(alloc, engine, terms, door, clock, most),
         Err(ending) => ending,
     }
 }

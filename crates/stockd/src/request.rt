@@ -11,8 +11,10 @@ ghost use Rattle.serde_json.specs.View.{view, items_view};
 ghost use Rattle.stockd.specs.Directory.{OfDirectory};
 ghost use Rattle.stockd.specs.MethodCall.{CallIs, IsUnread};
 ghost use Rattle.stockd.specs.Request.{call_of, method_named};
+ghost use Rattle.stockd.specs.Setup.{over};
 
 use crate::callers::caller_of;
+use crate::terms::Terms;
 use ob_base::{ModelNo, RecId};
 use ob_cache::Engine;
 use ob_io::{KeepFault, Keeper};
@@ -75,16 +77,17 @@ pub(crate) enum ElementFault {
     Keeper(KeepFault),
 }
 
-/// The call that elements make: database, user, key, model, method, arguments, and maybe
-/// arguments by name. Or the number of the first that is wrong, or that is missing.
+/// The call that elements make: a database, which must be this one, user, key, model, method,
+/// arguments, and maybe arguments by name. Or the number of the first that is wrong, or missing.
 pub(crate) fn call_of<'a, K: Keeper>(
     engine: &mut Engine<'_, K>,
+    terms: &Terms<'_>,
     layout: Layout,
     elements: &'a [Json],
 ) -> Result<MethodCall<'a>, ElementFault>
     requires rest { IsResting (standpoint K.Keeper engine.old) }
     ensures found { OfDirectory (standpoint K.Keeper engine.old) (λ directory.
-        CallIs result (call_of (models_at (standpoint K.Keeper engine.old)) directory layout (items_view elements.now))) }
+        CallIs result (call_of (over terms.now (models_at (standpoint K.Keeper engine.old))) directory layout (items_view elements.now))) }
     ensures model { IfOk result (λ call. HasModel (models_at (standpoint K.Keeper engine.old)) call.model) }
     ensures asked { OnlyAsked K.Keeper engine.old engine.new }
     ensures causes { IfErr result (IsUnread (IsUnanswered K.Keeper engine.old engine.new)) }
@@ -92,7 +95,7 @@ pub(crate) fn call_of<'a, K: Keeper>(
     let [db, user, key, model, method, args, named @ ..] = elements else {
         return Err(ElementFault::Wrong(elements.len() as u64));
     };
-    if !is_text(db, "stock") {
+    if !is_text(db, terms.database) {
         return Err(ElementFault::Wrong(0));
     }
     let caller = match caller_of(engine, user, key) {

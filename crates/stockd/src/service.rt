@@ -45,15 +45,16 @@ pub(crate) fn is_login(method: &str) -> bool
     method == "login" || method == "authenticate"
 }
 
-/// What these tell of their elements, a database, a login and a key: the id of the user with this
-/// login and key, or false. Or the number of the first that is wrong, or that is missing.
+/// What these tell of their elements, this database, a login and a key: the id of the user with
+/// this login and key, or false. Or the number of the first that is wrong, or that is missing.
 pub(crate) fn login_of<K: Keeper>(
     alloc: Global,
     engine: &mut Engine<'_, K>,
+    database: &str,
     elements: &[Json],
 ) -> Result<Json, ElementFault>
     requires rest { IsResting (standpoint K.Keeper engine.old) }
-    ensures found { OfDirectory (standpoint K.Keeper engine.old) (λ directory. LoginIs result (login_of directory (items_view elements.now))) }
+    ensures found { OfDirectory (standpoint K.Keeper engine.old) (λ directory. LoginIs result (login_of database.now directory (items_view elements.now))) }
     ensures asked { OnlyAsked K.Keeper engine.old engine.new }
     ensures causes { IfErr result (IsUnread (IsUnanswered K.Keeper engine.old engine.new)) }
     ensures plain { IfOk result (λ json. has_float (view json) ≡ false) }
@@ -61,7 +62,7 @@ pub(crate) fn login_of<K: Keeper>(
     let [db, login, key, ..] = elements else {
         return Err(ElementFault::Wrong(elements.len() as u64));
     };
-    if !is_text(db, "stock") {
+    if !is_text(db, database) {
         return Err(ElementFault::Wrong(0));
     }
     let Some(login) = login.as_str() else {

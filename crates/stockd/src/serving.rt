@@ -4,6 +4,7 @@
 //! served and shut may be changed here.
 
 ghost use Rattle.std.specs.Prelude.{◌≡◌, ◌≤◌, ◌<◌, ◌+◌, ℕ, ℤ, List, Option, Some, IfSome, MatchOption};
+ghost use Rattle.ob_access.specs.Policies.{IsPolicyOver};
 ghost use Rattle.ob_cache.specs.Kept.{OthersStay};
 ghost use Rattle.ob_cache.specs.Standing.{IsAtRest, RestsAt};
 ghost use Rattle.ob_io.specs.Cause.{Rose};
@@ -14,9 +15,11 @@ ghost use Rattle.stockd.specs.Machine.{State};
 ghost use Rattle.stockd.specs.Outside.{doorway};
 ghost use Rattle.stockd.specs.Reception.{Reception};
 ghost use Rattle.stockd.specs.ReceptionSteps.{HasStopped, IsReceiving, Post};
+ghost use Rattle.stockd.specs.Setup.{over};
 
 use crate::connection::serve_connection;
 use crate::ending::Ending;
+use crate::terms::Terms;
 use ob_base::{NoMemory, Silent, Steps};
 use ob_cache::Engine;
 use ob_io::{Clock, Door, Failed, Keeper};
@@ -26,16 +29,18 @@ use std::alloc::Global;
 pub(crate) fn serve_connections<K: Keeper, D: Door, C: Clock>(
     alloc: Global,
     engine: &mut Engine<'_, K>,
+    terms: &Terms<'_>,
     door: &mut D,
     clock: &mut C,
     most: u32,
 ) -> Ending
     requires rest { IsAtRest engine.old.held.models engine.old.held }
+    requires policy { IsPolicyOver engine.old.held.models terms.now.policy.now }
     // Over an engine that rests at tables, and objects that tell what they hold, it is a run
     // of the machine over the connections that came.
     ensures reception { (first : Tables) (streams : List (List ℕ)) (moments : ℕ → ℤ) (written : Option (List ℕ)) → D.coming door.old ≡ Some streams → C.coming clock.old ≡ Some moments
         → RestsAt (K.kept engine.old.keeper.now) engine.old.held first
-        → Reception engine.old.held.models first result most moments (doorway D.Door door.old) (doorway D.Door door.new)
+        → Reception (over terms.now engine.old.held.models) first result most moments (doorway D.Door door.old) (doorway D.Door door.new)
         (record { faults = K.faults engine.old.keeper.now; kept = K.kept engine.old.keeper.now; coming = C.coming clock.old; written = written })
         (record { faults = K.faults engine.new.keeper.now; kept = K.kept engine.new.keeper.now; coming = C.coming clock.new; written = written }) }
     ensures reason { HasReason ⊥ (Rose (D.next_faults door.old) (D.next_faults door.new)) ⊥ ⊥ result }
@@ -45,7 +50,7 @@ pub(crate) fn serve_connections<K: Keeper, D: Door, C: Clock>(
     ensures lender { engine.new.keeper.ghost_name ≡ engine.old.keeper.ghost_name }
 {
     for _visit in 0..most {
-        if let Some(ending) = serve_next(alloc, engine, door, clock) {
+        if let Some(ending) = serve_next(alloc, engine, terms, door, clock) {
             return ending;
         }
     }
@@ -56,15 +61,17 @@ pub(crate) fn serve_connections<K: Keeper, D: Door, C: Clock>(
 fn serve_next<K: Keeper, D: Door, C: Clock>(
     alloc: Global,
     engine: &mut Engine<'_, K>,
+    terms: &Terms<'_>,
     door: &mut D,
     clock: &mut C,
 ) -> Option<Ending>
     requires rest { IsAtRest engine.old.held.models engine.old.held }
+    requires policy { IsPolicyOver engine.old.held.models terms.now.policy.now }
     // A reception goes on by one connection, or ends.
     ensures reception { (count limit : ℕ) (first : State) (start : Post) → count < limit
-        → IsReceiving count first start (record { situation = situation K.Keeper C.Clock D.Door engine.old clock.old door.old; doorway = doorway D.Door door.old })
-        → MatchOption result (IsReceiving (count + 1) first start (record { situation = situation K.Keeper C.Clock D.Door engine.new clock.new door.new; doorway = doorway D.Door door.new }))
-        (λ why. HasStopped why limit first start (record { situation = situation K.Keeper C.Clock D.Door engine.new clock.new door.new; doorway = doorway D.Door door.new })) }
+        → IsReceiving terms.now count first start (record { situation = situation K.Keeper C.Clock D.Door engine.old clock.old door.old; doorway = doorway D.Door door.old })
+        → MatchOption result (IsReceiving terms.now (count + 1) first start (record { situation = situation K.Keeper C.Clock D.Door engine.new clock.new door.new; doorway = doorway D.Door door.new }))
+        (λ why. HasStopped terms.now why limit first start (record { situation = situation K.Keeper C.Clock D.Door engine.new clock.new door.new; doorway = doorway D.Door door.new })) }
     ensures reason { IfSome result (HasReason ⊥ (Rose (D.next_faults door.old) (D.next_faults door.new)) ⊥ ⊥) }
     ensures rests { IsAtRest engine.old.held.models engine.new.held }
     ensures keeper_count { K.faults engine.old.keeper.now ≤ K.faults engine.new.keeper.now }
@@ -78,7 +85,7 @@ fn serve_next<K: Keeper, D: Door, C: Clock>(
         Err(Failed) => return Some(Ending::ReadFault),
     }
     let mut steps = Steps::new(Silent);
-    let served = serve_connection(alloc, engine, door, clock, &mut steps);
+    let served = serve_connection(alloc, engine, terms, door, clock, &mut steps);
     door.shut();
     match served {
         Ok(()) => None,

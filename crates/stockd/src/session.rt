@@ -7,6 +7,7 @@
 
 ghost use Rattle.std.specs.Prelude.{◌≡◌, ◌≤◌, ◌<◌, ◌++◌, ◌∷◌, [], ℕ, List, Some, false, IsErr, IfOk, IfErr, IfNone, IfSome, OnOk, OnErr, MatchOption};
 ghost use Rattle.ob_base.specs.Limits.{max_input_bytes};
+ghost use Rattle.ob_access.specs.Policies.{IsPolicyOver};
 ghost use Rattle.ob_cache.specs.Kept.{OthersStay};
 ghost use Rattle.ob_cache.specs.Standing.{IsAtRest, RestsAt};
 ghost use Rattle.ob_io.specs.Cause.{HasCause, Rose};
@@ -16,11 +17,13 @@ ghost use Rattle.stockd.specs.Lines.{is_blank_line, bodies_of};
 ghost use Rattle.stockd.specs.Outside.{engaged, surroundings};
 ghost use Rattle.stockd.specs.Session.{Session, WritesReplies, reply_lines};
 ghost use Rattle.stockd.specs.SessionSteps.{Beginning, Ends, HasRead, HasReadTo, StopsReading, GoesOn, ServesMore, StopsAt};
+ghost use Rattle.stockd.specs.Setup.{over};
 
 use crate::answer::answer;
 use crate::ending::Ending;
 use crate::lines::{LineFault, LineReader, is_blank};
 use crate::output::write_line;
+use crate::terms::Terms;
 use ob_base::{Silent, Steps};
 use ob_cache::Engine;
 use ob_io::{Clock, Failed, Keeper, Sink, Source};
@@ -30,14 +33,16 @@ use std::alloc::Global;
 pub(crate) fn serve_lines<K: Keeper, S: Source, W: Sink, C: Clock>(
     alloc: Global,
     engine: &mut Engine<'_, K>,
+    terms: &Terms<'_>,
     input: &mut S,
     output: &mut W,
     clock: &mut C,
 ) -> Ending
     requires rest { IsAtRest engine.old.held.models engine.old.held }
+    requires policy { IsPolicyOver engine.old.held.models terms.now.policy.now }
     // Over an engine that rests at tables, where its keeper tells its rows, it is a run of the machine.
     ensures session { (first : Tables) → RestsAt (K.kept engine.old.keeper.now) engine.old.held first
-        → Session engine.old.held.models first result (S.left input.old) (S.left input.new)
+        → Session (over terms.now engine.old.held.models) first result (S.left input.old) (S.left input.new)
         (surroundings K.Keeper W.Sink C.Clock engine.old.keeper.now output.old clock.old) (surroundings K.Keeper W.Sink C.Clock engine.new.keeper.now output.new clock.new) }
     ensures kind { IsSessionEnding result }
     ensures read_fault { result ≡ Ending.ReadFault → Rose (S.faults input.old) (S.faults input.new) }
@@ -52,7 +57,7 @@ pub(crate) fn serve_lines<K: Keeper, S: Source, W: Sink, C: Clock>(
         return Ending::NoMemory;
     };
     'lines: loop {
-        if let Some(ending) = serve_next(alloc, engine, input, output, clock, &mut reader) {
+        if let Some(ending) = serve_next(alloc, engine, terms, input, output, clock, &mut reader) {
             return ending;
         }
     }
@@ -62,16 +67,18 @@ pub(crate) fn serve_lines<K: Keeper, S: Source, W: Sink, C: Clock>(
 fn serve_next<K: Keeper, S: Source, W: Sink, C: Clock>(
     alloc: Global,
     engine: &mut Engine<'_, K>,
+    terms: &Terms<'_>,
     input: &mut S,
     output: &mut W,
     clock: &mut C,
     reader: &mut LineReader,
 ) -> Option<Ending>
     requires rest { IsAtRest engine.old.held.models engine.old.held }
+    requires policy { IsPolicyOver engine.old.held.models terms.now.policy.now }
     // A session goes on, or ends.
-    ensures session { (from : Beginning) → GoesOn from reader.old (S.left input.old) (engaged K.Keeper W.Sink C.Clock engine.old output.old clock.old)
-        → MatchOption result (GoesOn from reader.new (S.left input.new) (engaged K.Keeper W.Sink C.Clock engine.new output.new clock.new))
-        (λ why. Ends engine.old.held.models from why (S.left input.new) (surroundings K.Keeper W.Sink C.Clock engine.new.keeper.now output.new clock.new)) }
+    ensures session { (from : Beginning) → GoesOn terms.now from reader.old (S.left input.old) (engaged K.Keeper W.Sink C.Clock engine.old output.old clock.old)
+        → MatchOption result (GoesOn terms.now from reader.new (S.left input.new) (engaged K.Keeper W.Sink C.Clock engine.new output.new clock.new))
+        (λ why. Ends (over terms.now engine.old.held.models) from why (S.left input.new) (surroundings K.Keeper W.Sink C.Clock engine.new.keeper.now output.new clock.new)) }
     ensures rests { IsAtRest engine.old.held.models engine.new.held }
     ensures kind { IfSome result IsSessionEnding }
     ensures moved { IfNone result (reader.old.consumed < reader.new.consumed) }
@@ -88,7 +95,7 @@ fn serve_next<K: Keeper, S: Source, W: Sink, C: Clock>(
         Ok(whole) => whole,
         Err(ending) => return Some(ending),
     };
-    if serve_line(alloc, engine, output, clock, reader.line()).is_err() {
+    if serve_line(alloc, engine, terms, output, clock, reader.line()).is_err() {
         return Some(Ending::WriteFault);
     }
     if whole { None } else { Some(Ending::Done) }
@@ -122,15 +129,17 @@ fn next_line<S: Source>(reader: &mut LineReader, input: &mut S) -> Result<bool, 
 fn serve_line<K: Keeper, W: Sink, C: Clock>(
     alloc: Global,
     engine: &mut Engine<'_, K>,
+    terms: &Terms<'_>,
     output: &mut W,
     clock: &mut C,
     line: &[u8],
 ) -> Result<(), Failed>
     requires rest { IsAtRest engine.old.held.models engine.old.held }
-    ensures ok { OnOk result (ServesMore (bodies_of (line.now ∷ []))
+    requires policy { IsPolicyOver engine.old.held.models terms.now.policy.now }
+    ensures ok { OnOk result (ServesMore terms.now (bodies_of (line.now ∷ []))
         (engaged K.Keeper W.Sink C.Clock engine.old output.old clock.old)
         (engaged K.Keeper W.Sink C.Clock engine.new output.new clock.new)) }
-    ensures err { OnErr result (StopsAt line.now
+    ensures err { OnErr result (StopsAt terms.now line.now
         (engaged K.Keeper W.Sink C.Clock engine.old output.old clock.old)
         (engaged K.Keeper W.Sink C.Clock engine.new output.new clock.new)) }
     ensures body { OnErr result (is_blank_line line.now ≡ false) }
@@ -143,22 +152,24 @@ fn serve_line<K: Keeper, W: Sink, C: Clock>(
     if is_blank(line) {
         return Ok(());
     }
-    serve_body(alloc, engine, output, clock, line)
+    serve_body(alloc, engine, terms, output, clock, line)
 }
 
 /// Answers one body, and writes the reply on a line.
 fn serve_body<K: Keeper, W: Sink, C: Clock>(
     alloc: Global,
     engine: &mut Engine<'_, K>,
+    terms: &Terms<'_>,
     output: &mut W,
     clock: &mut C,
     body: &[u8],
 ) -> Result<(), Failed>
     requires rest { IsAtRest engine.old.held.models engine.old.held }
-    ensures ok { OnOk result (ServesMore (body.now ∷ [])
+    requires policy { IsPolicyOver engine.old.held.models terms.now.policy.now }
+    ensures ok { OnOk result (ServesMore terms.now (body.now ∷ [])
         (engaged K.Keeper W.Sink C.Clock engine.old output.old clock.old)
         (engaged K.Keeper W.Sink C.Clock engine.new output.new clock.new)) }
-    ensures err { OnErr result (StopsAt body.now
+    ensures err { OnErr result (StopsAt terms.now body.now
         (engaged K.Keeper W.Sink C.Clock engine.old output.old clock.old)
         (engaged K.Keeper W.Sink C.Clock engine.new output.new clock.new)) }
     ensures cause { HasCause (W.faults output.old) (W.faults output.new) (IsErr result) }
@@ -168,7 +179,7 @@ fn serve_body<K: Keeper, W: Sink, C: Clock>(
     ensures lender { engine.new.keeper.ghost_name ≡ engine.old.keeper.ghost_name }
 {
     let mut steps = Steps::new(Silent);
-    let reply = answer(alloc, engine, clock, &mut steps, body);
+    let reply = answer(alloc, engine, terms, clock, &mut steps, body);
     write_line(output, reply.as_str())
 }
 

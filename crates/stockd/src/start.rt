@@ -3,23 +3,26 @@
 //! `started` and ends with the status that it answers. Which objects a run is handed may be
 //! changed here; what it does with them is settled in `run`.
 
-ghost use Rattle.std.specs.Prelude.{◌≡◌, [], drop, IfOk, IsErr, IsOkAnd, MatchResult};
+ghost use Rattle.std.specs.Prelude.{◌≡◌, ◌⊎◌, [], drop, IfOk, IsErr, IsOkAnd, MatchResult};
 ghost use Rattle.std.specs.IoError.{error_kind};
 ghost use Rattle.std.specs.Vec.Iter.{into_iter_items};
+ghost use Rattle.ob_words.specs.Words.{IsUsage};
 ghost use Rattle.stockd.specs.declared.ending.Ending.{Ending};
 ghost use Rattle.stockd.specs.Ending.{status_of};
-ghost use Rattle.stockd.specs.Words.{IsUsage};
 
 use crate::ending::Ending;
 use crate::run::run;
-use crate::words::{Store, Usage, address_of, store_of};
 use ob_base::NoMemory;
 use ob_io::{DiskFiles, HostClock, Keeper, StdSink, StdSource, SureKeeper, TcpDoor};
 use ob_sqlite::keeper_at;
+use ob_words::{Store, Usage, address_of, store_of};
 use std::alloc::Global;
 use std::io::{ErrorKind, Input};
 use std::rt::{Clock, Env, Files};
 use std::{env, io};
+
+/// Any port, where no connection comes.
+const NO_PORT: u16 = 0;
 
 /// Runs the program over this runtime and this disk, with the host for the file of a store and for
 /// connections, and answers the status that it ends with. Where memory is wanting before the run, its last line
@@ -50,7 +53,7 @@ fn run_given<R: AllocGlobal + Env + Input + Print + Clock, D: Files + Drop>(
 }
 
 /// Runs over these words, with rows kept where they say: in a file, or else in an empty keeper
-/// in memory, also where they ask for nothing that is served.
+/// in memory, also where they ask for help, the version or nothing that is served.
 fn run_words<R: AllocGlobal + Input + Print + Clock, D: Files + Drop>(
     rt: &R,
     disk: D,
@@ -58,7 +61,7 @@ fn run_words<R: AllocGlobal + Input + Print + Clock, D: Files + Drop>(
     words: &[String],
 ) -> Result<u8, NoMemory>
     ensures status { IfOk result (λ status. (why : Ending) × (status ≡ status_of why)) }
-    ensures other_words { IfOk result (λ status. IsUsage words.now → status ≡ 2) }
+    ensures other_words { IfOk result (λ status. IsUsage words.now → (status ≡ 2) ⊎ (status ≡ 7)) }
     ensures usage { IfOk result (λ status. status ≡ 2 → IsUsage words.now) }
 {
     let alloc = rt.alloc();
@@ -87,15 +90,16 @@ fn run_over<R: AllocGlobal + Input + Print + Clock, D: Files + Drop, K: Keeper>(
     keeper: &mut K,
 ) -> Result<u8, NoMemory>
     ensures status { IfOk result (λ status. (why : Ending) × (status ≡ status_of why)) }
-    // Status 2 is that of words that ask for nothing that is served.
-    ensures other_words { IfOk result (λ status. IsUsage words.now → status ≡ 2) }
+    // Status 2 is that of words that ask for nothing that is served, where memory isn't wanting.
+    ensures other_words { IfOk result (λ status. IsUsage words.now → (status ≡ 2) ⊎ (status ≡ 7)) }
     ensures usage { IfOk result (λ status. status ≡ 2 → IsUsage words.now) }
 {
     let alloc = rt.alloc();
+    let port = port_of(alloc, words)?;
     let mut files = DiskFiles::new(alloc, disk)?;
     let mut input = StdSource::new(rt)?;
     let mut output = StdSink::new(rt)?;
-    let mut door = TcpDoor::new(host, address_of(words).unwrap_or(0));
+    let mut door = TcpDoor::new(host, port);
     let mut clock = HostClock::new(rt)?;
     Ok(run(
         alloc,
@@ -107,6 +111,16 @@ fn run_over<R: AllocGlobal + Input + Print + Clock, D: Files + Drop, K: Keeper>(
         &mut door,
         &mut clock,
     ))
+}
+
+/// The port at which the words have connections come; any, where they ask for nothing that is
+/// served.
+fn port_of(alloc: Global, words: &[String]) -> Result<u16, NoMemory> {
+    match address_of(alloc, words) {
+        Ok(port) => Ok(port),
+        Err(Usage::Words) => Ok(NO_PORT),
+        Err(Usage::NoMemory) => Err(NoMemory),
+    }
 }
 
 /// The words after the program's name, which is the first of what is given. Where one isn't

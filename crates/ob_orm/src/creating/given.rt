@@ -1,5 +1,5 @@
-//! The values that an object gives a row that is made: to its own fields and, through the links to
-//! its parents, to those of their rows. A further kind of field that calls give begins with
+//! The values that an object gives a row that is made or changed: to its own fields and, through the
+//! links to its parents, to those of their rows. A further kind of field that calls give begins with
 //! `is_settable`.
 
 ghost use Rattle.std.specs.Prelude.{◌≡◌, All, IfOk, IfSome, None, false, option_map, ◌++◌, ◌∷◌, []};
@@ -28,7 +28,7 @@ use ob_schema::{FieldInfo, Origin, Schema};
 use serde_json::Map;
 use std::alloc::Global;
 
-/// An object of values, each for a field of a model that calls give where its row is made.
+/// An object of values, each for a field of a model that calls give, its own or a parent's.
 #[derive(Clone, Copy)]
 pub(crate) struct NewValues<'s> {
     pub(crate) schema: &'s Schema,
@@ -79,8 +79,8 @@ fn is_given(schema: &Schema, model: ModelNo, name: &str) -> bool
     }
 }
 
-/// Whether calls give values to a field of a row that is made: it is free, or delegated to a
-/// parent's free field that isn't fixed.
+/// Whether calls give values to a field of a row: it is free, or delegated to a parent's free field
+/// that isn't fixed.
 fn is_settable(schema: &Schema, field: &FieldInfo) -> bool
     ensures { result ≡ spec.is_settable schema.now field.now }
 {

@@ -132,7 +132,7 @@ fn linked(given: &[(FieldNo, Value)], link: FieldNo) -> Option<RecId>
 }
 
 /// The values that are given to fields of a parent, by the parent's numbers.
-fn behind(
+pub(crate) fn behind(
     maker: &Maker<'_>,
     model: ModelNo,
     parent: ParentInfo,

@@ -1,38 +1,37 @@
-//! What a write asks for: which rows, and the values that each of them gets.
+//! What a write asks for: which rows, and the values that each of them is given.
 
 ghost use Rattle.std.specs.Prelude.{◌≡◌, ◌≤◌, ◌∷◌, codes, map, true, All, IfOk, IfSome};
 ghost use Rattle.ob_base.specs.Limits.{max_id};
-ghost use Rattle.ob_base.specs.Times.{IsMoment};
 ghost use Rattle.ob_call.specs.Arguments.{are_apart};
 ghost use Rattle.ob_call.specs.ArgumentsSteps.{expected_of, names_of};
 ghost use Rattle.ob_call.specs.Called.{called_by};
 ghost use Rattle.ob_call.specs.Forms.{fields_at};
 ghost use Rattle.ob_call.specs.Results.{IsResultOf};
+ghost use Rattle.ob_orm.specs.NewRowSteps.{IsTyped};
 ghost use Rattle.ob_orm.specs.Write.{change_of, write_expects};
 ghost use Rattle.ob_orm.specs.WriteSteps.{asked_change, write_fault};
 ghost use Rattle.ob_schema.specs.Models.{HasModel, model_at};
-ghost use Rattle.ob_tables.specs.Fitting.{AreFitIn};
 
-use crate::author::Author;
-use crate::row_values::given_values;
-use crate::values::Values;
+use crate::creating::given::{NewValues, object_values};
+use crate::objects::ObjectSpot;
 use ob_base::{FieldNo, ModelNo, NoMemory, Refusal, Sequence, Value};
 use ob_call::{Below, Call, Form, Ids, Json, Parameter, arguments_of, named_ids};
 use ob_schema::Schema;
 use std::alloc::Global;
 
-/// Rows, each once, and the values that each of them gets, by the numbers of their fields.
+/// Rows, each once, and the values that each of them is given, for its own fields and those of its
+/// parents, by the numbers of the model's fields.
 #[derive(Drop)]
 pub(crate) struct Change {
     pub(crate) ids: Vec<u64>,
-    pub(crate) values: Sequence<(FieldNo, Value)>,
+    pub(crate) given: Sequence<(FieldNo, Value)>,
 }
 
 /// The form of an argument of a write.
 #[derive(Clone, Copy)]
 pub(crate) enum WriteForm<'s> {
     Ids,
-    Values(Values<'s>),
+    Values(NewValues<'s>),
 }
 
 impl Form for WriteForm<'_> {
@@ -55,10 +54,9 @@ pub(crate) fn asked_change(
     call: &Call<'_>,
 ) -> Result<Change, Refusal>
     requires model { HasModel schema.now call.now.model }
-    requires moment { IsMoment call.now.now }
     ensures value { IfSome (model_at schema.now call.entry.now.model)
-        (λ info. IsResultOf asked_change result (change_of (called_by call.entry.now info))) }
-    ensures fit { IfOk result (λ change. AreFitIn schema.now call.entry.now.model change.values) }
+        (λ info. IsResultOf asked_change result (change_of schema.now (called_by call.entry.now info))) }
+    ensures typed { IfOk result (λ change. All (IsTyped schema.now call.entry.now.model) change.given) }
     ensures low { IfOk result (λ change. All (λ id. id ≤ max_id) change.ids.items) }
 {
     let expected = write_parameters(schema, call.model);
@@ -66,21 +64,21 @@ pub(crate) fn asked_change(
     let Some(ids) = &given[0] else {
         unreachable!();
     };
-    let author = Author {
-        user: call.caller,
-        now: call.now,
+    let Some(vals) = &given[1] else {
+        unreachable!();
     };
-    let values = given_values(alloc, schema, call.model, false, author, &given[1])?;
+    let object = ObjectSpot::Argument(vals.spot);
+    let values = object_values(alloc, schema, call.model, object, vals.json)?;
     let Ok(ids) = named_ids(alloc, ids.json) else {
         return Err(Refusal::NoMemory);
     };
-    Ok(Change { ids, values })
+    Ok(Change { ids, given: values })
 }
 
 /// What a write is called with: ids, and an object of values.
 fn write_parameters(schema: &Schema, model: ModelNo) -> [Parameter<WriteForm<'_>>; 2]
     requires { HasModel schema.now model }
-    ensures expects { map (expected_of write_fault) result ≡ write_expects (fields_at schema.now model) }
+    ensures expects { map (expected_of write_fault) result ≡ write_expects schema.now (fields_at schema.now model) }
     ensures apart { are_apart (codes "context" ∷ names_of result) ≡ true }
 {
     [
@@ -92,7 +90,7 @@ fn write_parameters(schema: &Schema, model: ModelNo) -> [Parameter<WriteForm<'_>
         Parameter {
             name: "vals",
             required: true,
-            form: WriteForm::Values(Values { schema, model }),
+            form: WriteForm::Values(NewValues { schema, model }),
         },
     ]
 }

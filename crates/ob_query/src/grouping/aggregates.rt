@@ -1,23 +1,29 @@
 //! What is told of the rows of a group beside their number, as a call names it: an aggregate of
 //! what they hold for a field.
 
-ghost use Rattle.std.specs.Prelude.{◌≡◌, ◌++◌, [], map, option_and_then, option_map, option_to_list, All, IfOk, IfSome, List, None, Some, ℕ};
+ghost use Rattle.std.specs.Prelude.{◌≡◌, ◌++◌, [], map, option_and_then, option_map, option_to_list, All, IfOk, IfSome, List, None, Some, ℕ, true};
 ghost use Rattle.std.specs.List.{filter_map, list_all};
 ghost use Rattle.std.specs.String.{string_bytes};
+ghost use Rattle.std.specs.Option.{option_map_or};
 ghost use Rattle.serde_json.specs.View.{view};
+ghost use Rattle.ob_call.specs.ArgumentsSteps.{given_of};
 ghost use Rattle.ob_call.specs.Forms.{fields_at};
 ghost use Rattle.ob_call.specs.Places.{below_steps};
 ghost use Rattle.ob_query.specs.GroupForms.{aggregates_fault, aggregates_in, amount_named, bracketed, entry_from, entry_of, first_wrong_entry, has_amount, has_integers, is_free, is_name, is_name_byte, named_entry, plain_entry, coloned_entry, taken_keys, told_entry, with_key};
 ghost use Rattle.ob_query.specs.GroupParts.{AreTaken, IsEntryOver, aggregate_view, entry_view, parts_view, text_of, written_view};
+ghost use Rattle.ob_query.specs.Callers.{is_first};
+ghost use Rattle.ob_query.specs.NamedFields.{entry_field, entry_fields};
 ghost use Rattle.ob_schema.specs.Models.{HasField, HasModel};
+ghost use Rattle.ob_schema.specs.Paths.{step_at};
 
 use crate::grouping::amounts::Amount;
 use crate::grouping::groupings::Grouping;
 use crate::grouping::parted::parted;
 use crate::grouping::written::{Written, count_key};
+use crate::naming::{Naming, step_at};
 use ob_base::{FieldNo, ModelNo, NoMemory};
-use ob_call::{Below, Json};
-use ob_schema::{FieldInfo, FieldType, Origin, Schema};
+use ob_call::{Below, Given, Json};
+use ob_schema::{FieldInfo, FieldType, Origin, Schema, Step};
 use std::alloc::Global;
 use std::collections::BTreeSet;
 
@@ -332,4 +338,69 @@ fn has_integers(field: &FieldInfo) -> bool
     ensures { result ≡ has_integers field.now }
 {
     matches!(field.field_type, FieldType::Integer) && !matches!(field.origin, Origin::Id)
+}
+
+/// What entries name: the field of each, also of one that is passed over.
+pub(crate) fn entries_naming(
+    alloc: Global,
+    schema: &Schema,
+    model: ModelNo,
+    given: &Option<Given<'_>>,
+) -> Result<Naming, NoMemory>
+    requires { HasModel schema.now model }
+    ensures positioned { IfOk result (λ naming. naming.positioned ≡ is_first (option_map given_of given.now)) }
+    ensures fields { IfOk result (λ naming. naming.fields.items ≡ map (step_at model) (option_map_or (λ g. entry_fields (fields_at schema.now model) g.json) (option_map given_of given.now) [])) }
+{
+    let fields = match given {
+        Some(given) => entry_steps(alloc, schema, model, given.json)?,
+        None => Vec::new(alloc),
+    };
+    Ok(Naming::of(given, fields))
+}
+
+/// The fields that the entries of a list name.
+fn entry_steps(
+    alloc: Global,
+    schema: &Schema,
+    model: ModelNo,
+    json: &Json,
+) -> Result<Vec<Step>, NoMemory>
+    requires { HasModel schema.now model }
+    ensures { IfOk result (λ fields. fields.items ≡ map (step_at model) (entry_fields (fields_at schema.now model) (view json.now))) }
+{
+    match json {
+        Json::Array(items) => steps_of(alloc, schema, model, items.as_slice()),
+        _ => Ok(Vec::new(alloc)),
+    }
+}
+
+/// The fields that items name.
+fn steps_of(
+    alloc: Global,
+    schema: &Schema,
+    model: ModelNo,
+    items: &[Json],
+) -> Result<Vec<Step>, NoMemory>
+    requires { HasModel schema.now model }
+    ensures { IfOk result (λ fields. fields.items ≡ map (step_at model) (filter_map (entry_field (fields_at schema.now model)) (map view items.now))) }
+{
+    let mut fields = Vec::new(alloc);
+    for item in items {
+        if let Some(field) = entry_field(schema, model, item) {
+            fields.push(step_at(model, field))?;
+        }
+    }
+    Ok(fields)
+}
+
+/// The field that an entry names; one that is passed over is a field's name.
+fn entry_field(schema: &Schema, model: ModelNo, json: &Json) -> Option<FieldNo>
+    requires { HasModel schema.now model }
+    ensures { result ≡ entry_field (fields_at schema.now model) (view json.now) }
+{
+    let text = json.as_str()?;
+    match entry_of(schema, model, text)? {
+        Entry::Told(aggregate) => Some(aggregate.field),
+        Entry::PassedOver => schema.field(model, text),
+    }
 }

@@ -3,6 +3,7 @@
 ghost use Rattle.std.specs.Prelude.{◌≡◌, [], map, option_and_then, option_map, All, IfOk, IfSome, None, unwrap_or};
 ghost use Rattle.std.specs.Option.{option_map_or};
 ghost use Rattle.serde_json.specs.View.{view};
+ghost use Rattle.ob_access.specs.Policies.{IsPolicyOver};
 ghost use Rattle.ob_call.specs.ArgumentsSteps.{given_of};
 ghost use Rattle.ob_call.specs.Called.{called_by};
 ghost use Rattle.ob_call.specs.Forms.{fields_at};
@@ -11,6 +12,7 @@ ghost use Rattle.ob_query.specs.GroupParts.{IsAskedOver, IsWrittenOver, aggregat
 ghost use Rattle.ob_query.specs.SearchForms.{domain_fault};
 ghost use Rattle.ob_schema.specs.Models.{HasField, HasModel, model_at};
 
+use crate::caller::Caller;
 use crate::grouping::aggregates::{Aggregate, aggregates_in};
 use crate::grouping::groupings::Grouping;
 use crate::grouping::terms::{GroupTerm, group_terms};
@@ -25,7 +27,7 @@ use std::alloc::Global;
 /// from which group on and how many at most (0 is no limit).
 #[derive(Drop)]
 pub(crate) struct AskedGroups<'j> {
-    pub(crate) sought: Sought,
+    pub(crate) sought: Sought<'j>,
     pub(crate) written: Written<'j>,
     pub(crate) count_key: String,
     pub(crate) aggregates: Vec<Aggregate<'j>>,
@@ -59,15 +61,19 @@ pub(crate) struct GroupsArguments<'j> {
 pub(crate) fn groups_by<'j>(
     alloc: Global,
     schema: &Schema,
+    by: Caller<'j>,
     call: &Call<'_>,
     arguments: GroupsArguments<'j>,
 ) -> Result<AskedGroups<'j>, NoMemory>
+    requires policy { IsPolicyOver schema.now by.policy.now }
     requires model { HasModel schema.now call.now.model }
     requires judged { IfSome arguments.domain (λ given. domain_fault schema.now call.now.model (view given.json.now) ≡ None) }
     ensures asked { IfOk result (λ asked. IfSome (model_at schema.now call.entry.now.model) (λ info. let c = called_by call.entry.now info in asked_view asked
         ≡ asked_in schema.now c (written_in info.fields (json_of (option_map given_of arguments.entry.groupby)) (json_of (option_map given_of arguments.entry.lazy))) (option_map given_of arguments.entry.domain)
         (option_map given_of arguments.entry.fields) (option_map given_of arguments.entry.offset) (option_map given_of arguments.entry.limit) (option_map given_of arguments.entry.order))) }
-    ensures user { IfOk result (λ asked. asked.sought.user ≡ call.entry.now.caller) }
+    ensures written { IfOk result (λ asked. written_view asked.written
+        ≡ written_in (fields_at schema.now call.entry.now.model) (json_of (option_map given_of arguments.entry.groupby)) (json_of (option_map given_of arguments.entry.lazy))) }
+    ensures by { IfOk result (λ asked. asked.sought.by ≡ by.entry) }
     ensures model { IfOk result (λ asked. asked.sought.model ≡ call.entry.now.model) }
     ensures over { IfOk result (IsAskedOver schema.now) }
 {
@@ -77,7 +83,7 @@ pub(crate) fn groups_by<'j>(
         limit: None,
         order: None,
     };
-    let sought = sought_by(alloc, schema, call, rows)?;
+    let sought = sought_by(alloc, schema, by, call, rows)?;
     let written = written_given(alloc, schema, call.model, arguments)?;
     let aggregates = aggregates_given(alloc, schema, call.model, arguments.fields)?;
     let terms = terms_given(alloc, used(&written), arguments.order)?;

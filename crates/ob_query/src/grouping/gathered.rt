@@ -1,7 +1,8 @@
-//! Rows gathered by their groups: of each row that is found the engine is asked once what it holds
+//! Rows gathered by their groups: of each row that is found it is asked once what the caller sees of it
 //! for the groupings, by which it goes to its group, and for the aggregates.
 
 ghost use Rattle.std.specs.Prelude.{◌≡◌, ◌++◌, ◌∷◌, [], if◌then◌else◌, ◌||◌, List, is_some, map, true, All, IfErr, IfOk, None};
+ghost use Rattle.ob_access.specs.Policies.{IsPolicyOver};
 ghost use Rattle.ob_cache.specs.Calls.{HasTables, models_at, standpoint};
 ghost use Rattle.ob_cache.specs.declared.stages.Phase.TheVariants as phase;
 ghost use Rattle.ob_codec.specs.Held.{HasText};
@@ -9,13 +10,14 @@ ghost use Rattle.ob_query.specs.GroupParts.{AreGathered, AreSome, IsAskedOver, a
 ghost use Rattle.ob_query.specs.GroupPeriods.{group_value};
 ghost use Rattle.ob_query.specs.Groups.{keys_of};
 ghost use Rattle.ob_query.specs.Search.{held_of};
-ghost use Rattle.ob_query.specs.SearchParts.{found_ahead, found_by};
-ghost use Rattle.ob_query.specs.SearchQuestions.{IsUnanswered, OnlyAsked, TellsOf};
+ghost use Rattle.ob_query.specs.SearchParts.{found_ahead, found_by, told_to};
+ghost use Rattle.ob_query.specs.SearchQuestions.{IsUnanswered, OnlyAsked, TellsTo};
 ghost use Rattle.ob_query.specs.declared.searching.order.Key.{Key};
-ghost use Rattle.ob_schema.specs.Facts.{OfAllTold, told_by};
+ghost use Rattle.ob_schema.specs.Facts.{OfAllTold};
 ghost use Rattle.ob_schema.specs.Models.{HasField};
 ghost use Rattle.ob_schema.specs.Tables.{Tables};
 
+use crate::caller::Caller;
 use crate::grouping::aggregates::Aggregate;
 use crate::grouping::amounts::value_at;
 use crate::grouping::asked::AskedGroups;
@@ -44,7 +46,7 @@ pub(crate) fn gathered<K: Keeper>(
     requires over { IsAskedOver (models_at (standpoint K.Keeper engine.old)) asked.now }
     requires rest { (standpoint K.Keeper engine.old).held.phase ≡ phase.Settled }
     ensures told { IfOk result (λ groups. (tables : Tables) → HasTables (standpoint K.Keeper engine.old) tables
-        → AreGathered (held_of (told_by (models_at (standpoint K.Keeper engine.old)) tables) asked.now.sought.model) (asked_view asked.now)
+        → AreGathered (held_of (told_to (models_at (standpoint K.Keeper engine.old)) tables asked.now.sought) asked.now.sought.model) (asked_view asked.now)
         (found_by (models_at (standpoint K.Keeper engine.old)) tables asked.now.sought) groups) }
     ensures some { IfOk result AreSome }
     ensures asked { OnlyAsked K.Keeper engine.old engine.new }
@@ -66,7 +68,7 @@ fn gathered_from<K: Keeper>(
     requires over { IsAskedOver (models_at (standpoint K.Keeper engine.old)) asked.now }
     requires rest { (standpoint K.Keeper engine.old).held.phase ≡ phase.Settled }
     ensures told { IfOk result (λ groups. (tables : Tables) → HasTables (standpoint K.Keeper engine.old) tables
-        → AreGathered (held_of (told_by (models_at (standpoint K.Keeper engine.old)) tables) asked.now.sought.model) (asked_view asked.now)
+        → AreGathered (held_of (told_to (models_at (standpoint K.Keeper engine.old)) tables asked.now.sought) asked.now.sought.model) (asked_view asked.now)
         (found_ahead (models_at (standpoint K.Keeper engine.old)) tables asked.now.sought walk.old) groups) }
     ensures some { IfOk result AreSome }
     ensures asked { OnlyAsked K.Keeper engine.old engine.new }
@@ -78,6 +80,7 @@ fn gathered_from<K: Keeper>(
         let row = row_values(
             alloc,
             engine,
+            &asked.sought.by,
             asked.sought.model,
             asked.aggregates.as_slice(),
             id,
@@ -95,14 +98,21 @@ fn keys_of_row<K: Keeper>(
     id: RecId,
 ) -> Result<Vec<Key>, KeepFault>
     requires over { IsAskedOver (models_at (standpoint K.Keeper engine.old)) asked.now }
-    requires known { OfAllTold (TellsOf K.Keeper engine.old) (λ told. told.knows asked.now.sought.model id ≡ true) }
-    ensures told { IfOk result (λ keys. OfAllTold (TellsOf K.Keeper engine.old)
+    requires known { OfAllTold (TellsTo K.Keeper asked.now.sought.by engine.old) (λ told. told.knows asked.now.sought.model id ≡ true) }
+    ensures told { IfOk result (λ keys. OfAllTold (TellsTo K.Keeper asked.now.sought.by engine.old)
         (λ told. keys.items ≡ sort_keys_of (held_of told asked.now.sought.model) (asked_view asked.now) id)) }
     ensures texts { IfOk result (λ keys. All (λ key. HasText key.value) keys.items) }
     ensures asked { OnlyAsked K.Keeper engine.old engine.new }
     ensures causes { IfErr result (IsUnanswered K.Keeper engine.old engine.new) }
 {
-    let values = group_values(alloc, engine, asked.sought.model, asked.groupings(), id)?;
+    let values = group_values(
+        alloc,
+        engine,
+        &asked.sought.by,
+        asked.sought.model,
+        asked.groupings(),
+        id,
+    )?;
     Ok(sort_keys(alloc, asked.terms.as_slice(), values.as_slice())?)
 }
 
@@ -110,13 +120,15 @@ fn keys_of_row<K: Keeper>(
 fn group_values<K: Keeper>(
     alloc: Global,
     engine: &mut Engine<'_, K>,
+    by: &Caller<'_>,
     model: ModelNo,
     groupings: &[Grouping<'_>],
     id: RecId,
 ) -> Result<Vec<Value>, KeepFault>
+    requires policy { IsPolicyOver (models_at (standpoint K.Keeper engine.old)) by.now.policy.now }
     requires fields { All (λ g. HasField (models_at (standpoint K.Keeper engine.old)) model g.field) groupings.now }
-    requires known { OfAllTold (TellsOf K.Keeper engine.old) (λ told. told.knows model id ≡ true) }
-    ensures told { IfOk result (λ values. OfAllTold (TellsOf K.Keeper engine.old)
+    requires known { OfAllTold (TellsTo K.Keeper by.now engine.old) (λ told. told.knows model id ≡ true) }
+    ensures told { IfOk result (λ values. OfAllTold (TellsTo K.Keeper by.now engine.old)
         (λ told. values.items ≡ keys_of (held_of told model) (map grouping_view groupings.now) id)) }
     ensures texts { IfOk result (λ values. All HasText values.items) }
     ensures asked { OnlyAsked K.Keeper engine.old engine.new }
@@ -124,7 +136,7 @@ fn group_values<K: Keeper>(
 {
     let mut values = Vec::new(alloc);
     for grouping in groupings {
-        let value = value_in(engine, model, field_of(grouping), id)?;
+        let value = value_in(alloc, engine, by, model, field_of(grouping), id)?;
         values
             .push(grouped(grouping, value))
             .map_err(|_| KeepFault::NoMemory)?;
@@ -152,20 +164,22 @@ fn grouped(grouping: &Grouping<'_>, value: Value) -> Value
 fn row_values<K: Keeper>(
     alloc: Global,
     engine: &mut Engine<'_, K>,
+    by: &Caller<'_>,
     model: ModelNo,
     aggregates: &[Aggregate<'_>],
     id: RecId,
 ) -> Result<Vec<Value>, KeepFault>
+    requires policy { IsPolicyOver (models_at (standpoint K.Keeper engine.old)) by.now.policy.now }
     requires fields { All (λ a. HasField (models_at (standpoint K.Keeper engine.old)) model a.field) aggregates.now }
-    requires known { OfAllTold (TellsOf K.Keeper engine.old) (λ told. told.knows model id ≡ true) }
-    ensures told { IfOk result (λ values. OfAllTold (TellsOf K.Keeper engine.old)
+    requires known { OfAllTold (TellsTo K.Keeper by.now engine.old) (λ told. told.knows model id ≡ true) }
+    ensures told { IfOk result (λ values. OfAllTold (TellsTo K.Keeper by.now engine.old)
         (λ told. values.items ≡ row_of (held_of told model) (map aggregate_view aggregates.now) id)) }
     ensures asked { OnlyAsked K.Keeper engine.old engine.new }
     ensures causes { IfErr result (IsUnanswered K.Keeper engine.old engine.new) }
 {
     let mut values = Vec::new(alloc);
     for aggregate in aggregates {
-        let value = value_in(engine, model, told_field(aggregate), id)?;
+        let value = value_in(alloc, engine, by, model, told_field(aggregate), id)?;
         values.push(value).map_err(|_| KeepFault::NoMemory)?;
     }
     Ok(values)

@@ -1,21 +1,27 @@
 //! The groupings of a call, as they are written: a field, and of days and moments the period
 //! behind a colon. By which fields rows can be grouped stands in `specs/GroupForms`.
 
-ghost use Rattle.std.specs.Prelude.{◌≡◌, ◌++◌, [], map, option_map, option_to_list, All, IfOk, IfSome, None, Some};
+ghost use Rattle.std.specs.Prelude.{◌≡◌, ◌++◌, [], map, option_map, option_to_list, All, IfOk, IfSome, None, Some, true};
 ghost use Rattle.std.specs.List.{filter_map};
+ghost use Rattle.std.specs.Option.{option_map_or};
 ghost use Rattle.serde_json.specs.View.{view};
+ghost use Rattle.ob_call.specs.ArgumentsSteps.{given_of};
 ghost use Rattle.ob_call.specs.Arguments.{is_among};
 ghost use Rattle.ob_call.specs.Forms.{fields_at};
 ghost use Rattle.ob_call.specs.Places.{below_steps};
 ghost use Rattle.ob_query.specs.GroupForms.{can_group, first_wrong_grouping, grouping_from, grouping_of, grouping_by, groupings_fault, groupings_in, has_periods, is_groupable, period_of, text_fault};
 ghost use Rattle.ob_query.specs.GroupParts.{grouping_view, text_of};
 ghost use Rattle.ob_query.specs.GroupPeriods.{period_named};
+ghost use Rattle.ob_query.specs.Callers.{is_first};
 ghost use Rattle.ob_schema.specs.Models.{HasField, HasModel};
+ghost use Rattle.ob_schema.specs.Paths.{step_at};
 
 use crate::grouping::parted::parted;
 use crate::grouping::period::{Period, period_named};
+use crate::grouping::written::Written;
+use crate::naming::{Naming, step_at};
 use ob_base::{FieldNo, ModelNo, NoMemory};
-use ob_call::{Below, Json};
+use ob_call::{Below, Given, Json};
 use ob_schema::{FieldInfo, FieldType, Origin, Schema};
 use std::alloc::Global;
 
@@ -240,4 +246,21 @@ fn is_groupable(field_type: FieldType) -> bool
     ensures { result ≡ is_groupable field_type }
 {
     !field_type.is_list() && !matches!(field_type, FieldType::Text)
+}
+
+/// What groupings name, also such as aren't used.
+pub(crate) fn groupings_naming(
+    alloc: Global,
+    model: ModelNo,
+    given: &Option<Given<'_>>,
+    written: &Written<'_>,
+) -> Result<Naming, NoMemory>
+    ensures positioned { IfOk result (λ naming. naming.positioned ≡ is_first (option_map given_of given.now)) }
+    ensures fields { IfOk result (λ naming. naming.fields.items ≡ map (λ g. step_at model g.field) written.now.groupings.items) }
+{
+    let mut fields = Vec::new(alloc);
+    for grouping in written.groupings.as_slice() {
+        fields.push(step_at(model, grouping.field))?;
+    }
+    Ok(Naming::of(given, fields))
 }

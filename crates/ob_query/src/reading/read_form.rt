@@ -5,7 +5,7 @@ ghost use Rattle.ob_schema.specs.Models.{HasModel};
 ghost use Rattle.ob_call.specs.Arguments.{are_apart};
 ghost use Rattle.ob_call.specs.ArgumentsSteps.{expected_of, names_of};
 ghost use Rattle.ob_call.specs.Forms.{fields_at};
-ghost use Rattle.ob_query.specs.Read.{read_expects};
+ghost use Rattle.ob_query.specs.ReadArguments.{read_expects};
 ghost use Rattle.ob_query.specs.ReadForm.{read_fault};
 
 use ob_base::{ModelNo, NoMemory};

@@ -1,4 +1,4 @@
-//! The rows that a search finds: as many as are answered, and no more of them, where their order
+//! The rows that a search finds, of those that the caller sees: as many as are answered, and no more of them, where their order
 //! is that of their ids; else all, with what they are ordered by, which is read once of each.
 
 ghost use Rattle.std.specs.Prelude.{◌≡◌, ◌≢◌, ◌^◌, ◌-◌, ◌<◌, true, drop, length, map, IfErr, IfOk, IfSome, OnOk};
@@ -8,7 +8,7 @@ ghost use Rattle.ob_query.specs.Search.{held_of, is_shown};
 ghost use Rattle.ob_query.specs.SearchKeys.{key_of};
 ghost use Rattle.ob_query.specs.SearchOrder.{limited};
 ghost use Rattle.ob_query.specs.SearchParts.{AreFound, AreRanked, IsSoughtOver, found_ahead, found_by, is_known_found, sought_view};
-ghost use Rattle.ob_query.specs.SearchQuestions.{IsTaken, IsUnanswered, OnlyAsked, TellsOf, distance};
+ghost use Rattle.ob_query.specs.SearchQuestions.{IsTaken, IsUnanswered, OnlyAsked, TellsTo, distance};
 ghost use Rattle.ob_schema.specs.Facts.{OfAllTold};
 ghost use Rattle.ob_schema.specs.Tables.{Tables};
 
@@ -26,7 +26,7 @@ use std::alloc::Global;
 pub(crate) fn sought_ids<K: Keeper>(
     alloc: Global,
     engine: &mut Engine<'_, K>,
-    sought: &Sought,
+    sought: &Sought<'_>,
 ) -> Result<Vec<RecId>, KeepFault>
     requires over { IsSoughtOver (models_at (standpoint K.Keeper engine.old)) sought.now }
     requires rest { (standpoint K.Keeper engine.old).held.phase ≡ phase.Settled }
@@ -50,7 +50,7 @@ pub(crate) fn sought_ids<K: Keeper>(
 fn skip_found<K: Keeper>(
     alloc: Global,
     engine: &mut Engine<'_, K>,
-    sought: &Sought,
+    sought: &Sought<'_>,
     walk: &mut Walk,
 ) -> Result<(), KeepFault>
     requires over { IsSoughtOver (models_at (standpoint K.Keeper engine.old)) sought.now }
@@ -73,7 +73,7 @@ fn skip_found<K: Keeper>(
 fn first_found<K: Keeper>(
     alloc: Global,
     engine: &mut Engine<'_, K>,
-    sought: &Sought,
+    sought: &Sought<'_>,
     walk: &mut Walk,
 ) -> Result<Vec<RecId>, KeepFault>
     requires over { IsSoughtOver (models_at (standpoint K.Keeper engine.old)) sought.now }
@@ -97,7 +97,7 @@ fn first_found<K: Keeper>(
 pub(crate) fn count_found<K: Keeper>(
     alloc: Global,
     engine: &mut Engine<'_, K>,
-    sought: &Sought,
+    sought: &Sought<'_>,
 ) -> Result<u64, KeepFault>
     requires over { IsSoughtOver (models_at (standpoint K.Keeper engine.old)) sought.now }
     requires rest { (standpoint K.Keeper engine.old).held.phase ≡ phase.Settled }
@@ -130,7 +130,7 @@ fn most_of(limit: u64) -> u64
 fn ranked_found<K: Keeper>(
     alloc: Global,
     engine: &mut Engine<'_, K>,
-    sought: &Sought,
+    sought: &Sought<'_>,
     walk: &mut Walk,
 ) -> Result<Vec<Ranked>, KeepFault>
     requires over { IsSoughtOver (models_at (standpoint K.Keeper engine.old)) sought.now }
@@ -153,19 +153,19 @@ fn ranked_found<K: Keeper>(
 fn keys_of<K: Keeper>(
     alloc: Global,
     engine: &mut Engine<'_, K>,
-    sought: &Sought,
+    sought: &Sought<'_>,
     id: RecId,
 ) -> Result<Vec<Key>, KeepFault>
     requires over { IsSoughtOver (models_at (standpoint K.Keeper engine.old)) sought.now }
-    requires known { OfAllTold (TellsOf K.Keeper engine.old) (λ told. told.knows sought.now.model id ≡ true) }
-    ensures told { IfOk result (λ keys. OfAllTold (TellsOf K.Keeper engine.old)
+    requires known { OfAllTold (TellsTo K.Keeper sought.now.by engine.old) (λ told. told.knows sought.now.model id ≡ true) }
+    ensures told { IfOk result (λ keys. OfAllTold (TellsTo K.Keeper sought.now.by engine.old)
         (λ told. keys.items ≡ map (key_of (held_of told sought.now.model) id) sought.now.order)) }
     ensures asked { OnlyAsked K.Keeper engine.old engine.new }
     ensures causes { IfErr result (IsUnanswered K.Keeper engine.old engine.new) }
 {
     let mut keys = Vec::new(alloc);
     for term in sought.order.as_slice() {
-        let value = value_in(engine, sought.model, term.field, id)?;
+        let value = value_in(alloc, engine, &sought.by, sought.model, term.field, id)?;
         let descending = term.descending;
         keys.push(Key { descending, value })
             .map_err(|_| KeepFault::NoMemory)?;
@@ -177,14 +177,14 @@ fn keys_of<K: Keeper>(
 pub(crate) fn next_found<K: Keeper>(
     alloc: Global,
     engine: &mut Engine<'_, K>,
-    sought: &Sought,
+    sought: &Sought<'_>,
     walk: &mut Walk,
 ) -> Result<Option<RecId>, KeepFault>
     requires over { IsSoughtOver (models_at (standpoint K.Keeper engine.old)) sought.now }
     requires rest { (standpoint K.Keeper engine.old).held.phase ≡ phase.Settled }
     ensures told { IfOk result (λ next. (tables : Tables) → HasTables (standpoint K.Keeper engine.old) tables
         → IsTaken next (found_ahead (models_at (standpoint K.Keeper engine.old)) tables sought.now walk.old) (found_ahead (models_at (standpoint K.Keeper engine.old)) tables sought.now walk.new)) }
-    ensures known { IfOk result (λ next. IfSome next (λ id. OfAllTold (TellsOf K.Keeper engine.new) (λ told. told.knows sought.now.model id ≡ true))) }
+    ensures known { IfOk result (λ next. IfSome next (λ id. OfAllTold (TellsTo K.Keeper sought.now.by engine.new) (λ told. told.knows sought.now.model id ≡ true))) }
     ensures nearer { IfOk result (λ next. IfSome next (λ _. distance walk.new < distance walk.old)) }
     ensures asked { OnlyAsked K.Keeper engine.old engine.new }
     ensures causes { IfErr result (IsUnanswered K.Keeper engine.old engine.new) }
@@ -199,23 +199,23 @@ pub(crate) fn next_found<K: Keeper>(
     }
 }
 
-/// Whether a row is found: it is there, is active where that is asked for, and meets the domain.
+/// Whether a row is found: the caller sees it, it is active where that is asked for, and meets the domain.
 fn is_found<K: Keeper>(
     alloc: Global,
     engine: &mut Engine<'_, K>,
-    sought: &Sought,
+    sought: &Sought<'_>,
     id: RecId,
 ) -> Result<bool, KeepFault>
     requires over { IsSoughtOver (models_at (standpoint K.Keeper engine.old)) sought.now }
-    ensures told { IfOk result (λ b. OfAllTold (TellsOf K.Keeper engine.old)
+    ensures told { IfOk result (λ b. OfAllTold (TellsTo K.Keeper sought.now.by engine.old)
         (λ told. b ≡ is_known_found told sought.now id)) }
     ensures asked { OnlyAsked K.Keeper engine.old engine.new }
     ensures causes { IfErr result (IsUnanswered K.Keeper engine.old engine.new) }
 {
-    if !is_known(engine, sought.model, id)? {
+    if !is_known(alloc, engine, &sought.by, sought.model, id)? {
         return Ok(false);
     }
-    if !is_shown(engine, sought, id)? {
+    if !is_shown(alloc, engine, sought, id)? {
         return Ok(false);
     }
     meets(alloc, engine, sought, id)
@@ -223,19 +223,20 @@ fn is_found<K: Keeper>(
 
 /// Whether the field that is asked for is true in a row that is there, if one is.
 fn is_shown<K: Keeper>(
+    alloc: Global,
     engine: &mut Engine<'_, K>,
-    sought: &Sought,
+    sought: &Sought<'_>,
     id: RecId,
 ) -> Result<bool, KeepFault>
     requires over { IsSoughtOver (models_at (standpoint K.Keeper engine.old)) sought.now }
-    requires known { OfAllTold (TellsOf K.Keeper engine.old) (λ told. told.knows sought.now.model id ≡ true) }
-    ensures told { IfOk result (λ b. OfAllTold (TellsOf K.Keeper engine.old) (λ told. b ≡ is_shown told sought.now.model (sought_view sought.now) id)) }
+    requires known { OfAllTold (TellsTo K.Keeper sought.now.by engine.old) (λ told. told.knows sought.now.model id ≡ true) }
+    ensures told { IfOk result (λ b. OfAllTold (TellsTo K.Keeper sought.now.by engine.old) (λ told. b ≡ is_shown told sought.now.model (sought_view sought.now) id)) }
     ensures asked { OnlyAsked K.Keeper engine.old engine.new }
     ensures causes { IfErr result (IsUnanswered K.Keeper engine.old engine.new) }
 {
     match sought.active {
         Some(field) => Ok(matches!(
-            value_in(engine, sought.model, field, id)?,
+            value_in(alloc, engine, &sought.by, sought.model, field, id)?,
             Value::Bool(true)
         )),
         None => Ok(true),

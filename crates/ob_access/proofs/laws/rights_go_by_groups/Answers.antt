@@ -4,6 +4,8 @@ use Rattle.std.specs.Prelude.{filter, find, option_map}
 use Rattle.std.specs.List.{list_all, list_any}
 use Rattle.std.specs.Option.{option_map_or, option_or}
 use Rattle.ob_base.specs.declared.id.RecId.{RecId}
+use Rattle.ob_base.specs.declared.refusal.Op.TheVariants as op
+use Rattle.ob_expr.specs.Meaning.{row_at}
 use Rattle.ob_access.specs.Admission.{is_global, is_met, rules_for, some_met}
 use Rattle.ob_access.specs.Groups.{is_superuser}
 use Rattle.ob_access.specs.Policies.{RuleData}
@@ -34,3 +36,8 @@ returns-clause-denier c = λ policy told a b same user op row.
     ap (λ (has : RecId → Bool). option_map (λ (rule : RuleData). rule.name) (cond (is_superuser user || passed (is_met told user row) has (rules_for policy row.model op)) None
     (option_or (find (λ rule. is_global rule && not (is_met told user row rule)) (rules_for policy row.model op)) (find (λ rule. option_map_or (list_any has) rule.groups false) (rules_for policy row.model op)))))
     (has-same a b same)
+
+pub returns-clause-sees : goal.returns-clause-sees
+returns-clause-sees c = λ policy told a b same user model id.
+    ap (λ (has : RecId → Bool). told.knows model id && (is_superuser user || list_any (λ (line : AccessLine). option_map_or has line.group true) (lines_for policy model op.Read))
+    && (is_superuser user || passed (is_met told user (row_at model id)) has (rules_for policy model op.Read))) (has-same a b same)

@@ -1,9 +1,10 @@
 use Rattle.std.proofs.Common.{List, Ok, Err, subst, true}
+use Rattle.std.specs.Prelude.{All}
 use Rattle.std.proofs.lemmas.Result.{err_from_is_err_and}
 use Rattle.ob_cache.specs.Calls.{standpoint}
 use Rattle.ob_schema.specs.declared.info.ModelInfo.{ModelInfo}
 use Rattle.ob_orm.proofs.WriteAnswer.{GivesChange, change_answer, change_cause, stopped_answer, stopped_cause, view-Bool, written_answer}
-use Rattle.ob_tables.specs.Fitting.{AreFitIn}
+use Rattle.ob_orm.specs.NewRowSteps.{IsTyped}
 use Rattle.ob_orm.proofs.writing.change_rows.Goals as goal
 
 pub returns-in_err-change-clause-causes : goal.returns-in_err-change-clause-causes
@@ -37,5 +38,5 @@ returns-clause-answer g c =
     let gives = subst (λ (ms : List ModelInfo). GivesChange ms c.args.call.now (Ok c.in_ok-change.change)) c.schema-schema.ensures c.in_ok-change.ensures.value in
     written_answer (standpoint g.K.Keeper c.args.engine.now) (standpoint g.K.Keeper c.carry_out.new.engine) c.args.call.now c.in_ok-change.change gives _ (view-Bool true) c.carry_out.ensures.rests c.in_ok-carry_out.ensures.settled
 
-pub carry_out-requires-clause-fit : goal.carry_out-requires-clause-fit
-carry_out-requires-clause-fit g c = subst (λ (ms : List ModelInfo). AreFitIn ms c.args.call.now.model c.in_ok-change.change.values) c.schema-schema.ensures c.in_ok-change.ensures.fit
+pub carry_out-requires-clause-typed : goal.carry_out-requires-clause-typed
+carry_out-requires-clause-typed g c = subst (λ (ms : List ModelInfo). All (IsTyped ms c.args.call.now.model) c.in_ok-change.change.given) c.schema-schema.ensures c.in_ok-change.ensures.typed

@@ -1,5 +1,5 @@
 use Rattle.std.proofs.Common.{◌≡◌, ◌++◌, take}
-use Rattle.ob_orm.specs.Write.{row_edits}
+use Rattle.ob_orm.specs.NewRows.{row_edits}
 use Rattle.ob_orm.proofs.writing.push_row_edits.Given as goal
 
 abbrev pub invariant-loop-given : goal.invariant-loop-given

@@ -1,16 +1,29 @@
-use Rattle.std.proofs.Common.{codes, true, false, Option, Vec, Global}
-use Rattle.std.proofs.lemmas.Result.{err_from_is_err_and}
+use Rattle.std.proofs.Common.{◌≡◌, codes, true, false, map, Option, None, Vec, Global, ap, subst, sym, ◌∙◌}
+use Rattle.std.specs.Prelude.{IfSome}
+use Rattle.std.proofs.lemmas.Option.{IfSome_then}
+use Rattle.std.proofs.lemmas.Result.{IfOk-weaker, err_from_is_err_and}
 use Rattle.serde_json.specs.View.{view}
+use Rattle.ob_base.specs.declared.id.ModelNo.{ModelNo}
 use Rattle.ob_call.specs.Arguments.{Expected}
 use Rattle.ob_call.specs.ArgumentsSteps.{all_given_of}
 use Rattle.ob_call.specs.Called.{called_by}
 use Rattle.ob_call.specs.Forms.{fields_at}
 use Rattle.ob_call.specs.declared.arguments.Given.{Given}
-use Rattle.ob_query.proofs.GroupsAsked.{seven_are, seven_first, seven_given, taken_groups}
-use Rattle.ob_query.proofs.SearchAnswers.{denied_in}
-use Rattle.ob_query.specs.GroupForms.{aggregates_fault, group_order_fault, groupings_fault, groups_by, groups_expects, truth_fault, used, written_of}
+use Rattle.ob_query.proofs.Granted.{allowed_in, denied_by}
+use Rattle.ob_query.proofs.GroupsAnswers.{StandsForGroups}
+use Rattle.ob_query.proofs.GroupsAsked.{groups_pairs, named_groups, seven_are, seven_first, seven_given, taken_groups}
+use Rattle.ob_query.specs.Callers.{IsAllowed, in_turn}
+use Rattle.ob_query.specs.GroupForms as forms
+use Rattle.ob_query.specs.GroupForms.{aggregates_fault, group_order_fault, groupings_fault, groups_by, groups_expects, groups_of, truth_fault, used, written_of}
 use Rattle.ob_query.specs.GroupParts.{asked_view}
+use Rattle.ob_query.specs.NamedFields.{groups_named}
 use Rattle.ob_query.specs.SearchForms.{count_fault, domain_expected, limit_expected}
+use Rattle.ob_query.specs.SearchParts.{sought_view}
+use Rattle.ob_query.specs.declared.caller.Caller.{Caller}
+use Rattle.ob_query.specs.declared.grouping.asked.AskedGroups.{AskedGroups}
+use Rattle.ob_query.specs.declared.grouping.groupings.Grouping.{Grouping}
+use Rattle.ob_schema.specs.Models.{model_at}
+use Rattle.ob_schema.specs.Paths.{step_at}
 use Rattle.ob_query.proofs.grouping.asked_groups.Goals as goal
 
 pub groups_by-requires-clause-judged : goal.groups_by-requires-clause-judged
@@ -35,13 +48,15 @@ returns-in_err-given-clause-asked c =
     let models = c.args.schema.now in
     let call = c.args.call.now in
     let told = rw c.groups_parameters-expected.ensures.expects at c.in_err-given.ensures.told in
-    rw (p.1, p.2) (denied_in models call.model (λ (given : Vec (Option Given) Global). all_given_of given.items) (λ info. asked_view) (λ infos. groups_expects models call.model infos (written_of infos (view call.args.now) (view call.kw.now)))
-    (λ info gs. groups_by models (called_by call info) gs) (view call.args.now) (view call.kw.now) c.in_err-given.field-0.0 told)
+    rw (p.1, p.2) (denied_by c.args.by models call.model (λ (given : Vec (Option Given) Global). all_given_of given.items) (λ info. StandsForGroups)
+    (λ infos. groups_expects models call.model infos (written_of infos (view call.args.now) (view call.kw.now))) (λ info gs. groups_by models (called_by call info) gs) (λ info. groups_named models (called_by call info))
+    (view call.args.now) (view call.kw.now) c.in_err-given.field-0.0 told)
 
 pub returns-in-Ok-clause-asked : goal.returns-in-Ok-clause-asked
 returns-in-Ok-clause-asked c =
     let models = c.args.schema.now in
     let call = c.args.call.now in
+    let by = c.args.by in
     let fields = fields_at models call.model in
     let written = written_of fields (view call.args.now) (view call.kw.now) in
     let items = c.in_ok-given.given.items in
@@ -62,5 +77,15 @@ returns-in-Ok-clause-asked c =
     let five = c.index-5.result.now in
     let six = c.index-6.result.now in
     let last = c.index-7.result.now in
+    let old = c.in-Ok.asked in
     let are = seven_are first items seven one two three four five six last c.index.ensures c.index-2.ensures c.index-3.ensures c.index-4.ensures c.index-5.ensures c.index-6.ensures c.index-7.ensures in
-    taken_groups models call items one two three four five six last (asked_view c.in-Ok.asked) are told c.in-Ok.ensures.asked
+    let meant = taken_groups models call items one two three four five six last (asked_view old) are told c.in-Ok.ensures.asked in
+    let rows = IfSome_then (model_at models call.model) c.in-Ok.ensures.asked (λ info is. ap (λ (a : forms.AskedGroups). a.sought) is) in
+    let named = named_groups models call items one two three four five six last (sought_view old.sought) old.written are told rows c.in-Ok.ensures.written in
+    let pairs = λ (m : ModelNo). in_turn (groups_pairs (fields_at models m) m one two three (sought_view old.sought) (map (λ (g : Grouping). step_at m g.field) old.written.groupings.items)) in
+    let Told = λ (told : AskedGroups). told ≡ old in
+    let At = λ (b : Caller) (m : ModelNo). IsAllowed b m (pairs m) Told c.allowed_groups.result in
+    let own : At old.sought.by old.sought.model = c.allowed_groups.ensures in
+    let allowed = subst (At by) c.in-Ok.ensures.model (subst (λ (b : Caller). At b old.sought.model) c.in-Ok.ensures.by own) in
+    allowed_in by call.model (model_at models call.model) (λ info. StandsForGroups) (λ info. groups_of models (called_by call info)) (λ info. groups_named models (called_by call info)) (pairs call.model) Told (λ info. asked_view old)
+    c.allowed_groups.result meant named (λ info told own. sym (ap asked_view own)) allowed

@@ -10,6 +10,6 @@ pub returns-clause-call : goal.returns-clause-call
 returns-clause-call g c =
     let call = c.args.call.now in
     let before = standpoint g.K.Keeper c.args.engine.now in
-    IsAsked-found (model_at (models_at before) call.model) (λ info. Reads (models_at before) (called_by call info)) (λ info. ReadCause (called_by call info)) before
-    (standpoint g.K.Keeper c.asked_objects.new.engine) (result_view c.asked_objects.result) c.asked_objects.ensures.answer (IfErr-result_view _ c.asked_objects.result c.asked_objects.ensures.causes)
-    c.asked_objects.ensures.same c.asked_objects.ensures.count
+    let models = models_at before in
+    IsAsked-found (model_at models call.model) (λ info. Reads models c.args.policy.now (called_by call info)) (λ info. ReadCause c.args.policy.now (called_by call info)) before (standpoint g.K.Keeper c.objects_read.new.engine)
+    (result_view c.objects_read.result) c.objects_read.ensures.answer (IfErr-result_view _ c.objects_read.result c.objects_read.ensures.causes) c.objects_read.ensures.asked.same c.objects_read.ensures.asked.count

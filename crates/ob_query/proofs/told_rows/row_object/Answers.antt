@@ -1,47 +1,35 @@
-use Rattle.std.proofs.Common.{◌≡◌, ◌≤◌, Ok, Some, length, arith, rules}
-use Rattle.serde_json.specs.View.{members_view}
-use Rattle.serde_json.proofs.Views.{view-Object}
-use Rattle.ob_cache.proofs.CallerLemmas.{stays-then}
-use Rattle.ob_query.proofs.ReadObjects.{IsToldTo-more, IsToldTo-all}
+use Rattle.std.proofs.Common.{◌≡◌, List, true, sym, subst, ◌∙◌}
+use Rattle.std.specs.Prelude.{IfSome}
+use Rattle.std.proofs.lemmas.Option.{IfSome_then}
+use Rattle.serde_json.specs.View.{view}
+use Rattle.ob_call.specs.Columns.{columns_at}
+use Rattle.ob_query.proofs.Asked.{asked_then}
+use Rattle.ob_query.proofs.Callers.{told_back, told_on}
+use Rattle.ob_query.specs.Read.{TellsRow}
+use Rattle.ob_query.specs.SearchQuestions.{TellsTo}
+use Rattle.ob_schema.specs.Facts.{OfAllTold, Told}
+use Rattle.ob_schema.specs.Models.{model_at}
+use Rattle.ob_schema.specs.declared.info.ModelInfo.{ModelInfo}
 use Rattle.ob_query.proofs.told_rows.row_object.Goals as goal
 
-pub returns-in_err-json-clause-same : goal.returns-in_err-json-clause-same
-returns-in_err-json-clause-same g c =
-    let kept = g.K.Keeper.kept in
-    stays-then (kept c.args.engine.now.keeper.now) (kept c.loop-field.engine.keeper.now) (kept c.cell_json.new.engine.keeper.now) c.args.engine.now.held c.loop-field.engine.held c.cell_json.new.engine.held
-    c.loop-field.invariant.0.same c.cell_json.ensures.same
+pub known_object-requires-clause-known : goal.known_object-requires-clause-known
+known_object-requires-clause-known g c =
+    told_on g.K.Keeper c.args.by.now c.args.engine.now c.is_known.new.engine (λ (told : Told). told.knows c.args.model c.args.id ≡ true) c.is_known.ensures.asked
+    (λ told tells. sym (c.in-Ok-true.ensures.told told tells) ∙ c.in-Ok-true.field-0-test)
 
-pub returns-in_default-clause-same : goal.returns-in_default-clause-same
-returns-in_default-clause-same g c =
-    let kept = g.K.Keeper.kept in
-    stays-then (kept c.args.engine.now.keeper.now) (kept c.loop-field.engine.keeper.now) (kept c.cell_json.new.engine.keeper.now) c.args.engine.now.held c.loop-field.engine.held c.cell_json.new.engine.held
-    c.loop-field.invariant.0.same c.cell_json.ensures.same
+pub returns-in_err-known_object-in-Ok-true-clause-asked : goal.returns-in_err-known_object-in-Ok-true-clause-asked
+returns-in_err-known_object-in-Ok-true-clause-asked g c = asked_then g.K.Keeper c.args.engine.now c.is_known.new.engine c.known_object.new.engine c.is_known.ensures.asked c.known_object.ensures.asked
 
-pub returns-in_err-put-2-clause-same : goal.returns-in_err-put-2-clause-same
-returns-in_err-put-2-clause-same g c =
-    let kept = g.K.Keeper.kept in
-    stays-then (kept c.args.engine.now.keeper.now) (kept c.loop-field.engine.keeper.now) (kept c.cell_json.new.engine.keeper.now) c.args.engine.now.held c.loop-field.engine.held c.cell_json.new.engine.held
-    c.loop-field.invariant.0.same c.cell_json.ensures.same
+pub returns-in_ok-known_object-in-Ok-true-clause-asked : goal.returns-in_ok-known_object-in-Ok-true-clause-asked
+returns-in_ok-known_object-in-Ok-true-clause-asked g c = asked_then g.K.Keeper c.args.engine.now c.is_known.new.engine c.known_object.new.engine c.is_known.ensures.asked c.known_object.ensures.asked
 
-pub loop-field-preserved : goal.loop-field-preserved
-loop-field-preserved g c =
-    let kept = g.K.Keeper.kept in
-    let mid = c.loop-field.engine in let next = c.cell_json.new.engine in
-    let made : c.cell_json.result ≡ Ok (Some c.in-Some.json) = grind arith in
-    let cell = rw made at c.cell_json.ensures.told in
-    let plain = rw made at c.cell_json.ensures.plain in
-    let number = c.cell_json.new.field in (
-      IsToldTo-more (kept c.args.engine.now.keeper.now) c.args.engine.now.held (kept mid.keeper.now) mid.held (kept next.keeper.now) next.held c.args.model c.args.fields.now c.args.id c.loop-field.field-index
-          (members_view c.loop-field.members.entries) (members_view c.put-in-loop-field.new.members.entries) c.in-Some.json _ c.info.result.now c.loop-field-test.true (search rules) (search rules) c.cell_json.ensures.same
-          cell plain (search rules) c.loop-field.invariant.0,
-      search rules,
-      search rules,
-    )
-
-pub returns-clause-told : goal.returns-clause-told
-returns-clause-told g c =
-    let kept = g.K.Keeper.kept in
-    let mid = c.loop-field.engine in
-    let all : length c.args.fields.now ≤ c.loop-field.field-index = omega arith in
-    IsToldTo-all (kept c.args.engine.now.keeper.now) c.args.engine.now.held (kept mid.keeper.now) mid.held c.args.model c.args.fields.now c.args.id c.loop-field.field-index
-    (members_view c.loop-field.members.entries) _ all (view-Object c.loop-field.members) c.loop-field.invariant.0
+pub returns-in_ok-known_object-in-Ok-true-clause-told : goal.returns-in_ok-known_object-in-Ok-true-clause-told
+returns-in_ok-known_object-in-Ok-true-clause-told g c = λ told tells.
+    let old = c.args.engine.now in
+    let mid = c.is_known.new.engine in
+    let by = c.args.by.now in
+    let Tells = λ (models : List ModelInfo) (told : Told). IfSome (model_at models c.args.model) (λ info. TellsRow told c.args.model (columns_at info c.args.fields.now) c.args.id (view c.in_ok-known_object-in-Ok-true.field-0)) in
+    let rows = subst (λ (models : List ModelInfo). OfAllTold (TellsTo g.K.Keeper by mid) (Tells models)) c.is_known.ensures.asked.same.models c.in_ok-known_object-in-Ok-true.ensures.told in
+    let here = told_back g.K.Keeper by old mid (Tells old.held.models) c.is_known.ensures.asked rows in
+    let known = sym (c.in-Ok-true.ensures.told told tells) ∙ c.in-Ok-true.field-0-test in
+    IfSome_then (model_at old.held.models c.args.model) (here told tells) (λ info row. (known, row))

@@ -10,7 +10,7 @@ use Rattle.stockd.proofs.connection.serve_items.Given as goal
 abbrev pub invariant-loop-item : goal.invariant-loop-item
 invariant-loop-item g l = record {
   exchange : (first : State) (stream : List ℕ) → HasState (situation g.K.Keeper g.C.Clock g.D.Door l.fn.engine l.fn.clock l.fn.door) first → g.D.Door.left l.fn.door ≡ Some stream
-      → HasAnswered l._item first stream (situation g.K.Keeper g.C.Clock g.D.Door l.fn.engine l.fn.clock l.fn.door) l.held (situation g.K.Keeper g.C.Clock g.D.Door l.engine l.clock l.door);
+      → HasAnswered l.terms l._item first stream (situation g.K.Keeper g.C.Clock g.D.Door l.fn.engine l.fn.clock l.fn.door) l.held (situation g.K.Keeper g.C.Clock g.D.Door l.engine l.clock l.door);
   rests : IsAtRest l.fn.engine.held.models l.engine.held;
   door_count : g.D.Door.faults l.fn.door ≤ g.D.Door.faults l.door;
   keeper_count : g.K.Keeper.faults l.fn.engine.keeper.now ≤ g.K.Keeper.faults l.engine.keeper.now;

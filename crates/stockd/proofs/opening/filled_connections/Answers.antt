@@ -3,6 +3,7 @@ use Rattle.std.proofs.Common.{List, inr, refl, subst}
 use Rattle.ob_schema.specs.declared.info.ModelInfo.{ModelInfo}
 use Rattle.stockd.specs.Outside.{Surroundings, doorway}
 use Rattle.stockd.specs.Reception.{Reception}
+use Rattle.stockd.specs.Setup.{over}
 use Rattle.stockd.proofs.OpeningServed.{opened_at, still_coming}
 use Rattle.stockd.proofs.opening.filled_connections.Goals as goal
 
@@ -27,6 +28,6 @@ returns-in-Ok-clause-outcome g c = λ first streams moments written coming given
       rest.0,
       opened_at c.args.engine.now.held.models c.args.preset.now.rows first filled.0 c.fill.new.engine.held before mid same filled.1 filled.2 refl c.in-Ok.ensures.others c.in-Ok.ensures.count,
       rest.1,
-      subst (λ (models : List ModelInfo). Reception models filled.0 c.serve_connections.result c.args.most rest.0 door door_now mid now) same
+      subst (λ (models : List ModelInfo). Reception (over c.args.terms.now models) filled.0 c.serve_connections.result c.args.most rest.0 door door_now mid now) same
           (c.serve_connections.ensures.reception filled.0 streams rest.0 written coming rest.1 filled.2),
     )

@@ -3,6 +3,7 @@ use Rattle.std.proofs.Common.{List, inr, refl, subst}
 use Rattle.ob_schema.specs.declared.info.ModelInfo.{ModelInfo}
 use Rattle.stockd.specs.Outside.{surroundings}
 use Rattle.stockd.specs.Session.{Session}
+use Rattle.stockd.specs.Setup.{over}
 use Rattle.stockd.proofs.OpeningServed.{opened_at}
 use Rattle.stockd.proofs.opening.filled_lines.Goals as goal
 
@@ -19,5 +20,5 @@ returns-in-Ok-clause-outcome g c = λ first rests.
       filled.0,
       mid,
       opened_at c.args.engine.now.held.models c.args.preset.now.rows first filled.0 c.fill.new.engine.held before mid same filled.1 filled.2 refl c.in-Ok.ensures.others c.in-Ok.ensures.count,
-      subst (λ (models : List ModelInfo). Session models filled.0 c.serve_lines.result left left_now mid now) same (c.serve_lines.ensures.session filled.0 filled.2),
+      subst (λ (models : List ModelInfo). Session (over c.args.terms.now models) filled.0 c.serve_lines.result left left_now mid now) same (c.serve_lines.ensures.session filled.0 filled.2),
     )

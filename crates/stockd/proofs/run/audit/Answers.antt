@@ -1,12 +1,13 @@
 -- The modules were loaded, and what of the report was written follows.
 use Rattle.std.proofs.Common.{inl, inr, refl}
+use Rattle.stockd.specs.Setup.{setup_of}
 use Rattle.stockd.proofs.run.audit.Goals as goal
 
 pub returns-in-Ok-clause-outcome : goal.returns-in-Ok-clause-outcome
 returns-in-Ok-clause-outcome g c = λ store left door coming source_faults kept.
     let (written, tells, now) = c.audited.ensures.told store kept in
     inr (record {
-      models = c.in-Ok.loaded.schema;
+      setup = setup_of c.args.command.now c.in-Ok.loaded;
       preset = c.in-Ok.loaded.preset.rows;
       loaded = c.in-Ok.ensures.ok;
       written = written;

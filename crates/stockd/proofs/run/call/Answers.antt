@@ -1,14 +1,15 @@
 -- The modules were loaded, and what the opening did follows.
 use Rattle.std.proofs.Common.{inl, inr, refl}
+use Rattle.stockd.specs.Setup.{setup_of}
 use Rattle.stockd.proofs.OpeningServed.{ends_opened}
 use Rattle.stockd.proofs.run.call.Goals as goal
 
 pub returns-in-Ok-clause-outcome : goal.returns-in-Ok-clause-outcome
 returns-in-Ok-clause-outcome g c = λ store door kept.
-    ends_opened _ _ store _ _ _ _ _ _ c.in-Ok.loaded.schema c.in-Ok.loaded.preset.rows c.in-Ok.ensures.ok (λ rose. rose) (c.opened.ensures.outcome store kept) c.opened.ensures.reason
+    ends_opened _ _ store _ _ _ _ _ _ (setup_of c.args.command.now c.in-Ok.loaded) c.in-Ok.loaded.preset.rows c.in-Ok.ensures.ok (λ rose. rose) (c.opened.ensures.outcome store kept) c.opened.ensures.reason
 
 pub returns-in-Ok-clause-others : goal.returns-in-Ok-clause-others
-returns-in-Ok-clause-others g c = inr (c.in-Ok.loaded.schema, c.in-Ok.loaded.preset.rows, c.in-Ok.ensures.ok, c.opened.ensures.others)
+returns-in-Ok-clause-others g c = inr (setup_of c.args.command.now c.in-Ok.loaded, c.in-Ok.loaded.preset.rows, c.in-Ok.ensures.ok, c.opened.ensures.others)
 
 pub returns-in-Err-clause-outcome : goal.returns-in-Err-clause-outcome
 returns-in-Err-clause-outcome g c = λ store door kept.

@@ -1,6 +1,6 @@
 -- What the action does is what is done.
 use Rattle.std.proofs.Common.{ap, inl}
-use Rattle.stockd.specs.WordPieces.{action_view}
+use Rattle.ob_words.specs.Views.{action_view}
 use Rattle.stockd.proofs.ReceptionOpened.{of_door, of_source, served}
 use Rattle.stockd.proofs.ReportWritten.{reason_weaker}
 use Rattle.stockd.proofs.WholeCall.{called, audited}

@@ -1,5 +1,5 @@
 -- What was loaded, or the first fault, of texts that the files tell, where they do.
-use Rattle.std.proofs.Common.{rules}
+use Rattle.std.proofs.Common.{refl, rules}
 use Rattle.stockd.proofs.WholeCall.{loading_stops, some_texts}
 use Rattle.stockd.proofs.run.loaded.Goals as goal
 
@@ -7,7 +7,7 @@ pub returns-in-Ok-clause-ok : goal.returns-in-Ok-clause-ok
 returns-in-Ok-clause-ok g c =
     let names = c.as_slice.ensures in
     let loaded = rw names at c.in-Ok.ensures.loaded in
-    (loaded.0, loaded.1, c.in-Ok.loaded.policy, loaded.2)
+    record { texts = loaded.0; agrees = loaded.1; loaded = loaded.2; database = refl }
 
 pub returns-in-Err-File-clause-told : goal.returns-in-Err-File-clause-told
 returns-in-Err-File-clause-told g c = let texts = some_texts (g.F.Files.texts c.args.files.now) in (texts.0, texts.1, search rules)

@@ -37,7 +37,7 @@ returns-in-Some-clause-reception g c first streams moments written told given re
     let said = c.in-Some.ensures in
     let others = others_on _ _ _ _ so_far.other_rows (others_over so_far.rests.models_are said.other_rows) in
     let stopped = said.reception c.loop-visit._visit c.args.most _ _ c.loop-visit-test.true (so_far.reception _ streams told (record { tables = rests; moments = given; faults = refl })) in
-    ends_serving first c.in-Some.ending c.args.most moments _ _ written others stopped
+    ends_serving c.args.terms.now first c.in-Some.ending c.args.most moments _ _ written others stopped
 
 pub returns-in-Some-clause-reason : goal.returns-in-Some-clause-reason
 returns-in-Some-clause-reason g c =
@@ -62,4 +62,4 @@ pub returns-clause-reception : goal.returns-clause-reception
 returns-clause-reception g c first streams moments written told given rests =
     let so_far = c.loop-visit.invariant in
     let stopped = ends_at_limit (so_far.reception _ streams told (record { tables = rests; moments = given; faults = refl })) c.args.most (omega arith) in
-    ends_serving first _ c.args.most moments _ _ written so_far.other_rows stopped
+    ends_serving c.args.terms.now first _ c.args.most moments _ _ written so_far.other_rows stopped

@@ -11,7 +11,7 @@ use Rattle.stockd.proofs.serving.serve_connections.Given as goal
 abbrev pub invariant-loop-visit : goal.invariant-loop-visit
 invariant-loop-visit g l = record {
   reception : (first : State) (streams : List (List ℕ)) → g.D.Door.coming l.fn.door ≡ Some streams → HasState (situation g.K.Keeper g.C.Clock g.D.Door l.fn.engine l.fn.clock l.fn.door) first
-      → IsReceiving l._visit first
+      → IsReceiving l.terms l._visit first
       (record { situation = situation g.K.Keeper g.C.Clock g.D.Door l.fn.engine l.fn.clock l.fn.door; doorway = doorway g.D.Door l.fn.door })
       (record { situation = situation g.K.Keeper g.C.Clock g.D.Door l.engine l.clock l.door; doorway = doorway g.D.Door l.door });
   rests : IsAtRest l.fn.engine.held.models l.engine.held;

@@ -4,7 +4,7 @@ use Rattle.stockd.proofs.Others.{others_same, others_on}
 use Rattle.stockd.proofs.session.serve_lines.Goals as goal
 
 pub returns-in_default-clause-session : goal.returns-in_default-clause-session
-returns-in_default-clause-session g c first rests = ends_at_once (record { left = _; now = _; first = first }) _ rests
+returns-in_default-clause-session g c first rests = ends_at_once c.args.terms.now (record { left = _; now = _; first = first }) _ rests
 
 pub lines-init : goal.lines-init
 lines-init g c = record {
@@ -23,7 +23,7 @@ returns-in_default-clause-others g c = others_same _ _ _ refl
 -- the session went on to here, and ends
 pub returns-in-Some-clause-session : goal.returns-in-Some-clause-session
 returns-in-Some-clause-session g c first rests =
-    over_same c.lines.invariant.rests.models_are (c.in-Some.ensures.session _ (c.lines.invariant.session first rests))
+    over_same c.args.terms.now c.lines.invariant.rests.models_are (c.in-Some.ensures.session _ (c.lines.invariant.session first rests))
 
 -- the session went on to here, and goes on
 pub lines-preserved : goal.lines-preserved

@@ -10,7 +10,7 @@ use Rattle.stockd.proofs.session.serve_lines.Given as goal
 abbrev pub invariant-lines : goal.invariant-lines
 invariant-lines g l = record {
   session : (first : Tables) → RestsAt (g.K.Keeper.kept l.fn.engine.keeper.now) l.fn.engine.held first
-      → GoesOn (record { left = g.S.Source.left l.fn.input; now = surroundings g.K.Keeper g.W.Sink g.C.Clock l.fn.engine.keeper.now l.fn.output l.fn.clock; first = first })
+      → GoesOn l.terms (record { left = g.S.Source.left l.fn.input; now = surroundings g.K.Keeper g.W.Sink g.C.Clock l.fn.engine.keeper.now l.fn.output l.fn.clock; first = first })
       l.reader (g.S.Source.left l.input) (engaged g.K.Keeper g.W.Sink g.C.Clock l.engine l.output l.clock);
   rests : IsAtRest l.fn.engine.held.models l.engine.held;
   input_count : g.S.Source.faults l.fn.input ≤ g.S.Source.faults l.input;

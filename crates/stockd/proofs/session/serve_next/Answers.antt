@@ -23,7 +23,7 @@ returns-then-is_err-clause-session g c from h =
     let said = c.serve_line.ensures in
     let stops = rw c.line.ensures at (err_holds c.serve_line.result failed said.err) in
     let body = rw c.line.ensures at (err_holds c.serve_line.result failed said.body) in
-    over_same said.rests.models_are (ends_writing h c.in-Ok.whole c.next_line.new.reader c.next_line.new.reader.line _ c.in-Ok.ensures.line body stops)
+    over_same c.args.terms.now said.rests.models_are (ends_writing h c.in-Ok.whole c.next_line.new.reader c.next_line.new.reader.line _ c.in-Ok.ensures.line body stops)
 
 pub returns-then-whole-clause-session : goal.returns-then-whole-clause-session
 returns-then-whole-clause-session g c from h =
@@ -35,4 +35,4 @@ pub returns-else-whole-clause-session : goal.returns-else-whole-clause-session
 returns-else-whole-clause-session g c from h =
     let read = rw c.if-whole.false at c.in-Ok.ensures.line in
     let serves = rw c.line.ensures at (ok_holds c.serve_line.result (sym c.if-is_err.ensures.value) c.serve_line.ensures.ok) in
-    over_same c.serve_line.ensures.rests.models_are (ends_at_end h c.next_line.new.reader.line _ read serves)
+    over_same c.args.terms.now c.serve_line.ensures.rests.models_are (ends_at_end h c.next_line.new.reader.line _ read serves)

@@ -1,5 +1,5 @@
 use Rattle.std.proofs.Common.{sym}
-use Rattle.ob_orm.specs.Write.{row_edits}
+use Rattle.ob_orm.specs.NewRows.{row_edits}
 use Rattle.ob_orm.proofs.ParentFields.{linked-low, sets-fit, sets-pushed}
 use Rattle.ob_orm.proofs.making.parents.push_change.Goals as goal
 

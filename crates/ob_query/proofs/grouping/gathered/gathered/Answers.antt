@@ -1,3 +1,4 @@
+use Rattle.ob_query.specs.SearchParts.{told_to}
 -- A new walk comes to all rows that are found.
 use Rattle.std.proofs.Common.{List, subst}
 use Rattle.std.proofs.lemmas.Result.{IfOk-weaker}
@@ -6,7 +7,6 @@ use Rattle.ob_query.proofs.Asked.{sound_at}
 use Rattle.ob_query.proofs.FoundRows.{begins_found}
 use Rattle.ob_query.specs.GroupParts.{AreGathered, asked_view}
 use Rattle.ob_query.specs.Search.{held_of}
-use Rattle.ob_schema.specs.Facts.{told_by}
 use Rattle.ob_query.proofs.grouping.gathered.gathered.Goals as goal
 
 pub returns-clause-told : goal.returns-clause-told
@@ -17,5 +17,5 @@ returns-clause-told g c =
     IfOk-weaker c.gathered_from.result _ _
     (λ groups are tables rests.
     let begins = begins_found old.held.models registry tables (sound_at g.K.Keeper old tables rests) asked.sought c.requires.over.sought.model c.new-walk.result c.new-walk.ensures.page c.new-walk.ensures.last in
-    subst (λ (ids : List RecId). AreGathered (held_of (told_by old.held.models tables) asked.sought.model) (asked_view asked) ids groups) begins (are tables rests))
+    subst (λ (ids : List RecId). AreGathered (held_of (told_to old.held.models tables asked.sought) asked.sought.model) (asked_view asked) ids groups) begins (are tables rests))
     c.gathered_from.ensures.told

@@ -1,22 +1,23 @@
 use Rattle.std.proofs.Common.{◌≡◌, ◌∷◌, List, Option, None, Some, map, subst, true}
 use Rattle.std.specs.Prelude.{IfSome}
 use Rattle.ob_base.specs.declared.id.RecId.{RecId}
-use Rattle.ob_query.proofs.Asked.{asked_then, rests_on, tells_tables, told_back, told_on}
+use Rattle.ob_query.proofs.Asked.{asked_then, rests_on}
+use Rattle.ob_query.proofs.Callers.{tells_tables_to, told_back, told_on}
 use Rattle.ob_query.proofs.GatheredRows.{gathered-all, gathered-more, some-more}
 use Rattle.ob_query.specs.GroupParts.{aggregate_view, asked_view, row_of, sort_keys_of}
 use Rattle.ob_query.specs.declared.grouping.aggregates.Aggregate.{Aggregate}
 use Rattle.ob_query.specs.Search.{held_of}
-use Rattle.ob_query.specs.SearchParts.{found_ahead}
-use Rattle.ob_query.specs.SearchQuestions.{IsTaken, TellsOf}
-use Rattle.ob_schema.specs.Facts.{OfAllTold, Told, told_by}
+use Rattle.ob_query.specs.SearchParts.{found_ahead, told_to}
+use Rattle.ob_query.specs.SearchQuestions.{IsTaken, TellsTo}
+use Rattle.ob_schema.specs.Facts.{OfAllTold, Told}
 use Rattle.ob_schema.specs.declared.info.ModelInfo.{ModelInfo}
 use Rattle.ob_query.proofs.grouping.gathered.gathered_from.Goals as goal
 
 pub row_values-requires-clause-known : goal.row_values-requires-clause-known
 row_values-requires-clause-known g c =
     let model = c.args.asked.now.sought.model in
-    told_on g.K.Keeper c.next_found.new.engine c.keys_of_row.new.engine (λ (told : Told). told.knows model c.in-Some.id ≡ true) c.keys_of_row.ensures.asked
-    (subst (λ (next : Option RecId). IfSome next (λ id. OfAllTold (TellsOf g.K.Keeper c.next_found.new.engine) (λ told. told.knows model id ≡ true))) c.in-Some.is c.in_ok-id.ensures.known)
+    told_on g.K.Keeper c.args.asked.now.sought.by c.next_found.new.engine c.keys_of_row.new.engine (λ (told : Told). told.knows model c.in-Some.id ≡ true) c.keys_of_row.ensures.asked
+    (subst (λ (next : Option RecId). IfSome next (λ id. OfAllTold (TellsTo g.K.Keeper c.args.asked.now.sought.by c.next_found.new.engine) (λ told. told.knows model id ≡ true))) c.in-Some.is c.in_ok-id.ensures.known)
 
 pub returns-in_err-id-clause-asked : goal.returns-in_err-id-clause-asked
 returns-in_err-id-clause-asked g c = asked_then g.K.Keeper c.args.engine.now c.loop-groups.engine c.next_found.new.engine c.loop-groups.invariant.asked c.next_found.ensures.asked
@@ -47,7 +48,7 @@ returns-clause-told g c = λ tables rests.
     let same = c.loop-groups.invariant.asked.same.models in
     let taken = subst (λ (models : List ModelInfo). IsTaken None (found_ahead models tables asked.sought c.loop-groups.walk) (found_ahead models tables asked.sought c.next_found.new.walk)) same
     ((rw c.in_default.is at c.in_ok-id.ensures.told) tables (rests_on g.K.Keeper old c.loop-groups.engine tables c.loop-groups.invariant.asked rests)) in
-    gathered-all (held_of (told_by old.held.models tables) asked.sought.model) (asked_view asked) (found_ahead old.held.models tables asked.sought c.args.walk.now) (found_ahead old.held.models tables asked.sought c.loop-groups.walk) c.loop-groups.groups
+    gathered-all (held_of (told_to old.held.models tables asked.sought) asked.sought.model) (asked_view asked) (found_ahead old.held.models tables asked.sought c.args.walk.now) (found_ahead old.held.models tables asked.sought c.loop-groups.walk) c.loop-groups.groups
     taken.0 (c.loop-groups.invariant.told tables rests)
 
 pub loop-groups-preserved : goal.loop-groups-preserved
@@ -60,14 +61,14 @@ loop-groups-preserved g c =
     record {
       asked = asked_then g.K.Keeper old c.keys_of_row.new.engine c.row_values.new.engine second c.row_values.ensures.asked;
       told = λ tables rests at.
-          let told = told_by old.held.models tables in
+          let told = told_to old.held.models tables asked.sought in
           let held = held_of told asked.sought.model in
           let taken = subst (λ (models : List ModelInfo). IsTaken (Some id) (found_ahead models tables asked.sought c.loop-groups.walk) (found_ahead models tables asked.sought c.next_found.new.walk)) c.loop-groups.invariant.asked.same.models
           ((rw c.in-Some.is at c.in_ok-id.ensures.told) tables (rests_on g.K.Keeper old c.loop-groups.engine tables c.loop-groups.invariant.asked rests)) in
-          let keys = told_back g.K.Keeper old c.next_found.new.engine (λ (told : Told). c.in_ok-keys.keys.items ≡ sort_keys_of (held_of told asked.sought.model) (asked_view asked) id) first c.in_ok-keys.ensures.told told (tells_tables g.K.Keeper old tables rests) in
-          let row = told_back g.K.Keeper old c.keys_of_row.new.engine (λ (told : Told). c.in_ok-row.row.items ≡ row_of (held_of told asked.sought.model) (asked_view asked).aggregates id) second
-          (subst (λ (aggregates : List Aggregate). OfAllTold (TellsOf g.K.Keeper c.keys_of_row.new.engine) (λ (told : Told). c.in_ok-row.row.items ≡ row_of (held_of told asked.sought.model) (map aggregate_view aggregates) id))
-          c.as_slice.ensures.value c.in_ok-row.ensures.told) told (tells_tables g.K.Keeper old tables rests) in
+          let keys = told_back g.K.Keeper c.args.asked.now.sought.by old c.next_found.new.engine (λ (told : Told). c.in_ok-keys.keys.items ≡ sort_keys_of (held_of told asked.sought.model) (asked_view asked) id) first c.in_ok-keys.ensures.told told (tells_tables_to g.K.Keeper c.args.asked.now.sought.by old tables rests) in
+          let row = told_back g.K.Keeper c.args.asked.now.sought.by old c.keys_of_row.new.engine (λ (told : Told). c.in_ok-row.row.items ≡ row_of (held_of told asked.sought.model) (asked_view asked).aggregates id) second
+          (subst (λ (aggregates : List Aggregate). OfAllTold (TellsTo g.K.Keeper c.args.asked.now.sought.by c.keys_of_row.new.engine) (λ (told : Told). c.in_ok-row.row.items ≡ row_of (held_of told asked.sought.model) (map aggregate_view aggregates) id))
+          c.as_slice.ensures.value c.in_ok-row.ensures.told) told (tells_tables_to g.K.Keeper c.args.asked.now.sought.by old tables rests) in
           gathered-more held (asked_view asked) (found_ahead old.held.models tables asked.sought c.args.walk.now) (found_ahead old.held.models tables asked.sought c.loop-groups.walk) (found_ahead old.held.models tables asked.sought c.next_found.new.walk) id c.loop-groups.groups
           c.add.new.groups c.in_ok-keys.keys.items c.in_ok-row.row.items taken keys row c.in_ok-add.ensures.rows (c.loop-groups.invariant.told tables rests) at;
       some = some-more c.loop-groups.groups c.add.new.groups c.in_ok-keys.keys.items c.in_ok-row.row.items c.in_ok-add.ensures.rows c.in_ok-add.ensures.groups c.in_ok-keys.ensures.texts c.loop-groups.invariant.some;

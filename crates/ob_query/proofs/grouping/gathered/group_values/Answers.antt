@@ -4,7 +4,8 @@ use Rattle.std.proofs.lemmas.List.Elements.{All-push}
 use Rattle.std.specs.Prelude.{All}
 use Rattle.ob_base.specs.declared.id.FieldNo.{FieldNo}
 use Rattle.ob_codec.specs.Held.{HasText}
-use Rattle.ob_query.proofs.Asked.{asked_then, told_back, told_on}
+use Rattle.ob_query.proofs.Asked.{asked_then}
+use Rattle.ob_query.proofs.Callers.{told_back, told_on}
 use Rattle.ob_query.proofs.GroupItems.{map-all-view, map-taken-view}
 use Rattle.ob_query.specs.GroupForms as forms
 use Rattle.ob_query.specs.GroupParts.{grouping_view}
@@ -16,7 +17,7 @@ use Rattle.ob_query.proofs.grouping.gathered.group_values.Goals as goal
 
 pub value_in-requires-clause-known : goal.value_in-requires-clause-known
 value_in-requires-clause-known g c =
-    told_on g.K.Keeper c.args.engine.now c.loop-grouping.engine (λ (told : Told). told.knows c.args.model c.args.id ≡ true) c.loop-grouping.invariant.asked c.requires.known
+    told_on g.K.Keeper c.args.by.now c.args.engine.now c.loop-grouping.engine (λ (told : Told). told.knows c.args.model c.args.id ≡ true) c.loop-grouping.invariant.asked c.requires.known
 
 pub returns-in_err-value-clause-asked : goal.returns-in_err-value-clause-asked
 returns-in_err-value-clause-asked g c = asked_then g.K.Keeper c.args.engine.now c.loop-grouping.engine c.value_in.new.engine c.loop-grouping.invariant.asked c.value_in.ensures.asked
@@ -36,7 +37,7 @@ loop-grouping-preserved g c =
       asked = asked_then g.K.Keeper old mid c.value_in.new.engine c.loop-grouping.invariant.asked c.value_in.ensures.asked;
       told = λ told tells.
           let f = λ (own : forms.Grouping). group_value own.period (held_of told c.args.model own.field c.args.id) in
-          let holds = told_back g.K.Keeper old mid (λ (told : Told). c.in_ok-value.value ≡ held_of told c.args.model c.field_of.result c.args.id) c.loop-grouping.invariant.asked c.in_ok-value.ensures.told in
+          let holds = told_back g.K.Keeper c.args.by.now old mid (λ (told : Told). c.in_ok-value.value ≡ held_of told c.args.model c.field_of.result c.args.id) c.loop-grouping.invariant.asked c.in_ok-value.ensures.told in
           let held = holds told tells ∙ ap (λ (field : FieldNo). held_of told c.args.model field c.args.id) c.field_of.ensures in
           pushed ∙ map-taken-view grouping_view f groupings i _ c.loop-grouping.values.items value c.loop-grouping-test.true (c.loop-grouping.invariant.told told tells) (rw held at c.grouped.ensures.value);
       texts = subst (All HasText) (sym pushed) (All-push HasText c.loop-grouping.values.items value c.loop-grouping.invariant.texts c.grouped.ensures.text);

@@ -4,7 +4,7 @@ use Rattle.ob_codec.specs.Held.{HasText}
 use Rattle.ob_query.specs.GroupParts.{grouping_view}
 use Rattle.ob_query.specs.Groups.{keys_of}
 use Rattle.ob_query.specs.Search.{held_of}
-use Rattle.ob_query.specs.SearchQuestions.{OnlyAsked, TellsOf}
+use Rattle.ob_query.specs.SearchQuestions.{OnlyAsked, TellsTo}
 use Rattle.ob_schema.specs.Facts.{OfAllTold}
 use Rattle.ob_query.proofs.grouping.gathered.group_values.Given as goal
 
@@ -14,6 +14,6 @@ invariant-loop-grouping g l =
     let K = g.K.Keeper in
     record {
       asked : OnlyAsked K l.fn.engine l.engine;
-      told : OfAllTold (TellsOf K l.fn.engine) (λ told. l.values.items ≡ keys_of (held_of told l.model) (map grouping_view (take l.grouping-index l.groupings)) l.id);
+      told : OfAllTold (TellsTo K l.by l.fn.engine) (λ told. l.values.items ≡ keys_of (held_of told l.model) (map grouping_view (take l.grouping-index l.groupings)) l.id);
       texts : All HasText l.values.items;
     }

@@ -1,7 +1,8 @@
 use Rattle.std.proofs.Common.{◌≡◌, ◌+◌, List, ap, sym, ◌∙◌, map, take, length, get_or, arith, [], ◌∷◌, ◌++◌, true}
 use Rattle.std.proofs.lemmas.Grind.{common_steps}
 use Rattle.ob_base.specs.declared.id.FieldNo.{FieldNo}
-use Rattle.ob_query.proofs.Asked.{asked_then, told_back, told_on}
+use Rattle.ob_query.proofs.Asked.{asked_then}
+use Rattle.ob_query.proofs.Callers.{told_back, told_on}
 use Rattle.ob_query.proofs.GroupItems.{map-all-view, map-taken-view}
 use Rattle.ob_query.specs.GroupForms as forms
 use Rattle.ob_query.specs.GroupParts.{aggregate_view, row_of}
@@ -11,7 +12,7 @@ use Rattle.ob_query.proofs.grouping.gathered.row_values.Goals as goal
 
 pub value_in-requires-clause-known : goal.value_in-requires-clause-known
 value_in-requires-clause-known g c =
-    told_on g.K.Keeper c.args.engine.now c.loop-aggregate.engine (λ (told : Told). told.knows c.args.model c.args.id ≡ true) c.loop-aggregate.invariant.asked c.requires.known
+    told_on g.K.Keeper c.args.by.now c.args.engine.now c.loop-aggregate.engine (λ (told : Told). told.knows c.args.model c.args.id ≡ true) c.loop-aggregate.invariant.asked c.requires.known
 
 pub returns-in_err-value-clause-asked : goal.returns-in_err-value-clause-asked
 returns-in_err-value-clause-asked g c = asked_then g.K.Keeper c.args.engine.now c.loop-aggregate.engine c.value_in.new.engine c.loop-aggregate.invariant.asked c.value_in.ensures.asked
@@ -31,7 +32,7 @@ loop-aggregate-preserved g c =
       asked = asked_then g.K.Keeper old mid c.value_in.new.engine c.loop-aggregate.invariant.asked c.value_in.ensures.asked;
       told = λ told tells.
           let f = λ (own : forms.Aggregate). held_of told c.args.model own.field c.args.id in
-          let holds = told_back g.K.Keeper old mid (λ (told : Told). value ≡ held_of told c.args.model c.told_field.result c.args.id) c.loop-aggregate.invariant.asked c.in_ok-value.ensures.told in
+          let holds = told_back g.K.Keeper c.args.by.now old mid (λ (told : Told). value ≡ held_of told c.args.model c.told_field.result c.args.id) c.loop-aggregate.invariant.asked c.in_ok-value.ensures.told in
           let held = holds told tells ∙ ap (λ (field : FieldNo). held_of told c.args.model field c.args.id) c.told_field.ensures in
           pushed ∙ map-taken-view aggregate_view f aggregates i _ c.loop-aggregate.values.items value c.loop-aggregate-test.true (c.loop-aggregate.invariant.told told tells) held;
     }

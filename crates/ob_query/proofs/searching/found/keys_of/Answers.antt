@@ -1,7 +1,8 @@
 use Rattle.std.proofs.Common.{◌≡◌, ◌+◌, List, ap, sym, ◌∙◌, map, take, length, get_or, arith, [], ◌∷◌, ◌++◌, true, false}
 use Rattle.std.proofs.lemmas.Grind.{common_steps}
 use Rattle.std.proofs.lemmas.List.{take_all}
-use Rattle.ob_query.proofs.Asked.{asked_then, told_back, told_on}
+use Rattle.ob_query.proofs.Asked.{asked_then}
+use Rattle.ob_query.proofs.Callers.{told_back, told_on}
 use Rattle.ob_query.proofs.FoundRows.{keys-more}
 use Rattle.ob_query.specs.Search.{held_of}
 use Rattle.ob_query.specs.SearchKeys.{key_of}
@@ -13,7 +14,7 @@ use Rattle.ob_query.proofs.searching.found.keys_of.Goals as goal
 
 pub value_in-requires-clause-known : goal.value_in-requires-clause-known
 value_in-requires-clause-known g c =
-    told_on g.K.Keeper c.args.engine.now c.loop-term.engine (λ (told : Told). told.knows c.args.sought.now.model c.args.id ≡ true) c.loop-term.invariant.asked c.requires.known
+    told_on g.K.Keeper c.args.sought.now.by c.args.engine.now c.loop-term.engine (λ (told : Told). told.knows c.args.sought.now.model c.args.id ≡ true) c.loop-term.invariant.asked c.requires.known
 
 pub returns-in_err-value-clause-asked : goal.returns-in_err-value-clause-asked
 returns-in_err-value-clause-asked g c = asked_then g.K.Keeper c.args.engine.now c.loop-term.engine c.value_in.new.engine c.loop-term.invariant.asked c.value_in.ensures.asked
@@ -35,7 +36,7 @@ loop-term-preserved g c =
       asked = asked_then g.K.Keeper old mid c.value_in.new.engine c.loop-term.invariant.asked c.value_in.ensures.asked;
       told = λ told tells.
           let f = key_of (held_of told sought.model) c.args.id in
-          let holds = told_back g.K.Keeper old mid (λ (told : Told). c.in_ok-value.value ≡ held_of told sought.model term.field c.args.id) c.loop-term.invariant.asked c.in_ok-value.ensures.told in
+          let holds = told_back g.K.Keeper c.args.sought.now.by old mid (λ (told : Told). c.in_ok-value.value ≡ held_of told sought.model term.field c.args.id) c.loop-term.invariant.asked c.in_ok-value.ensures.told in
           pushed
           ∙ keys-more f slice i (record { field = record { 0 = 0 }; descending = false }) c.loop-term.keys.items key c.loop-term-test.true
           (c.loop-term.invariant.told told tells ∙ ap (λ (l : List OrderTerm). map f (take i l)) (sym c.as_slice-term-items.ensures))

@@ -1,12 +1,11 @@
 use Rattle.std.proofs.Common.{◌≡◌, ◌++◌, map}
 use Rattle.ob_cache.specs.Calls.{HasTables, models_at, standpoint}
-use Rattle.ob_query.specs.SearchParts.{found_ahead}
+use Rattle.ob_query.specs.SearchParts.{found_ahead, told_to}
 use Rattle.ob_query.specs.SearchQuestions.{OnlyAsked, distance}
 use Rattle.ob_schema.specs.Tables.{Tables}
 use Rattle.ob_query.specs.Search.{held_of}
 use Rattle.ob_query.specs.SearchKeys.{AreKeyed}
 use Rattle.ob_query.specs.declared.searching.order.Ranked.{Ranked}
-use Rattle.ob_schema.specs.Facts.{told_by}
 use Rattle.ob_query.proofs.searching.found.ranked_found.Given as goal
 
 -- the first rows were gathered, each with its keys
@@ -18,7 +17,7 @@ invariant-loop-rows g l =
       told : (tables : Tables) → HasTables (standpoint K l.fn.engine) tables
           → found_ahead (models_at (standpoint K l.fn.engine)) tables l.sought l.fn.walk ≡ map (λ (row : Ranked). row.id) l.rows.items ++ found_ahead (models_at (standpoint K l.fn.engine)) tables l.sought l.walk;
       keyed : (tables : Tables) → HasTables (standpoint K l.fn.engine) tables
-          → AreKeyed (held_of (told_by (models_at (standpoint K l.fn.engine)) tables) l.sought.model) l.sought.order l.rows.items;
+          → AreKeyed (held_of (told_to (models_at (standpoint K l.fn.engine)) tables l.sought) l.sought.model) l.sought.order l.rows.items;
     }
 
 abbrev pub decreases-loop-rows : goal.decreases-loop-rows

@@ -1,0 +1,70 @@
+use Rattle.std.proofs.Common.{◌≡◌, Err, refl, sym, subst, ap, ◌∙◌}
+use Rattle.std.proofs.lemmas.Result.{IfOk-weaker, err_from_is_err_and}
+use Rattle.std.specs.Prelude.{IfSome}
+use Rattle.ob_cache.specs.Calls.{KeeperRose, standpoint}
+use Rattle.ob_call.specs.Called.{called_by}
+use Rattle.ob_query.proofs.Asked.{asked_then, rests_on}
+use Rattle.ob_query.specs.declared.caller.Caller.{Caller}
+use Rattle.ob_schema.specs.Models.{model_at}
+use Rattle.serde_json.specs.View.{view}
+use Rattle.ob_query.proofs.SearchAnswers.{denied_cause_at, denied_view_at, fails_cause, fails_in, count_answered}
+use Rattle.ob_query.specs.NamedFields.{count_named}
+use Rattle.ob_query.specs.Search.{SearchCountCause, SearchCounts, SearchCountsOver}
+use Rattle.ob_query.specs.SearchForms as forms
+use Rattle.ob_query.specs.SearchForms.{counted_of}
+use Rattle.ob_query.specs.SearchParts.{sought_view}
+use Rattle.ob_query.specs.declared.searching.sought.Sought.{Sought}
+use Rattle.serde_json.specs.View.{view}
+use Rattle.ob_query.proofs.searching.counted_rows.Goals as goal
+
+pub returns-in_err-groups-clause-answer : goal.returns-in_err-groups-clause-answer
+returns-in_err-groups-clause-answer g c =
+    let p = err_from_is_err_and c.from_residual.result c.from_residual.ensures.1 in
+    let models = c.args.engine.now.held.models in
+    let call = c.args.call.now in
+    rw (p.1, p.2) (λ tables rests. fails_in (KeeperRose (standpoint g.K.Keeper c.args.engine.now) (standpoint g.K.Keeper c.groups_of.new.engine)) (model_at models call.model)
+    (λ info why. SearchCounts models c.args.policy.now (called_by call info) tables (Err why)) c.in_err-groups.field-0.0 c.in_err-groups.ensures.causes)
+
+pub returns-in_err-groups-clause-causes : goal.returns-in_err-groups-clause-causes
+returns-in_err-groups-clause-causes g c =
+    let p = err_from_is_err_and c.from_residual.result c.from_residual.ensures.1 in
+    let models = c.args.engine.now.held.models in
+    let call = c.args.call.now in
+    rw (p.1, p.2) (fails_cause (KeeperRose (standpoint g.K.Keeper c.args.engine.now) (standpoint g.K.Keeper c.groups_of.new.engine))
+    (λ why. IfSome (model_at models call.model) (λ info. SearchCountCause models c.args.policy.now (called_by call info) why)) c.in_err-groups.field-0.0 c.in_err-groups.ensures.causes)
+
+pub returns-in_err-sought-clause-answer : goal.returns-in_err-sought-clause-answer
+returns-in_err-sought-clause-answer g c =
+    let p = err_from_is_err_and c.from_residual-in_err-sought.result c.from_residual-in_err-sought.ensures.1 in
+    let models = c.args.engine.now.held.models in
+    let call = c.args.call.now in
+    let rose = KeeperRose (standpoint g.K.Keeper c.args.engine.now) (standpoint g.K.Keeper c.groups_of.new.engine) in
+    let by : Caller = record { policy = c.args.policy; groups = record { ref_ptr = c.args.policy.ref_ptr; now = c.in_ok-groups.groups }; user = call.caller } in
+    rw (p.1, p.2)
+    (λ tables rests. denied_view_at _ models (c.schema.ensures ∙ c.groups_of.ensures.asked.same.models) call by refl rose (λ info (sought : Sought) (meant : forms.Sought). sought_view sought ≡ meant) (λ m info. counted_of m (called_by call info)) (λ m info. count_named m (called_by call info))
+    c.in_err-sought.field-0.0 tables (λ info. SearchCountsOver models c.args.policy.now (called_by call info)) (c.in_ok-groups.ensures.groups tables rests) (λ info view why h. h) c.in_err-sought.ensures.asked)
+
+pub returns-in_err-sought-clause-causes : goal.returns-in_err-sought-clause-causes
+returns-in_err-sought-clause-causes g c =
+    let p = err_from_is_err_and c.from_residual-in_err-sought.result c.from_residual-in_err-sought.ensures.1 in
+    let models = c.args.engine.now.held.models in
+    let call = c.args.call.now in
+    let rose = KeeperRose (standpoint g.K.Keeper c.args.engine.now) (standpoint g.K.Keeper c.groups_of.new.engine) in
+    let by : Caller = record { policy = c.args.policy; groups = record { ref_ptr = c.args.policy.ref_ptr; now = c.in_ok-groups.groups }; user = call.caller } in
+    rw (p.1, p.2) (denied_cause_at _ models (c.schema.ensures ∙ c.groups_of.ensures.asked.same.models) call by refl rose (λ info (sought : Sought) (meant : forms.Sought). sought_view sought ≡ meant) (λ m info. counted_of m (called_by call info)) (λ m info. count_named m (called_by call info))
+    c.in_err-sought.field-0.0 c.requires.model c.in_err-sought.ensures.asked)
+
+pub returns-in-Ok-clause-answer : goal.returns-in-Ok-clause-answer
+returns-in-Ok-clause-answer g c = λ tables rests.
+    let old = c.args.engine.now in
+    let mid = c.groups_of.new.engine in
+    let models = old.held.models in
+    let call = c.args.call.now in
+    let same = c.groups_of.ensures.asked.same.models in
+    let asked = rw (c.schema.ensures, same) at c.in_ok-sought.ensures.asked in
+    let found = rw same at (c.in-Ok.ensures.told tables (rests_on g.K.Keeper old mid tables c.groups_of.ensures.asked rests)) in
+    count_answered models call (standpoint g.K.Keeper old) (standpoint g.K.Keeper c.count_found.new.engine) tables _ refl (c.in_ok-groups.ensures.groups tables rests) c.in_ok-sought.sought c.in_ok-sought.ensures.by
+    c.in_ok-sought.ensures.model c.in-Ok.count (view c.from.result) asked found c.from.ensures
+
+pub returns-in-Ok-clause-asked : goal.returns-in-Ok-clause-asked
+returns-in-Ok-clause-asked g c = asked_then g.K.Keeper c.args.engine.now c.groups_of.new.engine c.count_found.new.engine c.groups_of.ensures.asked c.count_found.ensures.asked

@@ -1,0 +1,15 @@
+use Rattle.ob_cache.specs.Calls.{models_at, standpoint}
+use Rattle.ob_cache.proofs.CallerLemmas.{IsAsked-found}
+use Rattle.ob_call.specs.Called.{called_by, result_view}
+use Rattle.ob_call.proofs.CallerLemmas.{IfErr-result_view}
+use Rattle.ob_schema.specs.Models.{model_at}
+use Rattle.ob_query.specs.Search.{SearchCause, Searches}
+use Rattle.ob_query.proofs.searching.search.Goals as goal
+
+pub returns-clause-call : goal.returns-clause-call
+returns-clause-call g c =
+    let call = c.args.call.now in
+    let before = standpoint g.K.Keeper c.args.engine.now in
+    let models = models_at before in
+    IsAsked-found (model_at models call.model) (λ info. Searches models c.args.policy.now (called_by call info)) (λ info. SearchCause models c.args.policy.now (called_by call info)) before (standpoint g.K.Keeper c.searched_ids.new.engine)
+    (result_view c.searched_ids.result) c.searched_ids.ensures.answer (IfErr-result_view _ c.searched_ids.result c.searched_ids.ensures.causes) c.searched_ids.ensures.asked.same c.searched_ids.ensures.asked.count

@@ -1,0 +1,20 @@
+-- What a caller is told by calls that read goes by his view, up to the bytes of the replies.
+use Rattle.std.specs.Prelude.{◌≡◌, ℕ, ℤ, List}
+use Rattle.ob_query.specs.Isolation.{AreViewedAlike}
+use Rattle.ob_schema.specs.Tables.{Tables}
+use Rattle.serde_json.specs.Data.{Data}
+use Rattle.stockd.specs.Machine.{Answers}
+use Rattle.stockd.specs.Request.{Call, called}
+use Rattle.stockd.specs.Setup.{Setup}
+use Rattle.stockd.specs.declared.request.Method.TheVariants as method
+use Rattle.stockd.specs.declared.request.ReadMethod.{ReadMethod}
+
+-- the method reads
+abbrev pub IsReading : Call → Type 0
+IsReading call = (reads : ReadMethod) × (call.method ≡ method.Reads reads)
+
+-- to a call that reads the machine may give the same replies over two databases that its caller sees alike
+abbrev pub RepliesGoByViews : Setup → Type 0
+RepliesGoByViews setup =
+    (id : Data) (call : Call) (now : ℤ) (one other : Tables) → IsReading call → AreViewedAlike setup.models setup.policy call.caller one other
+    → (reply : List ℕ) → Answers setup one now (called id call) reply one → Answers setup other now (called id call) reply other
