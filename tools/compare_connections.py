@@ -4,9 +4,8 @@
 
 SEEDS is A-B or one number. The machine's own comparison of connections goes on, with its heads, its
 cuts, its changed bytes and its pieces; what differs here are the bodies. The program doesn't serve
-every call, nor asks rights for each, so a body is one that both answer alike: a call that
-compare_requests.py takes, by a caller that it leaves, `execute` of them, one of the service `common`,
-or text that is no call. Prints what differs and how many seeds do.
+every call, so a body is one that both answer alike: a call that compare_requests.py takes, `execute`
+of one, one of the service `common`, or text that is no call. Prints what differs and how many seeds do.
 """
 import json
 import os
@@ -24,9 +23,8 @@ def taken(body):
         return body
     if service == "common" or not isinstance(elements, list) or len(elements) < 5:
         return body
-    compare_requests.given_to_first(elements)
     spread = [*elements[:5], elements[5:]] if method == "execute" else elements
-    return json.dumps(whole).encode() if compare_requests.is_served(spread, False) else None
+    return body if compare_requests.is_served(spread, False) else None
 
 
 def served_traffic(base, now):

@@ -3,10 +3,9 @@
     compare_requests.py ORACLE PROGRAM SEEDS COUNT PROFILE
 
 SEEDS is A-B or one number, and each seed gives a stream, on the models of demo, made as PROFILE says: `mixed`,
-`hostile` or `orm`. Reading calls are compared whole, by whichever caller. Of the program's other calls none asks a
-right yet: so they are the first user's, who needs none. Left out is what the program doesn't serve yet: commands on
-lists, creates and writes of managed models, values for fields that calls don't give (the machine names another
-refusal), and the fields of users, of which the machine hides one. Behind each stream the first user reads all rows.
+`hostile` or `orm`, by all callers that it has. Left out is what the program doesn't serve yet: commands on lists,
+creates and writes of managed models, and values for fields that calls don't give (the machine names another
+refusal). Behind each stream the first user reads all rows.
 Where libfaketime is installed both have one clock, so that moments are compared; else moments are left out. Prints
 what differs and how many streams do; the status is 1 where one does.
 """
@@ -19,15 +18,12 @@ import tempfile
 # The state of the machine that asks rights and tells rows by groups.
 STAGE = "8"
 MOMENTS = ("create_date", "write_date")
-# The calls that ask rights.
-READING = ("search", "search_count", "search_read", "read", "read_group")
 # Managed models.
 MANAGED = ("res.groups",)
 # Fields that calls don't give.
 SERVERS = ("id", "create_date", "create_uid", "write_date", "write_uid", "subtotal", "total", "parent_path")
 # What the names of lists have in them.
 LISTS = ("_ids", "groups_id")
-FIRST_USER = [1, "system"]
 
 
 def elements_of(line):
@@ -51,17 +47,7 @@ def is_served(elements, has_clock):
     model, method, text = elements[3], elements[4], json.dumps(elements[5:])
     if method in ("create", "write") and (model in MANAGED or any(name in text for name in LISTS) or any(f'"{name}"' in text for name in SERVERS)):
         return False
-    if method == "fields_get" and model == "res.users":
-        return False
     return has_clock or not any(name in text for name in MOMENTS)
-
-
-def given_to_first(elements):
-    """Gives a call that asks no rights to the first user; whether that changed it."""
-    is_given = elements[4] not in READING and isinstance(elements[1], int) and elements[1] > 1
-    if is_given:
-        elements[1:3] = FIRST_USER
-    return is_given
 
 
 def taken(line, has_clock):
@@ -69,10 +55,10 @@ def taken(line, has_clock):
     whole, elements = elements_of(line)
     if elements is None:
         return line
-    is_changed = [takes_groups(elements), given_to_first(elements)]
+    is_changed = takes_groups(elements)
     if not is_served(elements, has_clock):
         return None
-    return json.dumps(whole).encode() + b"\n" if any(is_changed) else line
+    return json.dumps(whole).encode() + b"\n" if is_changed else line
 
 
 def differs(oracle, program, seed, words, has_clock):

@@ -1,5 +1,6 @@
 pub mod Apart
 pub mod Asking
+pub mod CallerLemmas
 pub mod Denying
 pub mod Growing
 pub mod Having

@@ -1,13 +1,15 @@
 -- Users, as rows of a model of users: who may call with which key, who logs in with which name, and in which groups a caller is.
-use Rattle.std.specs.Prelude.{◌&&◌, ℕ, List, [], codes, bytes_eq, if◌then◌else◌, Bool, false, Option, Some, None, option_and_then, option_map}
+use Rattle.std.specs.Prelude.{◌&&◌, ◌↔◌, ℕ, List, [], Contains, IsSomeAnd, codes, bytes_eq, if◌then◌else◌, Bool, false, Option, Some, None, option_and_then, option_map}
 use Rattle.std.specs.Option.{option_map_or}
+use Rattle.ob_base.specs.Rising.{IsRising}
 use Rattle.ob_base.specs.declared.id.FieldNo.{FieldNo}
 use Rattle.ob_base.specs.declared.id.ModelNo.{ModelNo}
 use Rattle.ob_base.specs.declared.id.RecId.{RecId}
 use Rattle.ob_base.specs.declared.value.Value.{Value}
 use Rattle.ob_base.specs.declared.value.Value.TheVariants as value
-use Rattle.ob_schema.specs.Facts.{Told}
+use Rattle.ob_schema.specs.Facts.{Told, told_by}
 use Rattle.ob_schema.specs.Models.{HasField, field_named, model_at, model_named}
+use Rattle.ob_schema.specs.Tables.{Tables}
 use Rattle.ob_schema.specs.declared.info.FieldInfo.{FieldInfo}
 use Rattle.ob_schema.specs.declared.info.ModelInfo.{ModelInfo}
 use Rattle.ob_access.specs.Groups.{IsMember}
@@ -70,3 +72,16 @@ stated_groups told users id = option_map_or ids_of (user_value told users id use
 -- he is in a group: one that his row names, or one that such a group implies
 abbrev pub IsInGroup : PolicyData → Told → Users → RecId → RecId → Type 0
 IsInGroup policy told users id group = IsMember policy.groups (stated_groups told users id) group
+
+-- he is in a group, as the model of users has it; where the registry has none he is in no group
+abbrev pub IsInGroupOf : List ModelInfo → PolicyData → Told → RecId → RecId → Type 0
+IsInGroupOf models policy told user group = IsSomeAnd (users_of models) (λ users. IsInGroup policy told users user group)
+
+-- these are the groups of a caller by what is told: those that his row names, and with each the ones that it implies; each above the one before it
+pub record AreGroupsBy (models : List ModelInfo) (policy : PolicyData) (told : Told) (user : RecId) (own : List RecId) : Type 0 where
+  pub rising : IsRising own
+  pub members : (group : RecId) → Contains own group ↔ IsInGroupOf models policy told user group
+
+-- by what tables have
+abbrev pub AreGroupsOf : List ModelInfo → PolicyData → Tables → RecId → List RecId → Type 0
+AreGroupsOf models policy tables user own = AreGroupsBy models policy (told_by models tables) user own

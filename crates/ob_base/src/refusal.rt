@@ -8,8 +8,10 @@ ghost use Rattle.ob_base.specs.BrokenOrder.{broken_order, kind_place};
 ghost use Rattle.ob_base.specs.Names.{op_name, kind_name};
 
 use crate::id::{Cell, FieldNo, ModelNo, RecId, cell_cmp};
+use crate::memory::NoMemory;
 use crate::place::Place;
 use crate::word::Word;
+use std::alloc::AllocFailed;
 use std::cmp::Ordering;
 use std::fmt;
 
@@ -182,4 +184,24 @@ pub enum Refusal {
     Keeper,
     /// An allocation failed.
     NoMemory,
+}
+
+impl From<NoMemory> for Refusal {
+    ghost use Rattle.ob_base.specs.declared.refusal.Refusal.TheVariants as refusal;
+
+    ghost from_gives = { λ _ why. why ≡ refusal.NoMemory };
+
+    fn from(_error: NoMemory) -> Refusal {
+        Refusal::NoMemory
+    }
+}
+
+impl<T: Drop> From<AllocFailed<T>> for Refusal {
+    ghost use Rattle.ob_base.specs.declared.refusal.Refusal.TheVariants as refusal;
+
+    ghost from_gives = { λ _ why. why ≡ refusal.NoMemory };
+
+    fn from(_error: AllocFailed<T>) -> Refusal {
+        Refusal::NoMemory
+    }
 }

@@ -5,6 +5,7 @@ pub mod Stages
 pub mod Standing
 pub mod Telling
 pub mod Calls
+pub mod Refusals
 -- How stages are stored.
 pub mod Coding
 -- Private: the words by which the rooms of the crate are joined.

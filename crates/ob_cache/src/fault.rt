@@ -1,6 +1,6 @@
 //! Why a call of the engine gives no answer. A fault that a call gets is added to its enum.
 
-use ob_base::{Broken, Cell, NoMemory};
+use ob_base::{Broken, Cell, NoMemory, Refusal};
 use ob_io::KeepFault;
 use thiserror::Error;
 
@@ -84,5 +84,20 @@ impl From<NoMemory> for SettleFault {
 
     fn from(_error: NoMemory) -> SettleFault {
         SettleFault::NoMemory
+    }
+}
+
+impl From<SettleFault> for Refusal {
+    ghost use Rattle.std.specs.Prelude.{◌≡◌};
+    ghost use Rattle.ob_cache.specs.Refusals.{settle_refusal};
+
+    ghost from_gives = { λ fault why. why ≡ settle_refusal fault };
+
+    fn from(fault: SettleFault) -> Refusal {
+        match fault {
+            SettleFault::Broken(broken) => Refusal::Constraint(broken),
+            SettleFault::Keeper => Refusal::Keeper,
+            SettleFault::NoMemory => Refusal::NoMemory,
+        }
     }
 }

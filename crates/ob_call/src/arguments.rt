@@ -72,7 +72,7 @@ fn by_position<'a, F: Form>(
     let mut given = Vec::new(alloc);
     for (number, parameter) in expected.iter().enumerate() {
         let own = at_position(alloc, parameter, number, items, kw)?;
-        given.push(own).map_err(|_| Refusal::NoMemory)?;
+        given.push(own)?;
     }
     if items.len() > expected.len() {
         let surplus = Spot::Position(expected.len());
@@ -109,11 +109,10 @@ fn positioned<'a, F: Form>(
     ensures { IsResultOf (option_map given_of) result
         (positioned (spot_place spot.entry) (expected_of F.fault parameter.now) (view json.now)) }
 {
-    match is_absent(alloc, parameter, json) {
-        Ok(true) => Ok(None),
-        Ok(false) => judged(alloc, &parameter.form, spot, json),
-        Err(NoMemory) => Err(Refusal::NoMemory),
+    if is_absent(alloc, parameter, json)? {
+        return Ok(None);
     }
+    judged(alloc, &parameter.form, spot, json)
 }
 
 /// An argument at a spot, where it is of its form.
@@ -126,10 +125,9 @@ fn judged<'a, F: Form>(
     ensures { IsResultOf (option_map given_of) result
         (judged (spot_place spot.entry) (view json.now) (F.fault form.now (view json.now))) }
 {
-    match form.fault(alloc, json) {
-        Ok(None) => Ok(Some(Given { spot, json })),
-        Ok(Some(below)) => Err(malformed(alloc, spot, below)),
-        Err(NoMemory) => Err(Refusal::NoMemory),
+    match form.fault(alloc, json)? {
+        None => Ok(Some(Given { spot, json })),
+        Some(below) => Err(malformed(alloc, spot, below)),
     }
 }
 
@@ -245,10 +243,11 @@ fn named<'a, F: Form>(
         (named name.now (view json.now) (expected_of F.fault parameter.now) (option_map given_of before.entry)) }
 {
     let spot = Spot::Name(name);
-    match is_absent(alloc, parameter, json) {
-        Ok(true) => Ok(before),
-        Ok(false) if before.is_some() => Err(malformed(alloc, spot, Below::Whole)),
-        Ok(false) => judged(alloc, &parameter.form, spot, json),
-        Err(NoMemory) => Err(Refusal::NoMemory),
+    if is_absent(alloc, parameter, json)? {
+        return Ok(before);
     }
+    if before.is_some() {
+        return Err(malformed(alloc, spot, Below::Whole));
+    }
+    judged(alloc, &parameter.form, spot, json)
 }

@@ -11,7 +11,7 @@ use arrayvec::ArrayVec;
 use ob_io::{Door, Failed};
 
 /// How many bytes wait for those behind them, at most.
-const ROOM: usize = 1024;
+const ROOM: usize = 8192;
 
 /// Writes texts, one after another: those that there is room for wait for the next ones.
 pub(crate) fn write_texts<D: Door>(door: &mut D, texts: &[&[u8]]) -> Result<(), Failed>

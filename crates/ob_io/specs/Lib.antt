@@ -4,6 +4,7 @@ pub mod Connections
 pub mod Store
 pub mod Moments
 pub mod Plan
+pub mod Refusals
 pub mod Faults
 pub mod Memory
 pub mod MemoryDoor

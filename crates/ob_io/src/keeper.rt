@@ -4,7 +4,7 @@ ghost use Rattle.std.specs.Prelude.{◌≡◌, ℕ, ◌<◌, ◌≤◌, List, Op
 ghost use Rattle.ob_io.specs.Cause.{HasCause};
 
 use crate::store::{Change, KeptRow};
-use ob_base::{FieldNo, ModelNo, RecId, RefList, Sequence};
+use ob_base::{FieldNo, ModelNo, RecId, RefList, Refusal, Sequence};
 use thiserror::Error;
 
 /// Why a call of a keeper gave no answer.
@@ -16,6 +16,20 @@ pub enum KeepFault {
     /// An allocation failed.
     #[error("no memory")]
     NoMemory,
+}
+
+impl From<KeepFault> for Refusal {
+    ghost use Rattle.std.specs.Prelude.{◌≡◌};
+    ghost use Rattle.ob_io.specs.Refusals.{keeper_refusal};
+
+    ghost from_gives = { λ fault why. why ≡ keeper_refusal fault };
+
+    fn from(fault: KeepFault) -> Refusal {
+        match fault {
+            KeepFault::Failed => Refusal::Keeper,
+            KeepFault::NoMemory => Refusal::NoMemory,
+        }
+    }
 }
 
 /// Keeps rows by model and id, and a next id for each model, 1 where none was set.

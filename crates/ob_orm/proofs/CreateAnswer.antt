@@ -7,6 +7,8 @@ use Rattle.std.proofs.lemmas.Int.{ints, to_z-of_z}
 use Rattle.serde_json.specs.Data.{Data}
 use Rattle.serde_json.specs.View.{view}
 use Rattle.serde_json.specs.declared.value.Value.{Value as Json}
+use Rattle.ob_access.specs.Policies.{PolicyData}
+use Rattle.ob_access.specs.Users.{AreGroupsOf}
 use Rattle.ob_base.specs.Chain.{◌>>=◌}
 use Rattle.ob_base.specs.Times.{IsMoment}
 use Rattle.ob_base.specs.declared.place.PathStep.{PathStep}
@@ -33,12 +35,11 @@ use Rattle.ob_schema.specs.Models.{HasModel, model_at}
 use Rattle.ob_schema.specs.Tables.{Tables}
 use Rattle.ob_schema.specs.declared.info.ModelInfo.{ModelInfo}
 use Rattle.ob_orm.specs.Author.{author_by}
-use Rattle.ob_orm.specs.Create.{CreateCause, Creates, create_expects, created_rows, ids_told, rows_from, rows_in, values_of}
-use Rattle.ob_orm.specs.NewRows.{MadeRows, made_rows}
-use Rattle.ob_orm.specs.CreateSteps.{BreaksField, IsBrokenBy}
+use Rattle.ob_orm.specs.Create.{Asked, CreateCause, Creates, MayStopCreate, RefusesAsked, StopsCreate, asked_from, asked_in, asked_of, create_expects, with_rows}
+use Rattle.ob_orm.specs.CreateSteps.{CreatesBy, IsMadeBy, rows_view}
+use Rattle.ob_orm.specs.declared.asking.Caller.{Caller}
 use Rattle.ob_orm.specs.declared.author.Author.{Author}
 use Rattle.ob_orm.specs.declared.creating.rows.Rows.{Rows}
-use Rattle.ob_orm.proofs.CreateRows.{Asks}
 
 -- what is known of an answer, where it was handed on
 pub handed_on : {X E : Type 0} (F : Type 0) (r : Result X E) (x : X) (P : X → Type 0) → MatchResult r (λ y. ◌≡◌ {A = Result X F} (Ok x) (Ok y)) (λ _. ⊥) → IfOk r P → P x
@@ -68,135 +69,205 @@ moment_passed now moment = let fits : FitsSigned w64 now = (let low = moment.low
 pub author_passed : (by : Author) → IsMoment by.now → record by { now = cast_signed w64 (cast_unsigned w64 by.now) } ≡ by
 author_passed by moment = ap (λ (n : ℤ). record by { now = n }) (moment_passed by.now moment)
 
--- ---- the rows that the arguments give
+-- ---- what the arguments ask for
 
--- the rows of a call, or what is wrong with them
-abbrev pub rows_by : List ModelInfo → Call → ModelInfo → Result Rows (List PathStep)
-rows_by models call info = created_rows models (called_by call info)
+-- what a call asks for, or what is wrong with its arguments
+abbrev pub asked_by_call : List ModelInfo → Call → ModelInfo → Result Asked (List PathStep)
+asked_by_call models call info = asked_of models (called_by call info)
 
 -- what the arguments are over the fields of the model
 abbrev pub CreateGives : List ModelInfo → Call → List (Option Given) → Type 0
 CreateGives models call items = arguments_of (create_expects models (fields_at models call.model)) (view call.args.now) (view call.kw.now) ≡ Ok (all_given_of items)
 
--- its result is that of the rows
+-- its result is what they ask for
 abbrev pub GivesRows : List ModelInfo → Call → Result Rows Refusal → Type 0
-GivesRows models call r = IfSome (model_at models call.model) (λ info. Asks r (rows_by models call info))
+GivesRows models call r = IfSome (model_at models call.model) (λ info. IsResultOf rows_view r (asked_by_call models call info))
 
 -- arguments that are refused
 pub denied_rows : {A : Type 0} (of : A → List (Option arguments.Given)) (models : List ModelInfo) (call : Call) (why : Refusal)
     → IsResultOf of (Err why) (arguments_of (create_expects models (fields_at models call.model)) (view call.args.now) (view call.kw.now)) → GivesRows models call (Err why)
 denied_rows of models call (refusal.Request place) e =
-    known_of (model_at models call.model) (λ info. arguments_of (create_expects models info.fields) (view call.args.now) (view call.kw.now) ≡ Err place) (λ info. rows_by models call info ≡ Err place)
-    (λ info is. ap (λ (r : Result (List (Option arguments.Given)) (List PathStep)). r >>= rows_from models info) is)
+    known_of (model_at models call.model) (λ info. arguments_of (create_expects models info.fields) (view call.args.now) (view call.kw.now) ≡ Err place) (λ info. asked_by_call models call info ≡ Err place)
+    (λ info is. ap (λ (r : Result (List (Option arguments.Given)) (List PathStep)). r >>= λ gs. Ok (asked_from models info gs)) is)
     (at_info models call.model (λ fields. arguments_of (create_expects models fields) (view call.args.now) (view call.kw.now) ≡ Err place) e)
 denied_rows of models call refusal.NoMemory e = everywhere (model_at models call.model) (λ info. ⊤) (λ info. tt)
 denied_rows of models call _ e = absurd e
 
--- rows that are taken or refused
-pub rows_passed : (models : List ModelInfo) (call : Call) (items : List (Option Given)) (vals : Given) (r : Result Rows Refusal) → items ≡ Some vals ∷ [] → CreateGives models call items
-    → IfSome (model_at models call.model) (λ info. Asks r (rows_in models info (spot_place vals.spot) (view vals.json.now))) → GivesRows models call r
-rows_passed models call items vals r one gives rows =
-    by (model_at models call.model) (at_info models call.model (λ fields. arguments_of (create_expects models fields) (view call.args.now) (view call.kw.now) ≡ Ok (all_given_of items)) gives) rows where
+-- want of memory
+pub rows_unread : (models : List ModelInfo) (call : Call) → GivesRows models call (Err refusal.NoMemory)
+rows_unread models call = everywhere (model_at models call.model) (λ info. ⊤) (λ info. tt)
+
+-- and arguments that are taken
+pub rows_passed : (models : List ModelInfo) (call : Call) (items : List (Option Given)) (vals : Given) (rows : Rows) → items ≡ Some vals ∷ [] → CreateGives models call items
+    → IfSome (model_at models call.model) (λ info. rows_view rows ≡ asked_in models info (spot_place vals.spot) (view vals.json.now)) → GivesRows models call (Ok rows)
+rows_passed models call items vals rows one gives own =
+    by (model_at models call.model) (at_info models call.model (λ fields. arguments_of (create_expects models fields) (view call.args.now) (view call.kw.now) ≡ Ok (all_given_of items)) gives) own where
       by : (o : Option ModelInfo) → IfSome o (λ info. arguments_of (create_expects models info.fields) (view call.args.now) (view call.kw.now) ≡ Ok (all_given_of items))
-          → IfSome o (λ info. Asks r (rows_in models info (spot_place vals.spot) (view vals.json.now))) → IfSome o (λ info. Asks r (rows_by models call info))
-      by None gives rows = tt
-      by (Some info) gives rows =
-          let e : rows_in models info (spot_place vals.spot) (view vals.json.now) ≡ rows_by models call info =
-          sym (ap (λ (gs : List (Option Given)). rows_from models info (all_given_of gs)) one)
-          ∙ sym (ap (λ (r : Result (List (Option arguments.Given)) (List PathStep)). r >>= rows_from models info) gives) in
-          subst (Asks r) e rows
+          → IfSome o (λ info. rows_view rows ≡ asked_in models info (spot_place vals.spot) (view vals.json.now)) → IfSome o (λ info. asked_by_call models call info ≡ Ok (rows_view rows))
+      by None gives own = tt
+      by (Some info) gives own =
+          ap (λ (r : Result (List (Option arguments.Given)) (List PathStep)). r >>= λ gs. Ok (asked_from models info gs)) gives
+          ∙ ap (λ (gs : List (Option Given)). ◌>>=◌ {E = List PathStep} (Ok (all_given_of gs)) (λ gs. Ok (asked_from models info gs))) one ∙ ap (λ (a : Asked). Ok a) (sym own)
 
 -- an argument that must be given is
 pub must_be_given : (p : Expected) (o : Option Given) → p.required ≡ true → IsFit p (option_map given_of o) → o ≡ None → ⊥
 must_be_given p None must fit is = let wrong : false ≡ true = sym fit ∙ must in false≢true wrong
 must_be_given p (Some given) must fit is = absurd cc
 
--- ---- refusals of the arguments
+-- ---- answers and causes
 
 pub nowhere : (o : Option ModelInfo) → IsSome o → IfSome o (λ _. ⊥) → ⊥
 nowhere None there wrong = false≢true there
 nowhere (Some info) there wrong = wrong
-
--- rows that are wrong are the cause
-pub rows_cause : (models : List ModelInfo) (call : Call) (rose : Type 0) (why : Refusal) → HasModel models call.model → GivesRows models call (Err why)
-    → Refuses rose (λ w. IfSome (model_at models call.model) (λ info. CreateCause models (called_by call info) w)) why
-rows_cause models call rose (refusal.Request place) there wrong = wrong
-rows_cause models call rose refusal.NoMemory there wrong = tt
-rows_cause models call rose _ there wrong = absurd (nowhere (model_at models call.model) there wrong)
-
--- the machine's answer over an engine
-abbrev pub AnswersCreate : Call → (before after : Standpoint) → Result Data Refusal → Type 0
-AnswersCreate call before after r = (tables : Tables) → HasTables before tables → IfSome (model_at (models_at before) call.model) (λ info. AnswersBy (Creates (models_at before) (called_by call info)) before after tables r)
-
--- which rests still
-pub rows_answer : (at : Standpoint) (call : Call) (why : Refusal) → HasModel (models_at at) call.model → GivesRows (models_at at) call (Err why) → AnswersCreate call at at (Err why)
-rows_answer at call (refusal.Request place) there wrong = λ tables rests.
-    known_of (model_at (models_at at) call.model) (λ info. rows_by (models_at at) call info ≡ Err place)
-    (λ info. AnswersBy (Creates (models_at at) (called_by call info)) at at tables (Err (refusal.Request place))) (λ info is. ((is, refl), rests)) wrong
-rows_answer at call refusal.NoMemory there wrong = λ tables rests.
-    everywhere (model_at (models_at at) call.model) (λ info. AnswersBy (Creates (models_at at) (called_by call info)) at at tables (Err refusal.NoMemory)) (λ info. (tt, rests))
-rows_answer at call _ there wrong = absurd (nowhere (model_at (models_at at) call.model) there wrong)
-
--- ---- what is carried out
-
--- the rows that a call makes
-abbrev pub all_made : List ModelInfo → Call → Tables → Rows → MadeRows
-all_made models call tables asked = made_rows models (author_by call) tables call.model (values_of asked)
 
 -- tables that were settled are sound
 pub sound_in : (models : List ModelInfo) (old tables : Tables) (kept : Option Store) → IsSomeAnd kept (StandsOver (settled_over models old tables)) → Sound models tables
 sound_in models old tables None over = absurd over
 sound_in models old tables (Some store) over = (over.settled (λ e. cc)).sound
 
-module _ (before after : Standpoint) (call : Call) (asked : Rows) (gives : GivesRows (models_at before) call (Ok asked)) where
-  -- what the tables with the rows break refuses the create
-  breaks : (info : ModelInfo) (tables : Tables) → rows_by (models_at before) call info ≡ Ok asked → (w : Refusal) → IsBrokenBy (models_at before) (all_made (models_at before) call tables asked).tables w
-      → Creates (models_at before) (called_by call info) tables (Err w) tables
-  breaks info tables is (refusal.Constraint b) h = ((asked, is, h), refl)
-  breaks info tables is _ h = absurd h
+-- the machine's answer over an engine
+abbrev pub AnswersCreate : PolicyData → Call → (before after : Standpoint) → Result Data Refusal → Type 0
+AnswersCreate policy call before after r =
+    (tables : Tables) → HasTables before tables → IfSome (model_at (models_at before) call.model) (λ info. AnswersBy (Creates (models_at before) policy (called_by call info)) before after tables r)
+
+-- by groups of the caller that were found
+abbrev pub AnswersFor : Caller → Call → (before after : Standpoint) → Result Data Refusal → Type 0
+AnswersFor by call before after r =
+    (tables : Tables) → HasTables before tables → IfSome (model_at (models_at before) call.model) (λ info. AnswersBy (CreatesBy (models_at before) by (called_by call info)) before after tables r)
+
+-- a refusal has its cause
+abbrev pub CausesCreate : PolicyData → Call → Standpoint → Type 0 → Refusal → Type 0
+CausesCreate policy call at rose why = Refuses rose (λ w. IfSome (model_at (models_at at) call.model) (λ info. CreateCause (models_at at) policy (called_by call info) w)) why
+
+-- ---- the groups of the caller
+
+-- an engine that told none
+pub ungrouped_answer : (policy : PolicyData) (call : Call) (before after : Standpoint) (why : Refusal) → ((tables : Tables) → HasTables before tables → HasTables after tables) → Refuses (KeeperRose before after) (λ _. ⊥) why
+    → AnswersCreate policy call before after (Err why)
+ungrouped_answer policy call before after why stays h tables rests =
+    everywhere (model_at (models_at before) call.model) (λ info. AnswersBy (Creates (models_at before) policy (called_by call info)) before after tables (Err why))
+    (λ info. (
+      Refuses-weaker (KeeperRose before after) (KeeperRose before after) (λ _. ⊥) (λ cause. Creates (models_at before) policy (called_by call info) tables (Err cause) tables) why (λ risen. risen) (λ w never. absurd never) h,
+      stays tables rests,
+    ))
+
+pub ungrouped_cause : (policy : PolicyData) (call : Call) (at : Standpoint) (rose : Type 0) (why : Refusal) → Refuses rose (λ _. ⊥) why → CausesCreate policy call at rose why
+ungrouped_cause policy call at rose why h =
+    Refuses-weaker rose rose (λ _. ⊥) (λ w. IfSome (model_at (models_at at) call.model) (λ info. CreateCause (models_at at) policy (called_by call info) w)) why (λ risen. risen) (λ w never. absurd never) h
+
+-- by those that it told
+module _ (call : Call) (by : Caller) (before mid after : Standpoint) (same : models_at mid ≡ models_at before) (stays : (tables : Tables) → HasTables before tables → HasTables mid tables)
+    (up : KeeperRose mid after → KeeperRose before after) (groups : (tables : Tables) → HasTables before tables → AreGroupsOf (models_at before) by.policy.now tables call.caller by.groups.now) where
+  grouped : (info : ModelInfo) (tables : Tables) → HasTables before tables → (r : Result Data Refusal) → AnswersBy (CreatesBy (models_at before) by (called_by call info)) mid after tables r
+      → AnswersBy (Creates (models_at before) by.policy.now (called_by call info)) before after tables r
+  grouped info tables rests (Ok json) h = (h.0, (by.groups.now, groups tables rests, h.1), h.2)
+  grouped info tables rests (Err why) h = (
+    Refuses-weaker (KeeperRose mid after) (KeeperRose before after) (λ cause. CreatesBy (models_at before) by (called_by call info) tables (Err cause) tables)
+        (λ cause. Creates (models_at before) by.policy.now (called_by call info) tables (Err cause) tables) why up (λ w own. ((by.groups.now, groups tables rests, own.0), refl)) h.0,
+    h.1,
+  )
+
+  pub grouped_answer : (r : Result Data Refusal) → AnswersFor by call mid after r → AnswersCreate by.policy.now call before after r
+  grouped_answer r answer tables rests =
+      let own : IfSome (model_at (models_at before) call.model) (λ info. AnswersBy (CreatesBy (models_at before) by (called_by call info)) mid after tables r) =
+      subst (λ (ms : List ModelInfo). IfSome (model_at ms call.model) (λ info. AnswersBy (CreatesBy ms by (called_by call info)) mid after tables r)) same (answer tables (stays tables rests)) in
+      known_of (model_at (models_at before) call.model) (λ info. AnswersBy (CreatesBy (models_at before) by (called_by call info)) mid after tables r)
+      (λ info. AnswersBy (Creates (models_at before) by.policy.now (called_by call info)) before after tables r) (λ info h. grouped info tables rests r h) own
+
+  pub grouped_cause : {A : Type 0} (r : Result A Refusal) → IfErr r (CausesCreate by.policy.now call mid (KeeperRose mid after)) → IfErr r (CausesCreate by.policy.now call before (KeeperRose before after))
+  grouped_cause (Ok a) h = tt
+  grouped_cause (Err why) h =
+      Refuses-weaker (KeeperRose mid after) (KeeperRose before after) (λ w. IfSome (model_at (models_at mid) call.model) (λ info. CreateCause (models_at mid) by.policy.now (called_by call info) w))
+      (λ w. IfSome (model_at (models_at before) call.model) (λ info. CreateCause (models_at before) by.policy.now (called_by call info) w)) why up
+      (λ w own. subst (λ (ms : List ModelInfo). IfSome (model_at ms call.model) (λ info. CreateCause ms by.policy.now (called_by call info) w)) same own) h
+
+-- ---- arguments that are wrong
+
+module _ (call : Call) (by : Caller) (at : Standpoint) where
+  -- refuse the call
+  pub rows_answer : (why : Refusal) → HasModel (models_at at) call.model → GivesRows (models_at at) call (Err why) → AnswersFor by call at at (Err why)
+  rows_answer (refusal.Request place) there wrong = λ tables rests.
+      known_of (model_at (models_at at) call.model) (λ info. asked_by_call (models_at at) call info ≡ Err place)
+      (λ info. AnswersBy (CreatesBy (models_at at) by (called_by call info)) at at tables (Err (refusal.Request place)))
+      (λ info is. ((subst (λ (r : Result Asked (List PathStep)). RefusesAsked (StopsCreate (models_at at) by.policy.now (author_by call) call.model tables by.groups.now) r (refusal.Request place)) (sym is) refl, refl), rests)) wrong
+  rows_answer refusal.NoMemory there wrong = λ tables rests.
+      everywhere (model_at (models_at at) call.model) (λ info. AnswersBy (CreatesBy (models_at at) by (called_by call info)) at at tables (Err refusal.NoMemory)) (λ info. (tt, rests))
+  rows_answer _ there wrong = absurd (nowhere (model_at (models_at at) call.model) there wrong)
+
+  -- and are the cause
+  pub rows_cause : (rose : Type 0) (why : Refusal) → HasModel (models_at at) call.model → GivesRows (models_at at) call (Err why) → CausesCreate by.policy.now call at rose why
+  rows_cause rose (refusal.Request place) there wrong =
+      known_of (model_at (models_at at) call.model) (λ info. asked_by_call (models_at at) call info ≡ Err place) (λ info. CreateCause (models_at at) by.policy.now (called_by call info) (refusal.Request place))
+      (λ info is. subst (λ (r : Result Asked (List PathStep)). RefusesAsked (MayStopCreate (models_at at) by.policy.now call.caller call.model) r (refusal.Request place)) (sym is) refl) wrong
+  rows_cause rose refusal.NoMemory there wrong = tt
+  rows_cause rose _ there wrong = absurd (nowhere (model_at (models_at at) call.model) there wrong)
+
+-- ---- what is carried out
+
+module _ (call : Call) (by : Caller) (before after : Standpoint) (rows : Rows) (gives : GivesRows (models_at before) call (Ok rows)) where
+  abbrev Stops : Tables → Refusal → Type 0
+  Stops tables w = StopsCreate (models_at before) by.policy.now (author_by call) call.model tables by.groups.now (rows_view rows) w
+
+  -- what stands against the rows refuses the call
+  stopped : (info : ModelInfo) (tables : Tables) → asked_by_call (models_at before) call info ≡ Ok (rows_view rows) → (w : Refusal) → Stops tables w
+      → CreatesBy (models_at before) by (called_by call info) tables (Err w) tables
+  stopped info tables is w h = (subst (λ (r : Result Asked (List PathStep)). RefusesAsked (StopsCreate (models_at before) by.policy.now (author_by call) call.model tables by.groups.now) r w) (sym is) h, refl)
 
   -- rows that aren't settled
-  unmade_answer : (why : Refusal) → ((tables : Tables) → HasTables before tables → HasTables after tables × Refuses (KeeperRose before after) (IsBrokenBy (models_at before) (all_made (models_at before) call tables asked).tables) why)
-      → AnswersCreate call before after (Err why)
+  unmade_answer : (why : Refusal) → ((tables : Tables) → HasTables before tables → HasTables after tables × Refuses (KeeperRose before after) (Stops tables) why) → AnswersFor by call before after (Err why)
   unmade_answer why refused tables rests =
       let own = refused tables rests in
-      known_of (model_at (models_at before) call.model) (λ info. rows_by (models_at before) call info ≡ Ok asked) (λ info. AnswersBy (Creates (models_at before) (called_by call info)) before after tables (Err why))
+      known_of (model_at (models_at before) call.model) (λ info. asked_by_call (models_at before) call info ≡ Ok (rows_view rows))
+      (λ info. AnswersBy (CreatesBy (models_at before) by (called_by call info)) before after tables (Err why))
       (λ info is. (
-        Refuses-weaker (KeeperRose before after) (KeeperRose before after) (IsBrokenBy (models_at before) (all_made (models_at before) call tables asked).tables)
-            (λ cause. Creates (models_at before) (called_by call info) tables (Err cause) tables) why (λ risen. risen) (breaks info tables is) own.1,
+        Refuses-weaker (KeeperRose before after) (KeeperRose before after) (Stops tables) (λ cause. CreatesBy (models_at before) by (called_by call info) tables (Err cause) tables) why (λ risen. risen) (stopped info tables is) own.1,
         own.0,
       )) gives
 
+  -- the tables with the rows
+  abbrev New : Tables → Tables
+  New tables = with_rows (models_at before) (author_by call) call.model tables (rows_view rows)
+
   -- and those that are
   made_answer : (json : Data) → IsAtRest (models_at before) after.held
-      → ((tables : Tables) → HasTables before tables → (json ≡ ids_told asked (all_made (models_at before) call tables asked).ids)
-      × Stands after.kept after.held (settled_over (models_at before) tables (all_made (models_at before) call tables asked).tables))
-      → AnswersCreate call before after (Ok json)
+      → ((tables : Tables) → HasTables before tables → IsMadeBy (models_at before) by (author_by call) call.model tables (rows_view rows) json
+      × Stands after.kept after.held (settled_over (models_at before) tables (New tables)))
+      → AnswersFor by call before after (Ok json)
   made_answer json rest settled tables rests =
-      let (told, stands) = settled tables rests in
+      let (made, stands) = settled tables rests in
       let models = models_at before in
-      let new = (all_made models call tables asked).tables in
+      let new = New tables in
       let here : Stands after.kept after.held (settled_over after.held.models tables new) = subst (λ (ms : List ModelInfo). Stands after.kept after.held (settled_over ms tables new)) (sym rest.models_are) stands in
-      known_of (model_at models call.model) (λ info. rows_by (models_at before) call info ≡ Ok asked) (λ info. AnswersBy (Creates models (called_by call info)) before after tables (Ok json))
-      (λ info given. (new, record { asked = asked; given = given; tables = refl; sound = sound_in models tables new after.kept stands.over; answer = told }, here)) gives
+      known_of (model_at models call.model) (λ info. asked_by_call models call info ≡ Ok (rows_view rows)) (λ info. AnswersBy (CreatesBy models by (called_by call info)) before after tables (Ok json))
+      (λ info given. (
+        new,
+        record {
+          asked = rows_view rows;
+          given = given;
+          admissible = made.admissible;
+          tables = refl;
+          sound = sound_in models tables new after.kept stands.over;
+          admitted = made.admitted;
+          answer = made.answer;
+        },
+        here,
+      )) gives
 
   -- whatever came of them
   pub outcome_answer : (r : Result Json Refusal) → IsAtRest (models_at before) after.held
-      → IfOk r (λ json. (tables : Tables) → HasTables before tables → (view json ≡ ids_told asked (all_made (models_at before) call tables asked).ids)
-      × Stands after.kept after.held (settled_over (models_at before) tables (all_made (models_at before) call tables asked).tables))
-      → IfErr r (λ why. (tables : Tables) → HasTables before tables → HasTables after tables × Refuses (KeeperRose before after) (IsBrokenBy (models_at before) (all_made (models_at before) call tables asked).tables) why)
-      → AnswersCreate call before after (result_view r)
+      → IfOk r (λ json. (tables : Tables) → HasTables before tables → IsMadeBy (models_at before) by (author_by call) call.model tables (rows_view rows) (view json)
+      × Stands after.kept after.held (settled_over (models_at before) tables (New tables)))
+      → IfErr r (λ why. (tables : Tables) → HasTables before tables → HasTables after tables × Refuses (KeeperRose before after) (Stops tables) why)
+      → AnswersFor by call before after (result_view r)
   outcome_answer (Ok json) rest settled refused = made_answer (view json) rest settled
   outcome_answer (Err why) rest settled refused = unmade_answer why refused
 
-  -- what is broken has its cause
-  broken_cause : (info : ModelInfo) (w : Refusal) → BreaksField (models_at before) w → CreateCause (models_at before) (called_by call info) w
-  broken_cause info (refusal.Constraint b) h = h
-  broken_cause info _ h = absurd h
-
-  pub outcome_cause : (rose : Type 0) (r : Result Json Refusal) → IfErr r (Refuses rose (BreaksField (models_at before)))
-      → IfErr r (Refuses rose (λ w. IfSome (model_at (models_at before) call.model) (λ info. CreateCause (models_at before) (called_by call info) w)))
+  -- what stands against them has its cause
+  pub outcome_cause : (rose : Type 0) (r : Result Json Refusal) → IfErr r (Refuses rose (MayStopCreate (models_at before) by.policy.now call.caller call.model (rows_view rows)))
+      → IfErr r (CausesCreate by.policy.now call before rose)
   outcome_cause rose (Ok json) h = tt
   outcome_cause rose (Err why) h =
-      Refuses-weaker rose rose (BreaksField (models_at before)) (λ w. IfSome (model_at (models_at before) call.model) (λ info. CreateCause (models_at before) (called_by call info) w)) why (λ risen. risen)
-      (λ w broken. everywhere (model_at (models_at before) call.model) (λ info. CreateCause (models_at before) (called_by call info) w) (λ info. broken_cause info w broken)) h
+      Refuses-weaker rose rose (MayStopCreate (models_at before) by.policy.now call.caller call.model (rows_view rows))
+      (λ w. IfSome (model_at (models_at before) call.model) (λ info. CreateCause (models_at before) by.policy.now (called_by call info) w)) why (λ risen. risen)
+      (λ w may. known_of (model_at (models_at before) call.model) (λ info. asked_by_call (models_at before) call info ≡ Ok (rows_view rows)) (λ info. CreateCause (models_at before) by.policy.now (called_by call info) w)
+      (λ info is. subst (λ (r : Result Asked (List PathStep)). RefusesAsked (MayStopCreate (models_at before) by.policy.now call.caller call.model) r w) (sym is) may) gives) h

@@ -1,166 +1,150 @@
--- The rows that the objects of a list give, one after another.
-use Rattle.std.proofs.Common.{◌≡◌, ◌≤◌, ◌<◌, ◌+◌, ◌∷◌, [], ◌++◌, ℕ, List, drop, get_or, length, map, Option, Some, None, Result, Ok, Err, append-nil, append_assoc, true, refl, sym, ap, subst, ◌∙◌}
-use Rattle.std.specs.Prelude.{IfSome}
-use Rattle.std.proofs.lemmas.List.{drop_all, drop_more}
+-- What the objects of a create ask for, one behind another.
+use Rattle.std.proofs.Common.{◌≡◌, ◌<◌, ◌≤◌, ◌+◌, ◌∷◌, [], ◌++◌, ℕ, Bool, true, false, not, is_some, List, Vec, Global, get_or, length, map, take, Option, Some, None, append-nil, append_assoc, refl, sym, ap, ◌∙◌, arith}
+use Rattle.std.specs.Prelude.{IfOk, IfSome, Result, Ok, Err}
+use Rattle.std.specs.List.{flat_map}
+use Rattle.std.specs.Option.{option_or}
+use Rattle.std.proofs.lemmas.List.{length-map, length-take-le, map-append, take_all, take_more}
 use Rattle.serde_json.specs.Data.{Data, array}
 use Rattle.serde_json.specs.Find.{as_array}
 use Rattle.serde_json.specs.View.{items_view, view}
 use Rattle.serde_json.specs.declared.value.Value.{Value as Json}
-use Rattle.ob_base.specs.Chain.{◌>>=◌}
+use Rattle.ob_base.specs.declared.id.FieldNo.{FieldNo}
+use Rattle.ob_base.specs.declared.memory.NoMemory.{NoMemory}
 use Rattle.ob_base.specs.declared.place.PathStep.{PathStep}
 use Rattle.ob_base.specs.declared.place.PathStep.TheVariants.{Item}
-use Rattle.ob_base.specs.declared.refusal.Refusal.{Refusal}
-use Rattle.ob_base.specs.declared.refusal.Refusal.TheVariants as refusal
 use Rattle.ob_call.proofs.CallerLemmas.{listed-items_view}
 use Rattle.ob_call.specs.Arguments.{Given}
-use Rattle.ob_call.specs.Results.{IsResultOf}
 use Rattle.ob_schema.specs.declared.info.ModelInfo.{ModelInfo}
-use Rattle.ob_orm.specs.Create.{each_row, rows_in}
-use Rattle.ob_orm.specs.Objects.{items_at}
-use Rattle.ob_orm.specs.GivenValues.{given_from}
-use Rattle.ob_orm.specs.declared.creating.rows.Rows.{Rows}
-use Rattle.ob_orm.specs.declared.creating.rows.Rows.TheVariants as rows
-use Rattle.ob_orm.proofs.ObjectPlaces.{array_found}
+use Rattle.ob_orm.specs.Create.{Asked, asked_by, asked_in, wrong_among}
+use Rattle.ob_orm.specs.CreateSteps.{rows_view}
+use Rattle.ob_orm.specs.GivenValues.{GivenObject, object_from}
 use Rattle.ob_orm.specs.NewRows.{Values}
+use Rattle.ob_orm.specs.Objects.{items_at}
+use Rattle.ob_orm.specs.ObjectSteps.{object_view}
+use Rattle.ob_orm.specs.declared.creating.given.GivenObject.{GivenObject as Object}
+use Rattle.ob_orm.specs.declared.creating.rows.Rows.{Rows}
+use Rattle.ob_orm.proofs.ObjectPlaces.{array_found}
 
--- what comes behind rows
-abbrev pub behind : List Values → Result (List Values) (List PathStep) → Result (List Values) (List PathStep)
-behind each r = r >>= λ more. Ok (each ++ more)
+-- ---- one object more
 
-behind_none : (r : Result (List Values) (List PathStep)) → r ≡ behind [] r
-behind_none (Ok more) = refl
-behind_none (Err place) = refl
+or-none : {A : Type 0} (o : Option A) → option_or o None ≡ o
+or-none None = refl
+or-none (Some x) = refl
 
-behind_more : (each : List Values) (values : Values) (r : Result (List Values) (List PathStep)) → behind each (r >>= λ more. Ok (values ∷ more)) ≡ behind (each ++ values ∷ []) r
-behind_more each values (Ok more) = ap Ok (sym (append_assoc each (values ∷ []) more))
-behind_more each values (Err place) = refl
+or-assoc : {A : Type 0} (a b c : Option A) → option_or a (option_or b c) ≡ option_or (option_or a b) c
+or-assoc None b c = refl
+or-assoc (Some x) b c = refl
 
--- the refusal of a part refuses the whole
-pub refused-whole : {A B A' B' : Type 0} (of : A → B) (of' : A' → B') (why : Refusal) (part : Result B (List PathStep)) (whole : Result B' (List PathStep))
-    → ((place : List PathStep) → part ≡ Err place → whole ≡ Err place) → IsResultOf of (Err why) part → IsResultOf of' (Err why) whole
-refused-whole of of' (refusal.Request place) part whole up h = up place h
-refused-whole of of' refusal.NoMemory part whole up h = tt
-refused-whole of of' _ part whole up h = absurd h
+-- the first place that is wrong
+wrong-push : (objects : List GivenObject) (one : GivenObject) → wrong_among (objects ++ one ∷ []) ≡ option_or (wrong_among objects) one.wrong
+wrong-push [] one = or-none one.wrong
+wrong-push (object ∷ objects) one = ap (option_or object.wrong) (wrong-push objects one) ∙ or-assoc object.wrong (wrong_among objects) one.wrong
+
+-- the fields that keys name
+fields-push : (objects : List GivenObject) (one : GivenObject) → flat_map (λ object. object.fields) (objects ++ one ∷ []) ≡ flat_map (λ object. object.fields) objects ++ one.fields
+fields-push [] one = append-nil one.fields
+fields-push (object ∷ objects) one = ap (λ (fs : List FieldNo). object.fields ++ fs) (fields-push objects one) ∙ sym (append_assoc object.fields (flat_map (λ o. o.fields) objects) one.fields)
+
+-- what it asks for behind others
+abbrev pub with_object : Asked → GivenObject → Asked
+with_object asked one = record {
+  values = asked.values ++ one.values ∷ [];
+  fields = asked.fields ++ one.fields;
+  wrong = option_or asked.wrong one.wrong;
+  is_list = asked.is_list;
+}
+
+pub asked-push : (is_list : Bool) (objects : List GivenObject) (one : GivenObject) → with_object (asked_by is_list objects) one ≡ asked_by is_list (objects ++ one ∷ [])
+asked-push is_list objects one = λ i. record {
+  values = sym (map-append (λ (object : GivenObject). object.values) objects (one ∷ [])) i;
+  fields = sym (fields-push objects one) i;
+  wrong = sym (wrong-push objects one) i;
+  is_list = is_list;
+}
+
+-- the first of two places that are wrong
+pub first-taken : {A : Type 0} (old more : Option A) (b : Bool) → is_some old ≡ not b → b ≡ true → more ≡ option_or old more
+first-taken None more b is none = refl
+first-taken (Some x) more b is none = let wrong : true ≡ false = is ∙ ap not none in cc
+
+pub first-kept : {A : Type 0} (old more : Option A) (b : Bool) → is_some old ≡ not b → b ≡ false → old ≡ option_or old more
+first-kept None more b is some = let wrong : false ≡ true = is ∙ ap not some in cc
+first-kept (Some x) more b is some = refl
+
+-- it is added, as the code has it
+pub added : (old : Rows) (values : Vec Values Global) (fields : Vec FieldNo Global) (object : Object) (now : Rows) → values.items ≡ old.values.items ++ object.values ∷ []
+    → fields.items ≡ old.fields.items ++ object.fields.items → (wrong : Option (List PathStep)) → now ≡ record { values = values; fields = fields; wrong = wrong; is_list = old.is_list }
+    → wrong ≡ option_or old.wrong object.wrong → rows_view now ≡ with_object (rows_view old) (object_view object)
+added old values fields object now more named wrong is first =
+    ap rows_view is ∙ (λ i. record { values = more i; fields = named i; wrong = first i; is_list = old.is_list })
+
+-- ---- the items of a list
+
+items-push : (place : List PathStep) (n : ℕ) (ds : List Data) (d : Data) → items_at place n (ds ++ d ∷ []) ≡ items_at place n ds ++ record { place = place ++ Item (n + length ds) ∷ []; json = d } ∷ []
+items-push place n [] d = ap (λ (k : ℕ). record { place = place ++ Item k ∷ []; json = d } ∷ []) (let e : n ≡ n + 0 = omega arith in e)
+items-push place n (x ∷ ds) d =
+    ap (λ (gs : List Given). record { place = place ++ Item n ∷ []; json = x } ∷ gs) (items-push place (n + 1) ds d
+    ∙ ap (λ (k : ℕ). items_at place (n + 1) ds ++ record { place = place ++ Item k ∷ []; json = d } ∷ []) (let e : (n + 1) + length ds ≡ n + length (x ∷ ds) = omega arith in e))
 
 module _ (models : List ModelInfo) (place : List PathStep) (items : List Json) where
-  -- the objects from a number on, each at its place
-  abbrev pub from : ℕ → List Given
-  from i = items_at place i (map view (drop i items))
-
-  -- with what is left to give the rows are those of the list
-  pub record EachSoFar (info : ModelInfo) (i : ℕ) (each : List Values) : Type 0 where
-    pub same : each_row models info (items_at place 0 (map view items)) ≡ behind each (each_row models info (from i))
-
-  -- at first there are none
-  pub each_none : (info : ModelInfo) → EachSoFar info 0 []
-  each_none info = record { same = behind_none (each_row models info (items_at place 0 (map view items))) }
-
   -- the object at a number, and where it stands
   abbrev pub object_at : ℕ → Json → Given
   object_at i item = record { place = place ++ Item i ∷ []; json = view item }
 
-  -- before those that follow it
-  next : (info : ModelInfo) (i : ℕ) (item : Json) → i < length items → item ≡ get_or items i item
-      → each_row models info (from i) ≡ (given_from models info (object_at i item) >>= λ values. each_row models info (from (i + 1)) >>= λ more. Ok (values ∷ more))
-  next info i item lt is =
-      ap (λ (vs : List Json). each_row models info (items_at place i (map view vs))) (drop_more items i item lt ∙ ap (λ (v : Json). v ∷ drop (i + 1) items) (sym is))
+  -- what the first so many give
+  abbrev pub given_upto : ModelInfo → ℕ → List GivenObject
+  given_upto info i = map (object_from models info) (items_at place 0 (map view (take i items)))
 
-  -- one row more
-  each_more : (info : ModelInfo) (i : ℕ) (item : Json) (each : List Values) (values : Values) → i < length items → item ≡ get_or items i item → given_from models info (object_at i item) ≡ Ok values
-      → EachSoFar info i each → EachSoFar info (i + 1) (each ++ values ∷ [])
-  each_more info i item each values lt is gives far = record {
-    same = far.same
-        ∙ ap (behind each) (next info i item lt is ∙ ap (λ (r : Result Values (List PathStep)). r >>= λ values. each_row models info (from (i + 1)) >>= λ more. Ok (values ∷ more)) gives)
-        ∙ behind_more each values (each_row models info (from (i + 1)));
-  }
+  -- one more
+  pub given-more : (info : ModelInfo) (i : ℕ) (item : Json) → i < length items → item ≡ get_or items i item → given_upto info i ++ object_from models info (object_at i item) ∷ [] ≡ given_upto info (i + 1)
+  given-more info i item lt is =
+      let more : take (i + 1) items ≡ take i items ++ item ∷ [] = take_more items i item lt ∙ ap (λ (x : Json). take i items ++ x ∷ []) (sym is) in
+      let long : 0 + length (map view (take i items)) ≡ i = (let e = length-map (take i items) view ∙ length-take-le i items (omega arith) in omega (arith, e)) in
+      let all : items_at place 0 (map view (take (i + 1) items)) ≡ items_at place 0 (map view (take i items)) ++ object_at i item ∷ [] =
+      ap (λ (vs : List Json). items_at place 0 (map view vs)) more
+      ∙ ap (items_at place 0) (map-append view (take i items) (item ∷ []))
+      ∙ items-push place 0 (map view (take i items)) (view item)
+      ∙ ap (λ (k : ℕ). items_at place 0 (map view (take i items)) ++ record { place = place ++ Item k ∷ []; json = view item } ∷ []) long in
+      sym (ap (map (object_from models info)) all ∙ map-append (object_from models info) (items_at place 0 (map view (take i items))) (object_at i item ∷ []))
 
-  -- a value that is wrong refuses them all
-  each_refused : (info : ModelInfo) (i : ℕ) (item : Json) (each : List Values) (why : Refusal) → i < length items → item ≡ get_or items i item
-      → IsResultOf (λ (values : Values). values) (Err why) (given_from models info (object_at i item))
-      → EachSoFar info i each → IsResultOf (λ (all : List Values). all) (Err why) (each_row models info (items_at place 0 (map view items)))
-  each_refused info i item each why lt is wrong far =
-      refused-whole (λ (values : Values). values) (λ (all : List Values). all) why (given_from models info (object_at i item)) (each_row models info (items_at place 0 (map view items)))
-      (λ told e. far.same
-      ∙ ap (behind each) (next info i item lt is ∙ ap (λ (r : Result Values (List PathStep)). r >>= λ values. each_row models info (from (i + 1)) >>= λ more. Ok (values ∷ more)) e)) wrong
+  -- so what they ask for
+  pub listed-more : (o : Option ModelInfo) (i : ℕ) (item : Json) (before more : Asked) (one : GivenObject) → i < length items → item ≡ get_or items i item
+      → ((is_list : Bool) (given : List GivenObject) → before ≡ asked_by is_list given → more ≡ asked_by is_list (given ++ one ∷ []))
+      → IfSome o (λ info. one ≡ object_from models info (object_at i item)) → IfSome o (λ info. before ≡ asked_by true (given_upto info i))
+      → IfSome o (λ info. more ≡ asked_by true (given_upto info (i + 1)))
+  listed-more None i item before more one lt is adds own far = tt
+  listed-more (Some info) i item before more one lt is adds own far =
+      adds true (given_upto info i) far ∙ ap (λ (x : GivenObject). asked_by true (given_upto info i ++ x ∷ [])) own ∙ ap (asked_by true) (given-more info i item lt is)
 
-  -- at last they are the rows
-  each_all : (info : ModelInfo) (i : ℕ) (each : List Values) → length items ≤ i → EachSoFar info i each → each_row models info (items_at place 0 (map view items)) ≡ Ok each
-  each_all info i each past far =
-      far.same ∙ ap (λ (vs : List Json). behind each (each_row models info (items_at place i (map view vs)))) (drop_all i items past) ∙ ap Ok (append-nil each)
+  -- at last it is what all ask for
+  pub listed-all : (o : Option ModelInfo) (i : ℕ) (asked : Asked) → length items ≤ i → IfSome o (λ info. asked ≡ asked_by true (given_upto info i))
+      → IfSome o (λ info. asked ≡ asked_by true (map (object_from models info) (items_at place 0 (map view items))))
+  listed-all None i asked past far = tt
+  listed-all (Some info) i asked past far = far ∙ ap (λ (vs : List Json). asked_by true (map (object_from models info) (items_at place 0 (map view vs)))) (take_all i items past)
 
-  -- ---- of a model that may be there
+-- ---- what an argument asks for
 
-  abbrev pub SoFar : Option ModelInfo → ℕ → List Values → Type 0
-  SoFar o i each = IfSome o (λ info. EachSoFar info i each)
+module _ (models : List ModelInfo) (place : List PathStep) (d : Data) where
+  -- a list
+  asked-listed : (o : Option ModelInfo) (items : List Json) (asked : Asked) → Some (items_view items) ≡ as_array d
+      → IfSome o (λ info. asked ≡ asked_by true (map (object_from models info) (items_at place 0 (map view items)))) → IfSome o (λ info. asked ≡ asked_in models info place d)
+  asked-listed None items asked is h = tt
+  asked-listed (Some info) items asked is h =
+      h ∙ ap (λ (ds : List Data). asked_by true (map (object_from models info) (items_at place 0 ds))) (sym (listed-items_view items)) ∙ ap (asked_in models info place) (sym (array_found d (items_view items) is))
 
-  pub so_far-none : (o : Option ModelInfo) → SoFar o 0 []
-  so_far-none None = tt
-  so_far-none (Some info) = each_none info
+  pub listed-rows : (o : Option ModelInfo) (items : List Json) (r : Result Rows NoMemory) → Some (items_view items) ≡ as_array d
+      → IfOk r (λ rows. IfSome o (λ info. rows_view rows ≡ asked_by true (map (object_from models info) (items_at place 0 (map view items))))) → IfOk r (λ rows. IfSome o (λ info. rows_view rows ≡ asked_in models info place d))
+  listed-rows o items (Ok rows) is h = asked-listed o items (rows_view rows) is h
+  listed-rows o items (Err e) is h = tt
 
-  module _ (i : ℕ) (item : Json) (each : List Values) (lt : i < length items) (is : item ≡ get_or items i item) where
-    -- what the object gives
-    abbrev pub Gives : Option ModelInfo → Result Values Refusal → Type 0
-    Gives o r = IfSome o (λ info. IsResultOf (λ (values : Values). values) r (given_from models info (object_at i item)))
-
-    pub so_far-more : (o : Option ModelInfo) (values : Values) → Gives o (Ok values) → SoFar o i each → SoFar o (i + 1) (each ++ values ∷ [])
-    so_far-more None values gives far = tt
-    so_far-more (Some info) values gives far = each_more info i item each values lt is gives far
-
-    pub so_far-refused : (o : Option ModelInfo) (why : Refusal) → Gives o (Err why) → SoFar o i each
-        → IfSome o (λ info. IsResultOf (λ (all : List Values). all) (Err why) (each_row models info (items_at place 0 (map view items))))
-    so_far-refused None why gives far = tt
-    so_far-refused (Some info) why gives far = each_refused info i item each why lt is gives far
-
-  pub so_far-all : (o : Option ModelInfo) (i : ℕ) (each : List Values) → length items ≤ i → SoFar o i each
-      → IfSome o (λ info. IsResultOf (λ (all : List Values). all) (Ok each) (each_row models info (items_at place 0 (map view items))))
-  so_far-all None i each past far = tt
-  so_far-all (Some info) i each past far = each_all info i each past far
-
--- ---- the rows that an argument asks for
-
--- rows that were read are those of a list
-abbrev pub each_of : Result (List Values) Refusal → Result Rows Refusal
-each_of (Ok each) = Ok (rows.Each each)
-each_of (Err why) = Err why
-
--- values that were read are those of the one row
-abbrev pub one_of : Result Values Refusal → Result Rows Refusal
-one_of (Ok values) = Ok (rows.One values)
-one_of (Err why) = Err why
-
--- its result is what an argument asks for
-abbrev pub Asks : Result Rows Refusal → Result Rows (List PathStep) → Type 0
-Asks r meant = IsResultOf (λ (asked : Rows). asked) r meant
-
-asks-each : (r : Result (List Values) Refusal) (part : Result (List Values) (List PathStep)) → IsResultOf (λ (each : List Values). each) r part → Asks (each_of r) (part >>= λ each. Ok (rows.Each each))
-asks-each (Ok each) part h = ap (λ (m : Result (List Values) (List PathStep)). m >>= λ each. Ok (rows.Each each)) h
-asks-each (Err why) part h =
-    refused-whole (λ (each : List Values). each) (λ (asked : Rows). asked) why part (part >>= λ each. Ok (rows.Each each)) (λ place e. ap (λ (m : Result (List Values) (List PathStep)). m >>= λ each. Ok (rows.Each each)) e) h
-
-asks-one : (r : Result Values Refusal) (part : Result Values (List PathStep)) → IsResultOf (λ (values : Values). values) r part → Asks (one_of r) (part >>= λ values. Ok (rows.One values))
-asks-one (Ok values) part h = ap (λ (m : Result Values (List PathStep)). m >>= λ values. Ok (rows.One values)) h
-asks-one (Err why) part h =
-    refused-whole (λ (values : Values). values) (λ (asked : Rows). asked) why part (part >>= λ values. Ok (rows.One values)) (λ place e. ap (λ (m : Result Values (List PathStep)). m >>= λ values. Ok (rows.One values)) e) h
-
-module _ (models : List ModelInfo) where
   -- what is no list
-  alone : (info : ModelInfo) (place : List PathStep) (d : Data) → None ≡ as_array d → rows_in models info place d ≡ (given_from models info (record { place = place; json = d }) >>= λ given. Ok (rows.One given))
-  alone info place (array items) is = absurd cc
-  alone info place _ is = refl
+  alone : (info : ModelInfo) (e : Data) → None ≡ as_array e → asked_by false (object_from models info (record { place = place; json = e }) ∷ []) ≡ asked_in models info place e
+  alone info (array items) is = absurd cc
+  alone info _ is = refl
 
-  module _ (place : List PathStep) (d : Data) where
-    -- the rows of each object
-    pub rows-each : (o : Option ModelInfo) (items : List Json) (r : Result (List Values) Refusal) → Some (items_view items) ≡ as_array d
-        → IfSome o (λ info. IsResultOf (λ (each : List Values). each) r (each_row models info (items_at place 0 (map view items)))) → IfSome o (λ info. Asks (each_of r) (rows_in models info place d))
-    rows-each None items r is h = tt
-    rows-each (Some info) items r is h =
-        let meant : rows_in models info place d ≡ (each_row models info (items_at place 0 (map view items)) >>= λ each. Ok (rows.Each each)) =
-        ap (rows_in models info place) (array_found d (items_view items) is)
-        ∙ ap (λ (ds : List Data). each_row models info (items_at place 0 ds) >>= λ each. Ok (rows.Each each)) (listed-items_view items) in
-        subst (Asks (each_of r)) (sym meant) (asks-each r (each_row models info (items_at place 0 (map view items))) h)
-
-    -- the row of the one object
-    pub rows-one : (o : Option ModelInfo) (r : Result Values Refusal) → None ≡ as_array d → IfSome o (λ info. IsResultOf (λ (values : Values). values) r (given_from models info (record { place = place; json = d })))
-        → IfSome o (λ info. Asks (one_of r) (rows_in models info place d))
-    rows-one None r is h = tt
-    rows-one (Some info) r is h = subst (Asks (one_of r)) (sym (alone info place d is)) (asks-one r (given_from models info (record { place = place; json = d })) h)
+  -- one object
+  pub asked-alone : (o : Option ModelInfo) (asked none : Asked) (one : GivenObject) → None ≡ as_array d → none ≡ asked_by false []
+      → ((is_list : Bool) (given : List GivenObject) → none ≡ asked_by is_list given → asked ≡ asked_by is_list (given ++ one ∷ []))
+      → IfSome o (λ info. one ≡ object_from models info (record { place = place; json = d })) → IfSome o (λ info. asked ≡ asked_in models info place d)
+  asked-alone None asked none one is empty adds own = tt
+  asked-alone (Some info) asked none one is empty adds own = adds false [] empty ∙ ap (λ (x : GivenObject). asked_by false (x ∷ [])) own ∙ alone info d is

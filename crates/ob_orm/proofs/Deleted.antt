@@ -1,13 +1,11 @@
 -- Which rows a deletion takes, what keeps them, and what is left, from what its steps say.
-use Rattle.std.proofs.Common.{◌≡◌, ◌⊎◌, ◌↔◌, ◌<◌, inl, inr, ℕ, Bool, true, false, List, map, Option, Some, None, Result, Ok, Err, refl, sym, ap, subst, ◌∙◌, arith}
-use Rattle.std.specs.Prelude.{All, Any, Contains, IsSome, IsSomeAnd}
+use Rattle.std.proofs.Common.{◌≡◌, ◌↔◌, ◌<◌, inl, inr, ℕ, true, List, Option, refl, sym, subst, arith}
+use Rattle.std.specs.Prelude.{All, Any, Contains, IsSome}
 use Rattle.std.specs.BTreeSet as sorted
 use Rattle.std.proofs.lemmas.List.Elements.{All-contains, All-map, All-weaker}
 use Rattle.ob_base.specs.declared.id.Cell.{Cell}
 use Rattle.ob_base.specs.declared.id.ModelNo.{ModelNo}
-use Rattle.ob_base.specs.declared.id.RecId.{RecId}
 use Rattle.ob_base.specs.declared.id.RowKey.{RowKey}
-use Rattle.ob_base.specs.declared.refusal.Broken.{Broken}
 use Rattle.ob_base.specs.declared.refusal.BrokenKind.{BrokenKind}
 use Rattle.ob_base.specs.declared.refusal.BrokenKind.TheVariants as kind
 use Rattle.ob_base.specs.declared.refusal.Refusal.{Refusal}
@@ -19,9 +17,10 @@ use Rattle.ob_cache.specs.Stages.{IsKeptRelation, StandsOver, resting, settled_o
 use Rattle.ob_cache.specs.Standing.{Holding, RestsAt, Stands, Stays, max_next_id}
 use Rattle.ob_io.specs.Store.{Store}
 use Rattle.ob_orm.specs.CreateSteps.{BreaksField, IsBrokenBy}
-use Rattle.ob_orm.specs.Deletion.{AreLeft, Bars, BarsAs, IsDeleted, NamesRow, is_cascaded, is_named, row_of_cell}
-use Rattle.ob_orm.specs.DeletionSteps.{AreFit, BarsRow, BarsRowAs, Covers, IsFitCell, RestrictsBy, SettlesDeletion, IsBarredBy, IsDeletion, IsFitRow, IsMakingNone, IsRestricting, IsStoppedBy, MayAllGo, MayGo, deletion_edits, gone_edits, has_cell, has_key}
-use Rattle.ob_orm.specs.Unlink.{AreDeleted, StopsDeletion, rows_named}
+use Rattle.ob_orm.specs.Deletion.{AreLeft, BarsAs, IsDeleted, is_cascaded, is_named, row_of_cell}
+use Rattle.ob_orm.specs.DeletionSteps.{AreFit, BarsRow, BarsRowAs, Covers, IsFitCell, RestrictsBy, SettlesDeletion, IsBarredBy, IsDeletion, IsFitRow, IsMakingNone, IsRestricting, IsStoppedBy, MayAllGo, MayGo, deletion_edits, gone_edits, has_key}
+use Rattle.ob_orm.specs.Unlink.{AreDeleted}
+use Rattle.ob_orm.specs.Rights.{rows_named}
 use Rattle.ob_orm.specs.Write.{AreThere}
 use Rattle.ob_orm.proofs.Contained.{all_among, any_one, contains-map}
 use Rattle.ob_orm.proofs.Emptied.{emptied, row-of-kept}

@@ -1,29 +1,24 @@
 -- Rows and cells that a relation of the registry leads to are of the registry.
-use Rattle.std.proofs.Common.{◌≡◌, ◌⊎◌, ◌↔◌, ◌&&◌, ◌≤◌, ◌<◌, ◌-◌, ◌^◌, inl, inr, ℕ, Bool, true, false, cond, not, List, [], Option, Some, None, refl, sym, ap, subst, ◌∙◌, arith}
-use Rattle.std.specs.Prelude.{All, Any, Contains, IsSome, IsSomeAnd, is_some, is_none, option_and_then}
+use Rattle.std.proofs.Common.{◌≡◌, ◌⊎◌, ◌↔◌, ◌≤◌, ◌<◌, ◌-◌, ◌^◌, inl, inr, ℕ, true, List, [], Option, sym, ap, subst, ◌∙◌, arith}
+use Rattle.std.specs.Prelude.{All, Contains, is_some}
 use Rattle.std.specs.BTreeSet as sorted
 use Rattle.std.proofs.lemmas.List.Elements.{All-contains}
 use Rattle.ob_base.specs.Limits.{max_id}
 use Rattle.ob_base.specs.declared.id.Cell.{Cell}
-use Rattle.ob_base.specs.declared.id.FieldNo.{FieldNo}
 use Rattle.ob_base.specs.declared.id.ModelNo.{ModelNo}
 use Rattle.ob_base.specs.declared.id.RecId.{RecId}
 use Rattle.ob_base.specs.declared.id.RowKey.{RowKey}
 use Rattle.ob_cache.specs.Stages.{IsKeptRelation}
-use Rattle.ob_definition.specs.Types.{is_relation}
-use Rattle.ob_orm.specs.DeletionSteps.{AddsCells, AreFit, IsFitCell, IsFitRow, IsRelation, LeadsBy, TakesBy, TakesMore, cell_by, has_cell, has_key}
+use Rattle.ob_orm.specs.DeletionSteps.{AddsCells, AreFit, IsFitCell, IsFitRow, IsRelation, LeadsBy, TakesBy, TakesMore, has_cell, has_key}
 use Rattle.ob_orm.specs.declared.unlinking.relations.KeptRelation.{KeptRelation}
-use Rattle.ob_orm.specs.Unlink.{rows_named}
+use Rattle.ob_orm.specs.Rights.{rows_named}
 use Rattle.ob_orm.proofs.Contained.{contains-map}
 use Rattle.ob_orm.proofs.NamingRows.{RelationAt, relation-at}
 use Rattle.ob_orm.proofs.TakenMore.{OfRelation}
 use Rattle.ob_orm.proofs.TakenRows.{no_cell}
-use Rattle.ob_schema.specs.Fields.{is_plain_kept}
-use Rattle.ob_schema.specs.Models.{FieldHas, HasModel, IsRegistry, field_at, fields_of, model_at}
-use Rattle.ob_schema.specs.Built.{numbered}
+use Rattle.ob_schema.specs.Models.{FieldHas, HasModel, IsRegistry, field_at}
 use Rattle.ob_schema.specs.Plain.{naming}
 use Rattle.ob_schema.specs.Tables.{Tables}
-use Rattle.ob_schema.specs.declared.info.FieldInfo.{FieldInfo}
 use Rattle.ob_schema.specs.declared.info.ModelInfo.{ModelInfo}
 use Rattle.ob_tables.proofs.CallerLemmas.{Field-at, tell_and}
 use Rattle.ob_tables.specs.Fitting.{IsFitId}

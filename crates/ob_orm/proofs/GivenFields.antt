@@ -1,12 +1,14 @@
--- The values that an object gives a row that is made, field by field.
-use Rattle.std.proofs.Common.{◌≡◌, ℕ, suc, ◌+◌, ◌<◌, ◌≤◌, Bool, true, false, cond, not, List, [], ◌∷◌, ◌++◌, ◌&&◌, ◌||◌, length, get_or, drop, Option, None, Some, option_map, Result, Ok, Err, append-nil, Bor, refl, sym, ap, subst, ◌∙◌, arith}
-use Rattle.std.specs.Prelude.{All, IfSome, IsSomeAnd, slice_get}
+-- What an object gives a row, field by field.
+use Rattle.std.proofs.Common.{◌≡◌, ℕ, suc, ◌+◌, ◌<◌, ◌≤◌, Bool, true, false, cond, not, List, [], ◌∷◌, ◌++◌, ◌&&◌, ◌||◌, length, drop, Option, None, Some, option_map, Result, Ok, Err, append-nil, append_assoc, Bor, refl, sym, ap, subst, ◌∙◌, arith}
+use Rattle.std.specs.Prelude.{All, IfOk, IfSome, IsSomeAnd, slice_get}
 use Rattle.std.specs.List.{enumerate_from}
-use Rattle.std.specs.Option.{option_map_or}
-use Rattle.std.proofs.lemmas.Bool.{and_parts, false≢true, not-true, or_parts}
+use Rattle.std.specs.Option.{option_map_or, option_or}
+use Rattle.std.specs.Result.{result_err}
+use Rattle.std.proofs.lemmas.Bool.{and_parts, not-true, or_parts}
 use Rattle.std.proofs.lemmas.List.{drop_all, drop_more}
-use Rattle.std.proofs.lemmas.List.Elements.{All-nil, All-push}
+use Rattle.std.proofs.lemmas.List.Elements.{All-append, All-nil, All-push}
 use Rattle.std.proofs.lemmas.Option.{get_or_from_slice_get, same_Some, slice_get_within}
+use Rattle.std.proofs.lemmas.Result.{IfOk-weaker}
 use Rattle.serde_json.proofs.Views.{Entry}
 use Rattle.serde_json.specs.Data.{Data, Members, object}
 use Rattle.serde_json.specs.Find.{as_object, get_member}
@@ -22,6 +24,7 @@ use Rattle.ob_base.specs.declared.refusal.Refusal.TheVariants as refusal
 use Rattle.ob_base.specs.declared.value.Value.{Value}
 use Rattle.ob_base.specs.declared.value.Value.TheVariants as value
 use Rattle.ob_call.proofs.CallerLemmas.{slice_get-before}
+use Rattle.ob_call.specs.Arguments.{Given}
 use Rattle.ob_call.specs.Results.{IsResultOf}
 use Rattle.ob_codec.proofs.CallerLemmas.{HasType-from_IsValueOf}
 use Rattle.ob_codec.specs.JsonForm.{value_from}
@@ -30,20 +33,19 @@ use Rattle.ob_definition.specs.Values.{IsValueOf}
 use Rattle.ob_definition.specs.declared.field_type.Choice.{Choice}
 use Rattle.ob_definition.specs.declared.field_type.FieldType.{FieldType}
 use Rattle.ob_definition.specs.declared.field_type.FieldType.TheVariants as type
-use Rattle.ob_schema.specs.Fields.{Column, HasFieldType, Holds, IsGivable, columns, is_plain_kept}
-use Rattle.ob_schema.specs.Models.{FieldHas, HasKeysOf, IsField, IsModel, IsOriginIn, field_at, fields_of, model_at}
+use Rattle.ob_schema.specs.Fields.{Column, Holds, IsGivable, columns, is_plain_kept}
+use Rattle.ob_schema.specs.Models.{HasKeysOf, IsField, IsModel, IsOriginIn, field_at, fields_of, model_at}
 use Rattle.ob_schema.specs.declared.info.FieldInfo.{FieldInfo}
 use Rattle.ob_schema.specs.declared.info.ModelInfo.{ModelInfo}
 use Rattle.ob_schema.specs.declared.info.Origin.{Origin}
 use Rattle.ob_schema.specs.declared.info.Origin.TheVariants as origin
-use Rattle.ob_orm.specs.GivenValues.{given_from, given_values, set_by}
+use Rattle.ob_orm.specs.GivenValues.{GivenObject, formed, formed_values, given_to, keyed_fields, object_from, set_by, wrong_value}
 use Rattle.ob_orm.specs.NewRows.{Values}
 use Rattle.ob_orm.specs.NewRowSteps.{HasTargetKeys, HasTargetKeysFrom, IsLowRef, IsTyped}
 use Rattle.ob_orm.specs.RowValues.{given_value, members_of, placed, valued}
 use Rattle.ob_orm.specs.Values.{is_free, is_settable, is_settable_from, new_values_fault}
 use Rattle.ob_orm.proofs.CreateFields.{All-at, step_in, tell, told}
-use Rattle.ob_orm.proofs.RowValue.{FoundAt, IsResultOf-some, found, some_of}
-use Rattle.ob_orm.proofs.RowValues.{behind, behind_more, behind_none, behind_same}
+use Rattle.ob_orm.proofs.RowValue.{FoundAt, found}
 
 -- ---- what is known of a field
 
@@ -104,22 +106,31 @@ holds-typed models model number f v at holds = (
 -- ---- the value of one field
 
 module _ (models : List ModelInfo) (place : List PathStep) (ms : Members) where
-  -- what the members give it
-  abbrev pub given_to : FieldInfo → Result (Option Value) (List PathStep)
-  given_to field = given_value false (place ++ Key field.name ∷ []) field (set_by models ms field)
+  -- what it is read from
+  abbrev read : FieldInfo → Data → Result Value (List PathStep)
+  read field d = placed (place ++ Key field.name ∷ []) (value_from field.field_type field.selection d)
+
+  meant : (f : FieldInfo) (d : Data) → Some d ≡ set_by models ms f → given_to models place ms f ≡ (read f d >>= λ v. Ok (Some v))
+  meant f d at = ap (given_value false (place ++ Key f.name ∷ []) f) (sym at)
 
   -- as it was read
-  pub given-some : (o : Option FieldInfo) (f : FieldInfo) (d : Data) (r : Result Value Refusal) → o ≡ Some f → Some d ≡ set_by models ms f
-      → IfSome o (λ field. IsResultOf (λ w. w) r (placed (place ++ Key field.name ∷ []) (value_from field.field_type field.selection d))) → IfSome o (λ field. IsResultOf (λ w. w) (some_of r) (given_to field))
-  given-some o f d r is at given =
-      let read = placed (place ++ Key f.name ∷ []) (value_from f.field_type f.selection d) in
-      let own : IsResultOf (λ w. w) r read = told o f (λ field. IsResultOf (λ w. w) r (placed (place ++ Key field.name ∷ []) (value_from field.field_type field.selection d))) is given in
-      let meant : given_to f ≡ (read >>= λ v. Ok (Some v)) = ap (given_value false (place ++ Key f.name ∷ []) f) (sym at) in
-      tell o f (λ field. IsResultOf (λ w. w) (some_of r) (given_to field)) is (subst (λ (m : Result (Option Value) (List PathStep)). IsResultOf (λ w. w) (some_of r) m) (sym meant) (IsResultOf-some r read own))
+  pub given-value : (o : Option FieldInfo) (f : FieldInfo) (d : Data) (v : Value) → o ≡ Some f → Some d ≡ set_by models ms f
+      → IfSome o (λ field. placed (place ++ Key field.name ∷ []) (value_from field.field_type field.selection d) ≡ Ok v) → IfSome o (λ field. Ok (Some v) ≡ given_to models place ms field)
+  given-value o f d v is at given =
+      let own : read f d ≡ Ok v = told o f (λ field. placed (place ++ Key field.name ∷ []) (value_from field.field_type field.selection d) ≡ Ok v) is given in
+      tell o f (λ field. Ok (Some v) ≡ given_to models place ms field) is (sym (meant f d at ∙ ap (λ (r : Result Value (List PathStep)). r >>= λ w. Ok (Some w)) own))
+
+  -- where it is wrong
+  pub given-wrong : (o : Option FieldInfo) (f : FieldInfo) (d : Data) (wrong : List PathStep) (r : Result Value Refusal) → o ≡ Some f → Some d ≡ set_by models ms f → r ≡ Err (refusal.Request wrong)
+      → IfSome o (λ field. IsResultOf (λ w. w) r (placed (place ++ Key field.name ∷ []) (value_from field.field_type field.selection d))) → IfSome o (λ field. Err wrong ≡ given_to models place ms field)
+  given-wrong o f d wrong r is at refused given =
+      let here : IsResultOf (λ (w : Value). w) r (read f d) = told o f (λ field. IsResultOf (λ (w : Value). w) r (placed (place ++ Key field.name ∷ []) (value_from field.field_type field.selection d))) is given in
+      let own : read f d ≡ Err wrong = subst (λ (q : Result Value Refusal). IsResultOf (λ (w : Value). w) q (read f d)) refused here in
+      tell o f (λ field. Err wrong ≡ given_to models place ms field) is (sym (meant f d at ∙ ap (λ (q : Result Value (List PathStep)). q >>= λ w. Ok (Some w)) own))
 
   -- or nothing
-  pub given-none : (o : Option FieldInfo) (f : FieldInfo) → o ≡ Some f → None ≡ set_by models ms f → IfSome o (λ field. given_to field ≡ Ok None)
-  given-none o f is at = tell o f (λ field. given_to field ≡ Ok None) is (ap (given_value false (place ++ Key f.name ∷ []) f) (sym at))
+  pub given-none : (o : Option FieldInfo) (f : FieldInfo) → o ≡ Some f → None ≡ set_by models ms f → IfSome o (λ field. Ok None ≡ given_to models place ms field)
+  given-none o f is at = tell o f (λ field. Ok None ≡ given_to models place ms field) is (sym (ap (given_value false (place ++ Key f.name ∷ []) f) (sym at)))
 
   -- ---- one field behind another
 
@@ -132,89 +143,93 @@ module _ (models : List ModelInfo) (place : List PathStep) (ms : Members) where
       ap (enumerate_from (suc i)) (drop_more info.fields i f (slice_get_within info.fields i f at) ∙ ap (λ (g : FieldInfo). g ∷ drop (i + 1) info.fields) (get_or_from_slice_get info.fields i f f at))
       ∙ ap (λ (n : ℕ). (suc i, f) ∷ enumerate_from n (drop (i + 1) info.fields)) (let e : suc i + 1 ≡ suc (i + 1) = omega arith in e)
 
+  or_assoc : (a b c : Option (List PathStep)) → option_or a (option_or b c) ≡ option_or (option_or a b) c
+  or_assoc None b c = refl
+  or_assoc (Some x) b c = refl
+
   module _ (model : ModelNo) (info : ModelInfo) where
-    -- with what is left to give the values are those of the object
-    pub record GivenSoFar (i : ℕ) (values : Values) : Type 0 where
-      pub same : given_values models place ms (columns info) ≡ behind values (given_values models place ms (fields_from info i))
+    -- with what is left to give the values and the first wrong place are those of the object
+    pub record GivenSoFar (i : ℕ) (values : Values) (wrong : Option (List PathStep)) : Type 0 where
+      pub same : formed_values models place ms (columns info) ≡ values ++ formed_values models place ms (fields_from info i)
+      pub first : wrong_value models place ms (columns info) ≡ option_or wrong (wrong_value models place ms (fields_from info i))
       pub typed : All (IsTyped models model) values
 
-    pub given_none : GivenSoFar 0 []
-    given_none = record { same = behind_none (given_values models place ms (columns info)); typed = All-nil (IsTyped models model) }
+    given_nothing : GivenSoFar 0 [] None
+    given_nothing = record { same = refl; first = refl; typed = All-nil (IsTyped models model) }
+
+    -- a value that is given has the field's type
+    valued-typed : (i : ℕ) (f : FieldInfo) (r : Result (Option Value) (List PathStep)) → field_at models model (record { 0 = i + 1 }) ≡ Some f → IfOk r (λ value. IfSome value (Holds f))
+        → All (IsTyped models model) (valued (record { 0 = i + 1 }) (formed r))
+    valued-typed i f (Ok None) own holds = All-nil (IsTyped models model)
+    valued-typed i f (Ok (Some v)) own holds = All-push (IsTyped models model) [] (record { 0 = i + 1 }, v) (All-nil (IsTyped models model)) (holds-typed models model (record { 0 = i + 1 }) f v own holds)
+    valued-typed i f (Err e) own holds = All-nil (IsTyped models model)
 
     -- one more field
-    next : (i : ℕ) (f : FieldInfo) (values : Values) → slice_get info.fields i ≡ Some f → GivenSoFar i values
-        → given_values models place ms (columns info) ≡ behind values (given_to f >>= λ own. given_values models place ms (fields_from info (i + 1)) >>= λ rest. Ok (valued (record { 0 = i + 1 }) own ++ rest))
-    next i f values at far =
-        far.same ∙ ap (λ (cs : List Column). behind values (given_values models place ms cs)) (fields-more info i f at)
-        ∙ ap (λ (n : ℕ). behind values (given_to f >>= λ own. given_values models place ms (fields_from info (i + 1)) >>= λ rest. Ok (valued (record { 0 = n }) own ++ rest))) (let e : suc i ≡ i + 1 = omega arith in e)
-
-    -- which is given a value or none
-    pub given_next : (i : ℕ) (f : FieldInfo) (values : Values) (got : Option Value) → slice_get info.fields i ≡ Some f → field_at models model (record { 0 = i + 1 }) ≡ Some f → given_to f ≡ Ok got → IfSome got (Holds f)
-        → GivenSoFar i values → GivenSoFar (i + 1) (values ++ valued (record { 0 = i + 1 }) got)
-    given_next i f values None at own is holds far =
-        let rest = given_values models place ms (fields_from info (i + 1)) in
-        subst (GivenSoFar (i + 1)) (sym (append-nil values)) (record {
-          same = next i f values at far ∙ ap (λ (r : Result (Option Value) (List PathStep)). behind values (r >>= λ own. rest >>= λ more. Ok (valued (record { 0 = i + 1 }) own ++ more))) is ∙ behind_same values rest;
-          typed = far.typed;
-        })
-    given_next i f values (Some v) at own is holds far =
-        let number : FieldNo = record { 0 = i + 1 } in
-        let rest = given_values models place ms (fields_from info (i + 1)) in
+    given_next : (i : ℕ) (f : FieldInfo) (values : Values) (wrong : Option (List PathStep)) → slice_get info.fields i ≡ Some f → field_at models model (record { 0 = i + 1 }) ≡ Some f
+        → IfOk (given_to models place ms f) (λ value. IfSome value (Holds f)) → GivenSoFar i values wrong
+        → GivenSoFar (i + 1) (values ++ valued (record { 0 = i + 1 }) (formed (given_to models place ms f))) (option_or wrong (result_err (given_to models place ms f)))
+    given_next i f values wrong at own holds far =
+        let number : suc i ≡ i + 1 = omega arith in
+        let rest = fields_from info (i + 1) in
+        let one = formed (given_to models place ms f) in
         record {
-          same = next i f values at far ∙ ap (λ (r : Result (Option Value) (List PathStep)). behind values (r >>= λ own. rest >>= λ more. Ok (valued number own ++ more))) is ∙ behind_more values (number, v) rest;
-          typed = All-push (IsTyped models model) values (number, v) far.typed (holds-typed models model number f v own holds);
+          same = far.same ∙ ap (λ (cs : List Column). values ++ formed_values models place ms cs) (fields-more info i f at)
+              ∙ ap (λ (n : ℕ). values ++ (valued (record { 0 = n }) one ++ formed_values models place ms rest)) number
+              ∙ sym (append_assoc values (valued (record { 0 = i + 1 }) one) (formed_values models place ms rest));
+          first = far.first ∙ ap (λ (cs : List Column). option_or wrong (wrong_value models place ms cs)) (fields-more info i f at)
+              ∙ or_assoc wrong (result_err (given_to models place ms f)) (wrong_value models place ms rest);
+          typed = All-append (IsTyped models model) values (valued (record { 0 = i + 1 }) one) far.typed (valued-typed i f (given_to models place ms f) own holds);
         }
 
-    -- a value that is wrong refuses the object
-    pub given_refused : (i : ℕ) (f : FieldInfo) (values : Values) (why : Refusal) → slice_get info.fields i ≡ Some f → IsResultOf (λ (v : Option Value). v) (Err why) (given_to f) → GivenSoFar i values
-        → {Of : Type 0} (of : Of → Values) → IsResultOf of (Err why) (given_values models place ms (columns info))
-    given_refused i f values (refusal.Request e) at wrong far of =
-        next i f values at far
-        ∙ ap (λ (r : Result (Option Value) (List PathStep)). behind values (r >>= λ own. given_values models place ms (fields_from info (i + 1)) >>= λ rest. Ok (valued (record { 0 = i + 1 }) own ++ rest))) wrong
-    given_refused i f values refusal.NoMemory at wrong far of = tt
-    given_refused i f values _ at wrong far of = absurd wrong
-
     -- at last they are the object's
-    pub given_all : (i : ℕ) (values : Values) → length info.fields ≤ i → GivenSoFar i values → given_values models place ms (columns info) ≡ Ok values
-    given_all i values past far =
-        let none : fields_from info i ≡ [] = ap (enumerate_from (suc i)) (drop_all i info.fields past) in
-        far.same ∙ ap (λ (cs : List Column). behind values (given_values models place ms cs)) none ∙ ap Ok (append-nil values)
+    given_all : (i : ℕ) (values : Values) (wrong : Option (List PathStep)) → length info.fields ≤ i → GivenSoFar i values wrong
+        → (values ≡ formed_values models place ms (columns info)) × (wrong ≡ wrong_value models place ms (columns info))
+    given_all i values wrong past far =
+        let none : fields_from info i ≡ [] = ap (enumerate_from (suc i)) (drop_all i info.fields past) in (
+          sym (far.same ∙ ap (λ (cs : List Column). values ++ formed_values models place ms cs) none ∙ append-nil values),
+          sym (far.first ∙ ap (λ (cs : List Column). option_or wrong (wrong_value models place ms cs)) none ∙ or_none wrong),
+        )
+      where
+        or_none : (o : Option (List PathStep)) → option_or o None ≡ o
+        or_none None = refl
+        or_none (Some x) = refl
 
   -- ---- as the steps say it
 
   module _ (model : ModelNo) (info : ModelInfo) (is : model_at models model ≡ Some info) where
     -- so far
-    abbrev pub SoFar : ℕ → Values → Type 0
-    SoFar n values = IfSome (model_at models model) (λ own. GivenSoFar model own n values)
+    abbrev pub SoFar : ℕ → Values → Option (List PathStep) → Type 0
+    SoFar n values wrong = IfSome (model_at models model) (λ own. GivenSoFar model own n values wrong)
 
-    known : (n : ℕ) (values : Values) → SoFar n values → GivenSoFar model info n values
-    known n values far = told (model_at models model) info (λ own. GivenSoFar model own n values) is far
+    known : (n : ℕ) (values : Values) (wrong : Option (List PathStep)) → SoFar n values wrong → GivenSoFar model info n values wrong
+    known n values wrong far = told (model_at models model) info (λ own. GivenSoFar model own n values wrong) is far
 
-    pub so_far-none : SoFar 0 []
-    so_far-none = tell (model_at models model) info (λ own. GivenSoFar model own 0 []) is (given_none model info)
+    pub so_far-none : (values : Values) (wrong : Option (List PathStep)) → values ≡ [] → wrong ≡ None → SoFar 0 values wrong
+    so_far-none values wrong none right =
+        tell (model_at models model) info (λ own. GivenSoFar model own 0 values wrong) is
+        (subst (λ (vs : Values). GivenSoFar model info 0 vs wrong) (sym none) (subst (GivenSoFar model info 0 []) (sym right) (given_nothing model info)))
 
-    module _ (i : ℕ) (lt : i < length info.fields) where
-      pub so_far-more : (values more : Values) (got : Option Value) → IfSome (field_at models model (record { 0 = i + 1 })) (λ field. given_to field ≡ Ok got)
-          → IfSome (field_at models model (record { 0 = i + 1 })) (λ field. IfSome got (Holds field)) → more ≡ values ++ valued (record { 0 = i + 1 }) got → SoFar i values → SoFar (i + 1) more
-      so_far-more values more got means holds pushed far =
-          let there = step_in models model info i is lt in
-          let o = field_at models model (record { 0 = i + 1 }) in
-          tell (model_at models model) info (λ own. GivenSoFar model own (i + 1) more) is
-          (subst (GivenSoFar model info (i + 1)) (sym pushed) (given_next model info i there.f values got there.field_is there.at (told o there.f (λ field. given_to field ≡ Ok got) there.at means)
-          (told o there.f (λ field. IfSome got (Holds field)) there.at holds) (known i values far)))
+    pub so_far-more : (i : ℕ) → i < length info.fields → (values more : Values) (wrong still : Option (List PathStep)) (given : Result (Option Value) (List PathStep))
+        → IfSome (field_at models model (record { 0 = i + 1 })) (λ field. given ≡ given_to models place ms field)
+        → IfOk given (λ value. IfSome (field_at models model (record { 0 = i + 1 })) (λ field. IfSome value (Holds field)))
+        → more ≡ values ++ valued (record { 0 = i + 1 }) (formed given) → still ≡ option_or wrong (result_err given) → SoFar i values wrong → SoFar (i + 1) more still
+    so_far-more i lt values more wrong still given means holds pushed noted far =
+        let there = step_in models model info i is lt in
+        let o = field_at models model (record { 0 = i + 1 }) in
+        let same : given ≡ given_to models place ms there.f = told o there.f (λ field. given ≡ given_to models place ms field) there.at means in
+        let own : IfOk given (λ value. IfSome value (Holds there.f)) = IfOk-weaker given _ _ (λ value h. told o there.f (λ field. IfSome value (Holds field)) there.at h) holds in
+        let next = given_next model info i there.f values wrong there.field_is there.at (subst (λ (r : Result (Option Value) (List PathStep)). IfOk r (λ value. IfSome value (Holds there.f))) same own) (known i values wrong far) in
+        tell (model_at models model) info (λ own. GivenSoFar model own (i + 1) more still) is
+        (subst (λ (vs : Values). GivenSoFar model info (i + 1) vs still) (sym (pushed ∙ ap (λ (r : Result (Option Value) (List PathStep)). values ++ valued (record { 0 = i + 1 }) (formed r)) same))
+        (subst (GivenSoFar model info (i + 1) (values ++ valued (record { 0 = i + 1 }) (formed (given_to models place ms there.f)))) (sym (noted ∙ ap (λ (r : Result (Option Value) (List PathStep)). option_or wrong (result_err r)) same)) next))
 
-      pub so_far-refused : (values : Values) (why : Refusal) → IfSome (field_at models model (record { 0 = i + 1 })) (λ field. IsResultOf (λ (v : Option Value). v) (Err why) (given_to field)) → SoFar i values
-          → {Of : Type 0} (of : Of → Values) → IfSome (model_at models model) (λ own. IsResultOf of (Err why) (given_values models place ms (columns own)))
-      so_far-refused values why means far of =
-          let there = step_in models model info i is lt in
-          tell (model_at models model) info (λ own. IsResultOf of (Err why) (given_values models place ms (columns own))) is
-          (given_refused model info i there.f values why there.field_is (told (field_at models model (record { 0 = i + 1 })) there.f (λ field. IsResultOf (λ (v : Option Value). v) (Err why) (given_to field)) there.at means) (known i values far) of)
+    pub so_far-all : (i : ℕ) (values : Values) (wrong : Option (List PathStep)) → length info.fields ≤ i → SoFar i values wrong
+        → IfSome (model_at models model) (λ own. (values ≡ formed_values models place ms (columns own)) × (wrong ≡ wrong_value models place ms (columns own)))
+    so_far-all i values wrong past far =
+        tell (model_at models model) info (λ own. (values ≡ formed_values models place ms (columns own)) × (wrong ≡ wrong_value models place ms (columns own))) is (given_all model info i values wrong past (known i values wrong far))
 
-    pub so_far-all : (i : ℕ) (values : Values) → length info.fields ≤ i → SoFar i values → IfSome (model_at models model) (λ own. given_values models place ms (columns own) ≡ Ok values)
-    so_far-all i values past far = tell (model_at models model) info (λ own. given_values models place ms (columns own) ≡ Ok values) is (given_all model info i values past (known i values far))
-
-    pub so_far-typed : (i : ℕ) (values : Values) → SoFar i values → All (IsTyped models model) values
-    so_far-typed i values far = (known i values far).typed
+    pub so_far-typed : (i : ℕ) (values : Values) (wrong : Option (List PathStep)) → SoFar i values wrong → All (IsTyped models model) values
+    so_far-typed i values wrong far = (known i values wrong far).typed
 
 -- ---- the object
 
@@ -227,13 +242,17 @@ object_of models fields _ right = absurd cc
 pub no_members_of : (models : List ModelInfo) (fields : List FieldInfo) (d : Data) → new_values_fault models fields d ≡ None → None ≡ as_object d → ⊥
 no_members_of models fields d right found = let (ms, json) = object_of models fields d right in let wrong : None ≡ Some ms = found ∙ ap as_object json in cc
 
--- the values of its members are those that it gives
-pub given_of_members : {Of : Type 0} (o : Option ModelInfo) (models : List ModelInfo) (fields : List FieldInfo) (place : List PathStep) (d : Data) (ms : Members) (of : Of → Values) (r : Result Of Refusal)
-    → new_values_fault models fields d ≡ None → Some ms ≡ as_object d → IfSome o (λ info. IsResultOf of r (given_values models place ms (columns info))) → IfSome o (λ info. IsResultOf of r (given_from models info (record { place = place; json = d })))
-given_of_members None models fields place d ms of r right found h = tt
-given_of_members (Some info) models fields place d ms of r right found h =
+-- what its members give is what it gives
+pub given_of_members : (o : Option ModelInfo) (models : List ModelInfo) (fields : List FieldInfo) (place : List PathStep) (d : Data) (ms : Members) (given : GivenObject)
+    → new_values_fault models fields d ≡ None → Some ms ≡ as_object d → IfSome o (λ info. given.fields ≡ keyed_fields info.fields ms)
+    → IfSome o (λ info. (given.values ≡ formed_values models place ms (columns info)) × (given.wrong ≡ wrong_value models place ms (columns info)))
+    → IfSome o (λ info. given ≡ object_from models info (record { place = place; json = d }))
+given_of_members None models fields place d ms given right found keyed values = tt
+given_of_members (Some info) models fields place d ms given right found keyed values =
     let (held, json) = object_of models fields d right in
-    let members : ms ≡ held = same_Some ms held (found ∙ ap as_object json) in
-    let meant : given_values models place ms (columns info) ≡ given_from models info (record { place = place; json = d }) =
-    ap (λ (m : Members). given_values models place m (columns info)) members ∙ sym (ap (λ (e : Data). given_values models place (members_of e) (columns info)) json) in
-    subst (λ (m : Result Values (List PathStep)). IsResultOf of r m) meant h
+    let members : ms ≡ members_of d = same_Some ms held (found ∙ ap as_object json) ∙ sym (ap members_of json) in
+    λ i. record {
+      fields = (keyed ∙ ap (keyed_fields info.fields) members) i;
+      values = (values.0 ∙ ap (λ (m : Members). formed_values models place m (columns info)) members) i;
+      wrong = (values.1 ∙ ap (λ (m : Members). wrong_value models place m (columns info)) members) i;
+    }

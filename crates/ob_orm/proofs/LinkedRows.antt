@@ -18,7 +18,8 @@ use Rattle.ob_definition.specs.declared.field_type.OnDelete.TheVariants as ondel
 use Rattle.ob_orm.specs.LockSteps.{IsSettledAt}
 use Rattle.ob_orm.specs.NewRows.{Values, behind, changed_values, filled, row_edits, row_named, value_for}
 use Rattle.ob_orm.specs.NewRowSteps.{IsLowRef}
-use Rattle.ob_orm.specs.Write.{linked_in, parent_edits}
+use Rattle.ob_orm.specs.Touched.{linked_in}
+use Rattle.ob_orm.specs.Write.{parent_edits}
 use Rattle.ob_orm.specs.declared.author.Author.{Author}
 use Rattle.ob_orm.proofs.SettledValues.{settled-plain}
 use Rattle.ob_orm.proofs.WithinIds.{id-within}

@@ -17,7 +17,7 @@ use Rattle.ob_base.specs.declared.id.RecId.{RecId}
 use Rattle.ob_cache.specs.Standing.{max_next_id}
 use Rattle.ob_orm.proofs.Emptied.{after-then, set-next}
 use Rattle.ob_orm.proofs.WriteEdits.{one_edit}
-use Rattle.ob_orm.specs.NewRows.{Begun, MadeRows, Values, behind, changed_values, filled, linked, made_row, made_rows, making, parent_change, parents_of, row_edits, with_parent, with_parents}
+use Rattle.ob_orm.specs.NewRows.{Begun, MadeRow, MadeRows, Values, behind, changed_values, filled, linked, made_row, made_rows, making, parent_change, parents_of, row_edits, with_parent, with_parents}
 use Rattle.ob_orm.specs.NewRowSteps.{AddsEdits, HoldsNextIds, IsReady, MayFit, held_next, so_far}
 use Rattle.ob_orm.specs.declared.author.Author.{Author}
 use Rattle.ob_orm.specs.declared.making.next_ids.Making.{Making}
@@ -29,29 +29,48 @@ use Rattle.ob_tables.specs.After.{after, edited, row_of, with_row}
 use Rattle.ob_tables.specs.declared.edit.Edit.{Edit}
 use Rattle.ob_tables.specs.declared.edit.Edit.TheVariants as edit
 
--- what is begun of a row, by the edits so far
-abbrev pub begun_by : List ModelInfo → Tables → Making → Values → Begun
-begun_by models old making given = record { tables = so_far models old making; given = given }
-
 -- ---- one more
 
 module _ (models : List ModelInfo) (by : Author) where
   -- one parent more
-  pub with_parents-more : (model : ModelNo) (at : Begun) (parents : List ParentInfo) (parent : ParentInfo)
-      → with_parents models by model at (parents ++ parent ∷ []) ≡ with_parent models by model (with_parents models by model at parents) parent
-  with_parents-more model at [] parent = refl
-  with_parents-more model at (p ∷ parents) parent = with_parents-more model (with_parent models by model at p) parents parent
+  pub with_parents-more : (tables : Tables) (model : ModelNo) (given : Values) (parents : List ParentInfo) (parent : ParentInfo)
+      → with_parents models by tables model given (parents ++ parent ∷ []) ≡
+      (let before = with_parents models by tables model given parents in
+      let one = with_parent models by (after models tables before.edits) model before.given parent in
+      record { edits = before.edits ++ one.edits; given = one.given })
+  with_parents-more tables model given [] parent =
+      let one = with_parent models by tables model given parent in
+      ap (λ (es : List Edit). record { edits = es; given = one.given }) (append-nil one.edits)
+  with_parents-more tables model given (p ∷ parents) parent =
+      let first = with_parent models by tables model given p in
+      let mid = after models tables first.edits in
+      let before = with_parents models by mid model first.given parents in
+      let one : Tables → Begun = λ t. with_parent models by t model before.given parent in
+      ap (λ (rest : Begun). record { edits = first.edits ++ rest.edits; given = rest.given }) (with_parents-more mid model first.given parents parent)
+      ∙ ap (λ (es : List Edit). record { edits = es; given = (one (after models mid before.edits)).given }) (sym (append_assoc first.edits before.edits (one (after models mid before.edits)).edits))
+      ∙ ap (λ (t : Tables). record { edits = (first.edits ++ before.edits) ++ (one t).edits; given = (one t).given }) (sym (after-then models tables first.edits before.edits))
 
   -- one row more
   pub made_rows-more : (tables : Tables) (model : ModelNo) (each : List Values) (given : Values)
-      → made_rows models by tables model (each ++ given ∷ []) ≡ record {
-        tables = (made_row models by (made_rows models by tables model each).tables model given).tables;
-        ids = (made_rows models by tables model each).ids ++ (made_row models by (made_rows models by tables model each).tables model given).id ∷ [];
-      }
-  made_rows-more tables model [] given = refl
+      → made_rows models by tables model (each ++ given ∷ []) ≡
+      (let before = made_rows models by tables model each in
+      let one = made_row models by (after models tables before.edits) model given in
+      record { edits = before.edits ++ one.edits; ids = before.ids ++ one.id ∷ [] })
+  made_rows-more tables model [] given =
+      let one = made_row models by tables model given in
+      ap (λ (es : List Edit). record { edits = es; ids = one.id ∷ [] }) (append-nil one.edits)
   made_rows-more tables model (g ∷ each) given =
-      let one = made_row models by tables model g in
-      ap (λ (rest : MadeRows). record { tables = rest.tables; ids = one.id ∷ rest.ids }) (made_rows-more one.tables model each given)
+      let first = made_row models by tables model g in
+      let mid = after models tables first.edits in
+      let before = made_rows models by mid model each in
+      let one : Tables → MadeRow = λ t. made_row models by t model given in
+      ap (λ (rest : MadeRows). record { edits = first.edits ++ rest.edits; ids = first.id ∷ rest.ids }) (made_rows-more mid model each given)
+      ∙ ap (λ (es : List Edit). record { edits = es; ids = first.id ∷ before.ids ++ (one (after models mid before.edits)).id ∷ [] }) (sym (append_assoc first.edits before.edits (one (after models mid before.edits)).edits))
+      ∙ ap (λ (t : Tables). record { edits = (first.edits ++ before.edits) ++ (one t).edits; ids = (first.id ∷ before.ids) ++ (one t).id ∷ [] }) (sym (after-then models tables first.edits before.edits))
+
+-- the tables with more edits
+pub so_far-more : (models : List ModelInfo) (old : Tables) (first last : Making) (added : List Edit) → last.edits.items ≡ first.edits.items ++ added → so_far models old last ≡ after models (so_far models old first) added
+so_far-more models old first last added is = ap (after models old) is ∙ after-then models old first.edits.items added
 
 -- ---- edits that are added
 
@@ -138,12 +157,12 @@ module _ (models : List ModelInfo) (model : ModelNo) (before now : Making) (id :
 
   -- so a row is made of what is given
   pub one-made : (by : Author) (given : Values) → values ≡ filled models by true model given → HasModel models model → (old : Tables) → HoldsNextIds models old before
-      → (so_far models old now ≡ edited models (so_far models old before) (making models by (so_far models old before) model given)) × (id ≡ next_of (so_far models old before) model) × HoldsNextIds models old now
+      → (now.edits.items ≡ before.edits.items ++ making models by (so_far models old before) model given ∷ []) × (id ≡ next_of (so_far models old before) model) × HoldsNextIds models old now
   one-made by given are there old holds =
       let (info, at) = there_of (model_at models model) there in
-      let t = so_far models old before in
       let next = id-next old info at holds in (
-        so_far-made old info at holds ∙ ap (λ (vs : Values). edited models t (edit.Make model (record { 0 = id }) vs)) are ∙ ap (λ (n : ℕ). edited models t (edit.Make model (record { 0 = n }) (filled models by true model given))) next,
+        pushed ∙ ap (λ (vs : Values). before.edits.items ++ edit.Make model (record { 0 = id }) vs ∷ []) are
+            ∙ ap (λ (n : ℕ). before.edits.items ++ edit.Make model (record { 0 = n }) (filled models by true model given) ∷ []) next,
         next,
         holds-made old info at holds,
       )
@@ -199,26 +218,58 @@ module _ (models : List ModelInfo) (by : Author) (model : ModelNo) (given : Valu
 -- ---- a whole row, and rows behind it
 
 module _ (models : List ModelInfo) (by : Author) (model : ModelNo) (old : Tables) where
+  -- one parent more
+  pub parents-made-so : (first mid last : Making) (given between more : Values) (parents : List ParentInfo) (parent : ParentInfo)
+      → mid.edits.items ≡ first.edits.items ++ (with_parents models by (so_far models old first) model given parents).edits
+      → between ≡ (with_parents models by (so_far models old first) model given parents).given
+      → last.edits.items ≡ mid.edits.items ++ (with_parent models by (so_far models old mid) model between parent).edits
+      → more ≡ (with_parent models by (so_far models old mid) model between parent).given
+      → (last.edits.items ≡ first.edits.items ++ (with_parents models by (so_far models old first) model given (parents ++ parent ∷ [])).edits)
+      × (more ≡ (with_parents models by (so_far models old first) model given (parents ++ parent ∷ [])).given)
+  parents-made-so first mid last given between more parents parent far far_given one one_given =
+      let t = so_far models old first in
+      let before = with_parents models by t model given parents in
+      let here : so_far models old mid ≡ after models t before.edits = so_far-more models old first mid before.edits far in
+      let same : with_parent models by (so_far models old mid) model between parent ≡ with_parent models by (after models t before.edits) model before.given parent =
+      (λ i. with_parent models by (here i) model (far_given i) parent) in
+      let all = with_parents-more models by t model given parents parent in
+      let own = with_parent models by (after models t before.edits) model before.given parent in (
+        one ∙ (λ i. far i ++ (same i).edits) ∙ append_assoc first.edits.items before.edits own.edits ∙ sym (ap (λ (b : Begun). first.edits.items ++ b.edits) all),
+        one_given ∙ ap (λ (b : Begun). b.given) same ∙ sym (ap (λ (b : Begun). b.given) all),
+      )
+
   -- a row is made once its parents are and what it changes of others follows
   pub row-made-so : (first second third last : Making) (given more : Values) (changes : List Edit) (id : ℕ) → changes ≡ flat_map (parent_change models by model given) (parents_of models model)
-      → record { tables = so_far models old second; given = more } ≡ with_parents models by model (record { tables = so_far models old first; given = given }) (parents_of models model)
-      → so_far models old third ≡ edited models (so_far models old second) (making models by (so_far models old second) model more)
-      → id ≡ next_of (so_far models old second) model → so_far models old last ≡ after models (so_far models old third) changes
-      → (so_far models old last ≡ (made_row models by (so_far models old first) model given).tables) × (id ≡ (made_row models by (so_far models old first) model given).id)
-  row-made-so first second third last given more changes id changes_are parents one next ends = (
-    ends ∙ ap (λ (t : Tables). after models t changes) one ∙ ap (λ (b : Begun). after models (edited models b.tables (making models by b.tables model b.given)) changes) parents
-        ∙ ap (after models (let b = with_parents models by model (record { tables = so_far models old first; given = given }) (parents_of models model) in edited models b.tables (making models by b.tables model b.given))) changes_are,
-    next ∙ ap (λ (b : Begun). next_of b.tables model) parents,
-  )
+      → second.edits.items ≡ first.edits.items ++ (with_parents models by (so_far models old first) model given (parents_of models model)).edits
+      → more ≡ (with_parents models by (so_far models old first) model given (parents_of models model)).given
+      → third.edits.items ≡ second.edits.items ++ making models by (so_far models old second) model more ∷ []
+      → id ≡ next_of (so_far models old second) model → last.edits.items ≡ third.edits.items ++ changes
+      → (last.edits.items ≡ first.edits.items ++ (made_row models by (so_far models old first) model given).edits) × (id ≡ (made_row models by (so_far models old first) model given).id)
+  row-made-so first second third last given more changes id changes_are parents parents_given one next ends =
+      let t = so_far models old first in
+      let begun = with_parents models by t model given (parents_of models model) in
+      let here : so_far models old second ≡ after models t begun.edits = so_far-more models old first second begun.edits parents in
+      let mine : making models by (so_far models old second) model more ≡ making models by (after models t begun.edits) model begun.given = (λ i. making models by (here i) model (parents_given i)) in
+      let rest = making models by (after models t begun.edits) model begun.given ∷ flat_map (parent_change models by model given) (parents_of models model) in (
+        ends ∙ ap (λ (es : List Edit). es ++ changes) one ∙ append_assoc second.edits.items (making models by (so_far models old second) model more ∷ []) changes
+            ∙ (λ i. parents i ++ mine i ∷ changes_are i) ∙ append_assoc first.edits.items begun.edits rest,
+        next ∙ ap (λ (x : Tables). next_of x model) here,
+      )
 
   -- one row more
-  pub rows-made-so : (first before last : Making) (each : List Values) (given : Values) (ids more : List RecId) (id : RecId) → so_far models old before ≡ (made_rows models by (so_far models old first) model each).tables
-      → map (λ i. i.0) ids ≡ (made_rows models by (so_far models old first) model each).ids → so_far models old last ≡ (made_row models by (so_far models old before) model given).tables
+  pub rows-made-so : (first before last : Making) (each : List Values) (given : Values) (ids more : List RecId) (id : RecId)
+      → before.edits.items ≡ first.edits.items ++ (made_rows models by (so_far models old first) model each).edits
+      → map (λ i. i.0) ids ≡ (made_rows models by (so_far models old first) model each).ids → last.edits.items ≡ before.edits.items ++ (made_row models by (so_far models old before) model given).edits
       → id.0 ≡ (made_row models by (so_far models old before) model given).id → more ≡ ids ++ id ∷ []
-      → (so_far models old last ≡ (made_rows models by (so_far models old first) model (each ++ given ∷ [])).tables) × (map (λ i. i.0) more ≡ (made_rows models by (so_far models old first) model (each ++ given ∷ [])).ids)
+      → (last.edits.items ≡ first.edits.items ++ (made_rows models by (so_far models old first) model (each ++ given ∷ [])).edits)
+      × (map (λ i. i.0) more ≡ (made_rows models by (so_far models old first) model (each ++ given ∷ [])).ids)
   rows-made-so first before last each given ids more id far far_ids one own pushed =
-      let all = made_rows-more models by (so_far models old first) model each given in (
-        one ∙ ap (λ (t : Tables). (made_row models by t model given).tables) far ∙ sym (ap (λ (r : MadeRows). r.tables) all),
+      let t = so_far models old first in
+      let sofar = made_rows models by t model each in
+      let here : so_far models old before ≡ after models t sofar.edits = so_far-more models old first before sofar.edits far in
+      let same : made_row models by (so_far models old before) model given ≡ made_row models by (after models t sofar.edits) model given = ap (λ (x : Tables). made_row models by x model given) here in
+      let all = made_rows-more models by t model each given in (
+        one ∙ (λ i. far i ++ (same i).edits) ∙ append_assoc first.edits.items sofar.edits (made_row models by (after models t sofar.edits) model given).edits ∙ sym (ap (λ (r : MadeRows). first.edits.items ++ r.edits) all),
         ap (map (λ (i : RecId). i.0)) pushed ∙ map-append (λ (i : RecId). i.0) ids (id ∷ []) ∙ ap (λ (ns : List ℕ). ns ++ id.0 ∷ []) far_ids
-            ∙ ap (λ (n : ℕ). (made_rows models by (so_far models old first) model each).ids ++ n ∷ []) (own ∙ ap (λ (t : Tables). (made_row models by t model given).id) far) ∙ sym (ap (λ (r : MadeRows). r.ids) all),
+            ∙ ap (λ (n : ℕ). sofar.ids ++ n ∷ []) (own ∙ ap (λ (r : MadeRow). r.id) same) ∙ sym (ap (λ (r : MadeRows). r.ids) all),
       )

@@ -26,10 +26,9 @@ use Rattle.ob_schema.specs.declared.info.Origin.{Origin}
 use Rattle.ob_schema.specs.declared.info.Origin.TheVariants as origin
 use Rattle.ob_schema.specs.declared.info.ParentInfo.{ParentInfo}
 use Rattle.ob_tables.proofs.CallerLemmas.{Field-at}
-use Rattle.ob_tables.specs.After.{edited}
 use Rattle.ob_tables.specs.Fitting.{AreFitIn, IsFitEdit, IsFitId, IsFitIn}
 use Rattle.ob_tables.specs.declared.edit.Edit.{Edit}
-use Rattle.ob_orm.specs.NewRows.{Begun, Values, behind, changed_values, field_behind, field_behind_from, filled, linked, making, parent_change, row_edits, row_named, value_for, with_parent}
+use Rattle.ob_orm.specs.NewRows.{Values, behind, changed_values, field_behind, field_behind_from, filled, linked, parent_change, row_edits, row_named, value_for}
 use Rattle.ob_orm.specs.NewRowSteps.{IsLowRef, IsTyped, MayFit}
 use Rattle.ob_orm.specs.declared.author.Author.{Author}
 use Rattle.ob_orm.proofs.WriteEdits.{fits_each, one_edit}
@@ -131,33 +130,6 @@ module _ (models : List ModelInfo) (model : ModelNo) (link : FieldNo) (given : V
 
   pub behind-passed : (values : Values) → field_behind models model link one.0 ≡ None → values ≡ behind models model link (take i given) → values ≡ behind models model link (take (i + 1) given)
   behind-passed values found far = far ∙ sym (more ∙ ap (λ (o : Option FieldNo). behind models model link (take i given) ++ gives o) found ∙ append-nil (behind models model link (take i given)))
-
--- ---- a parent that is made
-
-module _ (models : List ModelInfo) (by : Author) (model : ModelNo) (parent : ParentInfo) (t : Tables) (given : Values) where
-  abbrev start : Begun
-  start = record { tables = t; given = given }
-
-  -- a link that is given by an id makes none
-  pub parent-named : is_some (linked given parent.link) ≡ true → start ≡ with_parent models by model start parent
-  parent-named is = sym (ap (λ (b : Bool). cond b start (record {
-    tables = edited models t (making models by t parent.model (behind models model parent.link given));
-    given = (parent.link, value.Ref (record { 0 = next_of t parent.model })) ∷ given;
-  })) is)
-
-  -- else it is made
-  pub parent-made : (made : Tables) (more values : Values) (id : RecId) → is_some (linked given parent.link) ≡ false → values ≡ behind models model parent.link given
-      → made ≡ edited models t (making models by t parent.model values) → id.0 ≡ next_of t parent.model → more ≡ (parent.link, value.Ref id) ∷ given
-      → record { tables = made; given = more } ≡ with_parent models by model start parent
-  parent-made made more values id none are is next put =
-      let tables_are : made ≡ edited models t (making models by t parent.model (behind models model parent.link given)) = is ∙ ap (λ (vs : Values). edited models t (making models by t parent.model vs)) are in
-      let given_is : more ≡ (parent.link, value.Ref (record { 0 = next_of t parent.model })) ∷ given = put ∙ ap (λ (n : ℕ). (parent.link, value.Ref (record { 0 = n })) ∷ given) next in
-      ap (λ (ts : Tables). record { tables = ts; given = more }) tables_are
-      ∙ ap (λ (vs : Values). record { tables = edited models t (making models by t parent.model (behind models model parent.link given)); given = vs }) given_is
-      ∙ sym (ap (λ (b : Bool). cond b start (record {
-        tables = edited models t (making models by t parent.model (behind models model parent.link given));
-        given = (parent.link, value.Ref (record { 0 = next_of t parent.model })) ∷ given;
-      })) none)
 
 -- ---- a parent that is changed
 

@@ -7,9 +7,10 @@ use Rattle.std.proofs.lemmas.List.Elements.{All-push}
 use Rattle.std.proofs.lemmas.List.Sums.{fold_push}
 use Rattle.ob_base.specs.declared.id.RecId.{RecId}
 use Rattle.ob_orm.proofs.BroughtIds.{numbers}
-use Rattle.ob_orm.specs.Install.{Course, course_by, given_by, installed_by, with_row}
+use Rattle.ob_orm.proofs.NewRows.{so_far-more}
+use Rattle.ob_orm.specs.Install.{Course, RowsSoFar, course_by, given_by, installed_by, with_row}
 use Rattle.ob_orm.specs.InstallSteps.{AreCounted, ArePlaced, IsPlacedBehind, course_of, edits_of, made_by}
-use Rattle.ob_orm.specs.NewRows.{MadeRows, Values, made_row}
+use Rattle.ob_orm.specs.NewRows.{Values, made_row}
 use Rattle.ob_orm.specs.NewRowSteps.{HoldsNextIds, IsReady, so_far}
 use Rattle.ob_orm.specs.declared.author.Author.{Author}
 use Rattle.ob_orm.specs.declared.installing.placing.Placed.{Placed}
@@ -96,12 +97,15 @@ edits-all placed counted =
 
 module _ (models : List ModelInfo) (by : Author) (old new : Placed) (row : PresetRow) (given : Values) (id : RecId) (are : given ≡ given_by (numbers old.ids.items) row.values) where
   -- a row is made of what it brings
-  pub row-placed : so_far models (empty_tables models) new.making ≡ (made_row models by (so_far models (empty_tables models) old.making) row.model given).tables
+  pub row-placed : new.making.edits.items ≡ old.making.edits.items ++ (made_row models by (so_far models (empty_tables models) old.making) row.model given).edits
       → id.0 ≡ (made_row models by (so_far models (empty_tables models) old.making) row.model given).id → new.ids.items ≡ old.ids.items ++ id ∷ []
       → made_by models new ≡ with_row models by (made_by models old) row
-  row-placed tables own ids = λ i. record { tables = tables_are i; ids = ids_are i } where
-    tables_are : so_far models (empty_tables models) new.making ≡ (made_row models by (so_far models (empty_tables models) old.making) row.model (given_by (numbers old.ids.items) row.values)).tables
-    tables_are = tables ∙ ap (λ (vs : Values). (made_row models by (so_far models (empty_tables models) old.making) row.model vs).tables) are
+  row-placed edits own ids = λ i. record { tables = tables_are i; ids = ids_are i } where
+    tables_are : so_far models (empty_tables models) new.making
+        ≡ after models (so_far models (empty_tables models) old.making) (made_row models by (so_far models (empty_tables models) old.making) row.model (given_by (numbers old.ids.items) row.values)).edits
+    tables_are =
+        so_far-more models (empty_tables models) old.making new.making (made_row models by (so_far models (empty_tables models) old.making) row.model given).edits edits
+        ∙ ap (λ (vs : Values). after models (so_far models (empty_tables models) old.making) (made_row models by (so_far models (empty_tables models) old.making) row.model vs).edits) are
 
     ids_are : numbers new.ids.items ≡ numbers old.ids.items ++ (made_row models by (so_far models (empty_tables models) old.making) row.model (given_by (numbers old.ids.items) row.values)).id ∷ []
     ids_are =
@@ -120,7 +124,7 @@ module _ (models : List ModelInfo) (by : Author) (rows : List PresetRow) where
       → (made_by models new ≡ with_row models by (made_by models old) row) × HoldsNextIds models (empty_tables models) new.making → MadeSo old → MadeSo new
   made-more old new row behind counted within is made so = record {
     next = made.1;
-    all = made.0 ∙ ap (λ (at : MadeRows). with_row models by at row) so.all ∙ sym step;
+    all = made.0 ∙ ap (λ (at : RowsSoFar). with_row models by at row) so.all ∙ sym step;
     tables = tables-to;
   } where
     step : installed_by models by (take (count_of new) rows) ≡ with_row models by (installed_by models by (take (count_of old) rows)) row
@@ -139,7 +143,7 @@ module _ (models : List ModelInfo) (by : Author) (rows : List PresetRow) where
               let last : n ≡ count_of new = omega arith in
               ap (λ (m : ℕ). after models (empty_tables models) (edits_of new m)) last
               ∙ ap (after models (empty_tables models)) (edits-all new (counted-behind old new behind counted))
-              ∙ ap (λ (at : MadeRows). at.tables) (made.0 ∙ ap (λ (at : MadeRows). with_row models by at row) so.all ∙ sym step)
+              ∙ ap (λ (at : RowsSoFar). at.tables) (made.0 ∙ ap (λ (at : RowsSoFar). with_row models by at row) so.all ∙ sym step)
               ∙ sym (ap (λ (m : ℕ). (installed_by models by (take m rows)).tables) last)
         ]
 
@@ -147,7 +151,7 @@ module _ (models : List ModelInfo) (by : Author) (rows : List PresetRow) where
   pub whole-course : (placed : Placed) → placed.rows.now ≡ rows → count_of placed ≡ length rows → MadeSo placed → course_of models placed ≡ course_by models by rows
   whole-course placed same each so = λ i. record { rows = same i; ids = ids_are i; tables = λ n. tables_are n i } where
     ids_are : map (λ (id : RecId). id.0) placed.ids.items ≡ (installed_by models by rows).ids
-    ids_are = ap (λ (at : MadeRows). at.ids) so.all ∙ ap (λ (rs : List PresetRow). (installed_by models by rs).ids) (take_all (count_of placed) rows (omega (arith, each)))
+    ids_are = ap (λ (at : RowsSoFar). at.ids) so.all ∙ ap (λ (rs : List PresetRow). (installed_by models by rs).ids) (take_all (count_of placed) rows (omega (arith, each)))
 
     tables_are : (n : ℕ) → after models (empty_tables models) (edits_of placed n) ≡ (installed_by models by (take n rows)).tables
     tables_are n = elim (cases_lt n (suc (count_of placed))) [

@@ -10,7 +10,6 @@ use Rattle.serde_json.specs.Find.{get_member}
 use Rattle.serde_json.specs.View.{view, members_view}
 use Rattle.serde_json.specs.declared.value.Value.{Value as Json}
 use Rattle.serde_json.proofs.Views.{Entry, view_of_ref, view-lookup}
-use Rattle.ob_base.specs.Chain.{◌>>=◌}
 use Rattle.ob_base.specs.declared.place.PathStep.{PathStep}
 use Rattle.ob_base.specs.declared.refusal.Refusal.{Refusal}
 use Rattle.ob_base.specs.declared.refusal.Refusal.TheVariants as refusal
@@ -99,17 +98,6 @@ FoundAt name es r = option_map (λ x. x.now) r ≡ lookup (is_at (λ k. slice_cm
 -- as its data
 pub found : (name : List ℕ) (es : List Entry) (r : Option (Bor Json)) → FoundAt name es r → option_map (λ x. view x.now) r ≡ get_member name (members_view es)
 found name es r e = view_of_ref r ∙ ap (option_map view) e ∙ view-lookup name es
-
--- a value that was read is what the field gets
-abbrev pub some_of : Result Value Refusal → Result (Option Value) Refusal
-some_of (Ok v) = Ok (Some v)
-some_of (Err why) = Err why
-
-pub IsResultOf-some : (r : Result Value Refusal) (meant : Result Value (List PathStep)) → IsResultOf (λ w. w) r meant → IsResultOf (λ w. w) (some_of r) (meant >>= λ v. Ok (Some v))
-IsResultOf-some (Ok v) meant is = ap (λ (m : Result Value (List PathStep)). m >>= λ w. Ok (Some w)) is
-IsResultOf-some (Err (refusal.Request place)) meant is = ap (λ (m : Result Value (List PathStep)). m >>= λ w. Ok (Some w)) is
-IsResultOf-some (Err refusal.NoMemory) meant is = tt
-IsResultOf-some (Err _) meant is = absurd is
 
 -- ---- each has the type of the field
 

@@ -1,13 +1,11 @@
 -- The values that a call gives a row, field by field.
-use Rattle.std.proofs.Common.{◌≡◌, ℕ, suc, ◌+◌, Bool, true, false, cond, List, [], ◌∷◌, ◌++◌, filter, drop, Option, None, Some, Result, Ok, Err}
-use Rattle.std.proofs.Common.{IsSomeAnd, append_assoc, refl, sym, ap, ◌∙◌, arith}
+use Rattle.std.proofs.Common.{◌≡◌, ℕ, suc, ◌+◌, Bool, true, false, cond, List, ◌∷◌, filter, drop, Option, None, Some}
+use Rattle.std.proofs.Common.{IsSomeAnd, ap, ◌∙◌, arith}
 use Rattle.std.specs.Prelude.{IfSome, slice_get}
 use Rattle.std.specs.List.{enumerate_from}
 use Rattle.std.proofs.lemmas.List.{drop_more}
 use Rattle.std.proofs.lemmas.Option.{get_or_from_slice_get, slice_get_within}
-use Rattle.ob_base.specs.Chain.{◌>>=◌}
 use Rattle.ob_base.specs.declared.id.FieldNo.{FieldNo}
-use Rattle.ob_base.specs.declared.place.PathStep.{PathStep}
 use Rattle.ob_base.specs.declared.value.Value.{Value}
 use Rattle.ob_schema.specs.Built.{numbered}
 use Rattle.ob_schema.specs.Fields.{Column, HasFieldType, IsGivable, is_plain_kept}
@@ -40,23 +38,6 @@ left_plain info i f at plain = left_more info i f at ∙ ap (λ (b : Bool). cond
 
 pub left_other : (info : ModelInfo) (i : ℕ) (f : FieldInfo) → slice_get info.fields i ≡ Some f → is_plain_kept f ≡ false → left info i ≡ left info (i + 1)
 left_other info i f at plain = left_more info i f at ∙ ap (λ (b : Bool). cond b ((suc i, f) ∷ left info (i + 1)) (left info (i + 1))) plain
-
--- what comes behind values
-abbrev pub behind : Values → Result Values (List PathStep) → Result Values (List PathStep)
-behind values r = r >>= λ rest. Ok (values ++ rest)
-
-pub behind_none : (r : Result Values (List PathStep)) → r ≡ behind [] r
-behind_none (Ok rest) = refl
-behind_none (Err why) = refl
-
--- and nothing between them
-pub behind_same : (values : Values) (r : Result Values (List PathStep)) → behind values (r >>= λ rest. Ok rest) ≡ behind values r
-behind_same values (Ok rest) = refl
-behind_same values (Err why) = refl
-
-pub behind_more : (values : Values) (x : FieldNo × Value) (r : Result Values (List PathStep)) → behind values (r >>= λ rest. Ok (x ∷ rest)) ≡ behind (values ++ x ∷ []) r
-behind_more values x (Ok rest) = ap Ok (sym (append_assoc values (x ∷ []) rest))
-behind_more values x (Err why) = refl
 
 -- a value of the type of a field that is there may be given to it
 pub typed_for : (o : Option FieldInfo) (f : FieldInfo) (got : Option Value) → o ≡ Some f → IfSome got (HasFieldType o) → IfSome got (IsGivable f)

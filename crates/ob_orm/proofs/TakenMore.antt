@@ -1,5 +1,5 @@
 -- One id more whose row is taken, or whose cell is added.
-use Rattle.std.proofs.Common.{◌≡◌, ◌⊎◌, ◌↔◌, ◌+◌, ◌<◌, inl, inr, ℕ, true, false, List, [], ◌∷◌, ◌++◌, map, take, get_or, length, refl, sym, ap, subst, ◌∙◌, arith}
+use Rattle.std.proofs.Common.{◌≡◌, ◌⊎◌, ◌↔◌, ◌+◌, ◌<◌, inl, inr, ℕ, List, [], ◌∷◌, ◌++◌, take, get_or, length, sym, ap, subst, ◌∙◌}
 use Rattle.std.specs.Prelude.{Contains}
 use Rattle.std.proofs.lemmas.List.{map-append, take_more}
 use Rattle.std.proofs.lemmas.List.Elements.{Contains-append_left, Contains-push, Contains-push_cases}
@@ -9,7 +9,7 @@ use Rattle.ob_base.specs.declared.id.RecId.{RecId}
 use Rattle.ob_base.specs.declared.id.RowKey.{RowKey}
 use Rattle.ob_orm.specs.DeletionSteps.{cell_by}
 use Rattle.ob_orm.specs.declared.unlinking.relations.KeptRelation.{KeptRelation}
-use Rattle.ob_orm.specs.Unlink.{rows_named}
+use Rattle.ob_orm.specs.Rights.{rows_named}
 use Rattle.ob_orm.proofs.Contained.{contains-more}
 use Rattle.ob_schema.proofs.CallerLemmas.{contains-none}
 

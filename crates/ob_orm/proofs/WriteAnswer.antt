@@ -5,7 +5,10 @@ use Rattle.serde_json.specs.Data.{Data, boolean}
 use Rattle.serde_json.specs.View.{view}
 use Rattle.serde_json.specs.declared.value.Value.{the_lemmas}
 use Rattle.serde_json.specs.declared.value.Value.TheVariants as told
+use Rattle.ob_access.specs.Policies.{PolicyData}
+use Rattle.ob_access.specs.Users.{AreGroupsOf}
 use Rattle.ob_base.specs.Chain.{◌>>=◌}
+use Rattle.ob_base.specs.declared.id.RecId.{RecId}
 use Rattle.ob_base.specs.declared.place.PathStep.{PathStep}
 use Rattle.ob_base.specs.declared.refusal.Refusal.{Refusal}
 use Rattle.ob_base.specs.declared.refusal.Refusal.TheVariants as refusal
@@ -27,10 +30,10 @@ use Rattle.ob_schema.specs.Models.{HasModel, model_at}
 use Rattle.ob_schema.specs.Tables.{Tables}
 use Rattle.ob_schema.specs.declared.info.ModelInfo.{ModelInfo}
 use Rattle.ob_orm.specs.Author.{author_by}
-use Rattle.ob_orm.specs.GivenValues.{given_from}
-use Rattle.ob_orm.specs.NewRows.{Values}
-use Rattle.ob_orm.specs.Write.{AreThere, Change, WriteCause, Writes, change_from, change_of, changed, edits_of, write_expects}
-use Rattle.ob_orm.specs.WriteSteps.{MayStopChange, StopsChange, asked_change}
+use Rattle.ob_orm.specs.GivenValues.{GivenObject, object_from}
+use Rattle.ob_orm.specs.ObjectSteps.{object_view}
+use Rattle.ob_orm.specs.Write.{IsAdmissible, MayStopWrite, RefusesAsked, StopsWrite, WriteCause, Writes, change_from, change_of, changed, edits_of, write_expects}
+use Rattle.ob_orm.specs.WriteSteps.{asked_change}
 use Rattle.ob_orm.specs.declared.writing.change.Change.{Change as Asked}
 use Rattle.ob_orm.proofs.CreateAnswer.{everywhere, known_of, nowhere, sound_in}
 
@@ -49,133 +52,129 @@ pub denied_change : {A : Type 0} (of : A → List (Option arguments.Given)) (mod
     → IsResultOf of (Err why) (arguments_of (write_expects models (fields_at models call.model)) (view call.args.now) (view call.kw.now)) → GivesChange models call (Err why)
 denied_change of models call (refusal.Request place) e =
     known_of (model_at models call.model) (λ info. arguments_of (write_expects models info.fields) (view call.args.now) (view call.kw.now) ≡ Err place) (λ info. change_of models (called_by call info) ≡ Err place)
-    (λ info is. ap (λ (r : Result (List (Option arguments.Given)) (List PathStep)). r >>= change_from models info) is)
+    (λ info is. ap (λ (r : Result (List (Option arguments.Given)) (List PathStep)). r >>= λ gs. Ok (change_from models info gs)) is)
     (at_info models call.model (λ fields. arguments_of (write_expects models fields) (view call.args.now) (view call.kw.now) ≡ Err place) e)
 denied_change of models call refusal.NoMemory e = everywhere (model_at models call.model) (λ info. ⊤) (λ info. tt)
 denied_change of models call _ e = absurd e
 
--- the change of values and ids
-abbrev pub with_ids : Data → Result Values (List PathStep) → Result Change (List PathStep)
-with_ids ids r = r >>= λ given. Ok (record { ids = named_ids ids; given = given })
+-- arguments that are taken
+pub taken_change : (models : List ModelInfo) (call : Call) (items : List (Option Given)) (ids vals : Given) → items ≡ Some ids ∷ Some vals ∷ [] → WriteGives models call items
+    → (asked : Asked) → asked.ids.items ≡ named_ids (view ids.json.now) → IfSome (model_at models call.model) (λ info. object_view asked.object ≡ object_from models info (given_of vals)) → GivesChange models call (Ok asked)
+taken_change models call items ids vals two gives asked ids_are object =
+    by (model_at models call.model) (at_info models call.model (λ fields. arguments_of (write_expects models fields) (view call.args.now) (view call.kw.now) ≡ Ok (all_given_of items)) gives) object where
+      by : (o : Option ModelInfo) → IfSome o (λ info. arguments_of (write_expects models info.fields) (view call.args.now) (view call.kw.now) ≡ Ok (all_given_of items))
+          → IfSome o (λ info. object_view asked.object ≡ object_from models info (given_of vals)) → IfSome o (λ info. change_of models (called_by call info) ≡ Ok (asked_change asked))
+      by None given read = tt
+      by (Some info) given read =
+          ap (λ (r : Result (List (Option arguments.Given)) (List PathStep)). r >>= λ gs. Ok (change_from models info gs)) given
+          ∙ ap (λ (gs : List (Option Given)). Ok (change_from models info (all_given_of gs))) two
+          ∙ ap (λ (o : GivenObject). Ok (record { ids = named_ids (view ids.json.now); object = o })) (sym read)
+          ∙ ap (λ (xs : List ℕ). Ok (record { ids = xs; object = object_view asked.object })) (sym ids_are)
 
-module _ (models : List ModelInfo) (call : Call) (items : List (Option Given)) (ids vals : Given) (two : items ≡ Some ids ∷ Some vals ∷ []) (gives : WriteGives models call items) where
-  -- the values as they were read
-  abbrev pub ReadsValues : Result Values Refusal → Type 0
-  ReadsValues r = IfSome (model_at models call.model) (λ info. IsResultOf (λ (values : Values). values) r (given_from models info (given_of vals)))
+-- ---- refusals of what is asked
 
-  -- what a call of a model asks for
-  asks : (info : ModelInfo) → arguments_of (write_expects models info.fields) (view call.args.now) (view call.kw.now) ≡ Ok (all_given_of items)
-      → change_of models (called_by call info) ≡ with_ids (view ids.json.now) (given_from models info (given_of vals))
-  asks info given =
-      ap (λ (r : Result (List (Option arguments.Given)) (List PathStep)). r >>= change_from models info) given
-      ∙ ap (λ (gs : List (Option Given)). change_from models info (all_given_of gs)) two
+-- arguments that are malformed
+asked-malformed : {A : Type 0} (stops : A → Refusal → Type 0) (asked : Result A (List PathStep)) (place : List PathStep) → asked ≡ Err place → RefusesAsked stops asked (refusal.Request place)
+asked-malformed {A} stops asked place is = subst (λ (r : Result A (List PathStep)). RefusesAsked stops r (refusal.Request place)) (sym is) refl
 
-  -- values that are refused
-  wrong : (info : ModelInfo) (why : Refusal) → arguments_of (write_expects models info.fields) (view call.args.now) (view call.kw.now) ≡ Ok (all_given_of items)
-      → IsResultOf (λ (values : Values). values) (Err why) (given_from models info (given_of vals)) → IsResultOf asked_change (Err why) (change_of models (called_by call info))
-  wrong info (refusal.Request place) given e = asks info given ∙ ap (with_ids (view ids.json.now)) e
-  wrong info refusal.NoMemory given e = tt
-  wrong info _ given e = absurd e
-
-  pub wrong_change : (why : Refusal) → ReadsValues (Err why) → GivesChange models call (Err why)
-  wrong_change why read = by (model_at models call.model) (at_info models call.model (λ fields. arguments_of (write_expects models fields) (view call.args.now) (view call.kw.now) ≡ Ok (all_given_of items)) gives) read where
-    by : (o : Option ModelInfo) → IfSome o (λ info. arguments_of (write_expects models info.fields) (view call.args.now) (view call.kw.now) ≡ Ok (all_given_of items))
-        → IfSome o (λ info. IsResultOf (λ (values : Values). values) (Err why) (given_from models info (given_of vals))) → IfSome o (λ info. IsResultOf asked_change (Err why) (change_of models (called_by call info)))
-    by None given read = tt
-    by (Some info) given read = wrong info why given read
-
-  -- values that are taken
-  pub taken_change : (asked : Asked) → asked.ids.items ≡ named_ids (view ids.json.now) → ReadsValues (Ok asked.given) → GivesChange models call (Ok asked)
-  taken_change asked ids_are read = by (model_at models call.model) (at_info models call.model (λ fields. arguments_of (write_expects models fields) (view call.args.now) (view call.kw.now) ≡ Ok (all_given_of items)) gives) read where
-    by : (o : Option ModelInfo) → IfSome o (λ info. arguments_of (write_expects models info.fields) (view call.args.now) (view call.kw.now) ≡ Ok (all_given_of items))
-        → IfSome o (λ info. given_from models info (given_of vals) ≡ Ok asked.given) → IfSome o (λ info. change_of models (called_by call info) ≡ Ok (asked_change asked))
-    by None given read = tt
-    by (Some info) given read =
-        asks info given ∙ ap (with_ids (view ids.json.now)) read
-        ∙ ap (λ (xs : List ℕ). Ok (record { ids = xs; given = asked.given })) (sym ids_are)
-
--- ---- refusals of the arguments
+-- what stops that for which they ask
+asked-stopped : {A : Type 0} (stops : A → Refusal → Type 0) (asked : Result A (List PathStep)) (one : A) (why : Refusal) → asked ≡ Ok one → stops one why → RefusesAsked stops asked why
+asked-stopped {A} stops asked one why is h = subst (λ (r : Result A (List PathStep)). RefusesAsked stops r why) (sym is) h
 
 -- the machine's answer over an engine
-abbrev pub AnswersWrite : Call → (before after : Standpoint) → Result Data Refusal → Type 0
-AnswersWrite call before after r = (tables : Tables) → HasTables before tables → IfSome (model_at (models_at before) call.model) (λ info. AnswersBy (Writes (models_at before) (called_by call info)) before after tables r)
+abbrev pub AnswersWrite : PolicyData → Call → (before after : Standpoint) → Result Data Refusal → Type 0
+AnswersWrite policy call before after r =
+    (tables : Tables) → HasTables before tables → IfSome (model_at (models_at before) call.model) (λ info. AnswersBy (Writes (models_at before) policy (called_by call info)) before after tables r)
+
+-- why it may be refused
+abbrev pub HasCause : PolicyData → Call → List ModelInfo → Type 0 → Refusal → Type 0
+HasCause policy call models rose why = Refuses rose (λ w. IfSome (model_at models call.model) (λ info. WriteCause models policy (called_by call info) w)) why
+
+-- what has no cause has any
+pub untold_cause : (policy : PolicyData) (call : Call) (models : List ModelInfo) (rose : Type 0) (why : Refusal) → Refuses rose (λ _. ⊥) why → HasCause policy call models rose why
+untold_cause policy call models rose why h =
+    Refuses-weaker rose rose (λ _. ⊥) (λ w. IfSome (model_at models call.model) (λ info. WriteCause models policy (called_by call info) w)) why (λ risen. risen) (λ w none. absurd none) h
 
 -- what is wrong is the cause
-pub change_cause : (models : List ModelInfo) (call : Call) (rose : Type 0) (why : Refusal) → HasModel models call.model → GivesChange models call (Err why)
-    → Refuses rose (λ w. IfSome (model_at models call.model) (λ info. WriteCause models (called_by call info) w)) why
-change_cause models call rose (refusal.Request place) there wrong = wrong
-change_cause models call rose refusal.NoMemory there wrong = tt
-change_cause models call rose _ there wrong = absurd (nowhere (model_at models call.model) there wrong)
-
--- and the answer, of an engine that rests still
-pub change_answer : (at : Standpoint) (call : Call) (why : Refusal) → HasModel (models_at at) call.model → GivesChange (models_at at) call (Err why) → AnswersWrite call at at (Err why)
-change_answer at call (refusal.Request place) there wrong = λ tables rests.
-    known_of (model_at (models_at at) call.model) (λ info. change_of (models_at at) (called_by call info) ≡ Err place)
-    (λ info. AnswersBy (Writes (models_at at) (called_by call info)) at at tables (Err (refusal.Request place))) (λ info is. ((is, refl), rests)) wrong
-change_answer at call refusal.NoMemory there wrong = λ tables rests.
-    everywhere (model_at (models_at at) call.model) (λ info. AnswersBy (Writes (models_at at) (called_by call info)) at at tables (Err refusal.NoMemory)) (λ info. (tt, rests))
-change_answer at call _ there wrong = absurd (nowhere (model_at (models_at at) call.model) there wrong)
-
--- ---- what is carried out
+pub change_cause : (policy : PolicyData) (call : Call) (models : List ModelInfo) (rose : Type 0) (why : Refusal) → HasModel models call.model → GivesChange models call (Err why) → HasCause policy call models rose why
+change_cause policy call models rose (refusal.Request place) there wrong =
+    known_of (model_at models call.model) (λ info. change_of models (called_by call info) ≡ Err place) (λ info. WriteCause models policy (called_by call info) (refusal.Request place))
+    (λ info is. asked-malformed (MayStopWrite models policy call.caller call.model) (change_of models (called_by call info)) place is) wrong
+change_cause policy call models rose refusal.NoMemory there wrong = tt
+change_cause policy call models rose _ there wrong = absurd (nowhere (model_at models call.model) there wrong)
 
 -- the answer as data
 pub view-Bool : (b : Bool) → view (told.Bool b) ≡ boolean b
 view-Bool b = search (rules, the_lemmas)
 
-module _ (before after : Standpoint) (call : Call) (asked : Asked) (gives : GivesChange (models_at before) call (Ok asked)) where
-  -- the call asks for the change
-  abbrev AsksFor : ModelInfo → Type 0
-  AsksFor info = change_of (models_at before) (called_by call info) ≡ Ok (asked_change asked)
+module _ (before after : Standpoint) (policy : PolicyData) (call : Call) where
+  -- the engine didn't tell the caller's groups
+  pub untold_answer : (why : Refusal) → Refuses (KeeperRose before after) (λ _. ⊥) why → ((tables : Tables) → HasTables before tables → HasTables after tables) → AnswersWrite policy call before after (Err why)
+  untold_answer why h stays tables rests =
+      everywhere (model_at (models_at before) call.model) (λ info. AnswersBy (Writes (models_at before) policy (called_by call info)) before after tables (Err why)) (λ info. (
+        Refuses-weaker (KeeperRose before after) (KeeperRose before after) (λ _. ⊥) (λ cause. Writes (models_at before) policy (called_by call info) tables (Err cause) tables) why (λ risen. risen) (λ w none. absurd none) h,
+        stays tables rests,
+      ))
 
-  -- why it isn't carried out
-  abbrev Stops : Tables → Refusal → Type 0
-  Stops tables = StopsChange (models_at before) (author_by call) call.model tables (asked_change asked)
+  module _ (own : List RecId) (groups : (tables : Tables) → HasTables before tables → AreGroupsOf (models_at before) policy tables call.caller own) where
+    -- arguments are refused
+    pub change_answer : (why : Refusal) → HasModel (models_at before) call.model → GivesChange (models_at before) call (Err why) → ((tables : Tables) → HasTables before tables → HasTables after tables)
+        → AnswersWrite policy call before after (Err why)
+    change_answer (refusal.Request place) there wrong stays = λ tables rests.
+        known_of (model_at (models_at before) call.model) (λ info. change_of (models_at before) (called_by call info) ≡ Err place)
+        (λ info. AnswersBy (Writes (models_at before) policy (called_by call info)) before after tables (Err (refusal.Request place))) (λ info is. (
+          ((own, groups tables rests, asked-malformed (StopsWrite (models_at before) policy (author_by call) call.model tables own) (change_of (models_at before) (called_by call info)) place is), refl),
+          stays tables rests,
+        )) wrong
+    change_answer refusal.NoMemory there wrong stays = λ tables rests.
+        everywhere (model_at (models_at before) call.model) (λ info. AnswersBy (Writes (models_at before) policy (called_by call info)) before after tables (Err refusal.NoMemory)) (λ info. (tt, stays tables rests))
+    change_answer _ there wrong stays = absurd (nowhere (model_at (models_at before) call.model) there wrong)
 
-  -- a change that isn't carried out refuses the write
-  stops : (info : ModelInfo) (tables : Tables) → AsksFor info → (w : Refusal) → Stops tables w
-      → Writes (models_at before) (called_by call info) tables (Err w) tables
-  stops info tables is (refusal.Missing m id) h = ((asked_change asked, is, h.0, h.1), refl)
-  stops info tables is (refusal.Constraint b) h = ((asked_change asked, is, h.0, h.1), refl)
-  stops info tables is _ h = absurd h
+    -- ---- what is carried out
 
-  pub stopped_answer : (why : Refusal) → ((tables : Tables) → HasTables before tables → HasTables after tables × Refuses (KeeperRose before after) (Stops tables) why)
-      → AnswersWrite call before after (Err why)
-  stopped_answer why refused tables rests =
-      let own = refused tables rests in
-      known_of (model_at (models_at before) call.model) AsksFor (λ info. AnswersBy (Writes (models_at before) (called_by call info)) before after tables (Err why))
-      (λ info is. (
-        Refuses-weaker (KeeperRose before after) (KeeperRose before after) (Stops tables)
-            (λ cause. Writes (models_at before) (called_by call info) tables (Err cause) tables) why (λ risen. risen) (stops info tables is) own.1,
-        own.0,
-      )) gives
+    module _ (asked : Asked) (gives : GivesChange (models_at before) call (Ok asked)) where
+      -- the call asks for the change
+      abbrev AsksFor : ModelInfo → Type 0
+      AsksFor info = change_of (models_at before) (called_by call info) ≡ Ok (asked_change asked)
 
-  -- it has its cause
-  causes : (info : ModelInfo) → AsksFor info → (w : Refusal) → MayStopChange (models_at before) call.model (asked_change asked) w → WriteCause (models_at before) (called_by call info) w
-  causes info is (refusal.Missing m id) h = (asked_change asked, is, h.0, h.1)
-  causes info is (refusal.Constraint b) h = h
-  causes info is _ h = absurd h
+      -- why it isn't carried out
+      abbrev pub Stops : Tables → Refusal → Type 0
+      Stops tables = StopsWrite (models_at before) policy (author_by call) call.model tables own (asked_change asked)
 
-  pub stopped_cause : (rose : Type 0) (why : Refusal) → Refuses rose (MayStopChange (models_at before) call.model (asked_change asked)) why
-      → Refuses rose (λ w. IfSome (model_at (models_at before) call.model) (λ info. WriteCause (models_at before) (called_by call info) w)) why
-  stopped_cause rose why h =
-      Refuses-weaker rose rose (MayStopChange (models_at before) call.model (asked_change asked)) (λ w. IfSome (model_at (models_at before) call.model) (λ info. WriteCause (models_at before) (called_by call info) w)) why
-      (λ risen. risen)
-      (λ w may. known_of (model_at (models_at before) call.model) AsksFor (λ info. WriteCause (models_at before) (called_by call info) w) (λ info is. causes info is w may) gives)
-      h
+      pub stopped_answer : (why : Refusal) → ((tables : Tables) → HasTables before tables → HasTables after tables × Refuses (KeeperRose before after) (Stops tables) why)
+          → AnswersWrite policy call before after (Err why)
+      stopped_answer why refused tables rests =
+          let said = refused tables rests in
+          known_of (model_at (models_at before) call.model) AsksFor (λ info. AnswersBy (Writes (models_at before) policy (called_by call info)) before after tables (Err why))
+          (λ info is. (
+            Refuses-weaker (KeeperRose before after) (KeeperRose before after) (Stops tables) (λ cause. Writes (models_at before) policy (called_by call info) tables (Err cause) tables) why (λ risen. risen)
+                (λ w h. ((own, groups tables rests, asked-stopped (StopsWrite (models_at before) policy (author_by call) call.model tables own) (change_of (models_at before) (called_by call info)) (asked_change asked) w is h), refl))
+                said.1,
+            said.0,
+          )) gives
 
-  -- a change that is carried out answers true
-  pub written_answer : (json : Data) → json ≡ boolean true → IsAtRest (models_at before) after.held
-      → ((tables : Tables) → HasTables before tables → AreThere call.model tables asked.ids.items
-      × Stands after.kept after.held (settled_of (with_edits (resting (models_at before) tables) (edits_of (models_at before) (author_by call) call.model tables (asked_change asked)))))
-      → AnswersWrite call before after (Ok json)
-  written_answer json is rest settled tables rests =
-      let (there, stands) = settled tables rests in
-      let models = models_at before in
-      let new = changed models (author_by call) call.model tables (asked_change asked) in
-      let here : Stands after.kept after.held (settled_over after.held.models tables new) = subst (λ (ms : List ModelInfo). Stands after.kept after.held (settled_over ms tables new)) (sym rest.models_are) stands in
-      known_of (model_at models call.model) AsksFor (λ info. AnswersBy (Writes models (called_by call info)) before after tables (Ok json))
-      (λ info given. (
-        new,
-        record { change = asked_change asked; given = given; there = there; tables = refl; sound = sound_in models tables new after.kept stands.over; answer = is },
-        here,
-      )) gives
+      -- it has its cause
+      pub stopped_cause : (rose : Type 0) (why : Refusal) → Refuses rose (MayStopWrite (models_at before) policy call.caller call.model (asked_change asked)) why → HasCause policy call (models_at before) rose why
+      stopped_cause rose why h =
+          Refuses-weaker rose rose (MayStopWrite (models_at before) policy call.caller call.model (asked_change asked)) (λ w. IfSome (model_at (models_at before) call.model) (λ info. WriteCause (models_at before) policy (called_by call info) w)) why
+          (λ risen. risen)
+          (λ w may. known_of (model_at (models_at before) call.model) AsksFor (λ info. WriteCause (models_at before) policy (called_by call info) w)
+          (λ info is. asked-stopped (MayStopWrite (models_at before) policy call.caller call.model) (change_of (models_at before) (called_by call info)) (asked_change asked) w is may) gives)
+          h
+
+      -- a change that is carried out answers true
+      pub written_answer : (json : Data) → json ≡ boolean true → IsAtRest (models_at before) after.held
+          → ((tables : Tables) → HasTables before tables → IsAdmissible (models_at before) policy call.caller call.model tables own (asked_change asked)
+          × Stands after.kept after.held (settled_of (with_edits (resting (models_at before) tables) (edits_of (models_at before) (author_by call) call.model tables (asked_change asked)))))
+          → AnswersWrite policy call before after (Ok json)
+      written_answer json is rest settled tables rests =
+          let (admissible, stands) = settled tables rests in
+          let models = models_at before in
+          let new = changed models (author_by call) call.model tables (asked_change asked) in
+          let here : Stands after.kept after.held (settled_over after.held.models tables new) = subst (λ (ms : List ModelInfo). Stands after.kept after.held (settled_over ms tables new)) (sym rest.models_are) stands in
+          known_of (model_at models call.model) AsksFor (λ info. AnswersBy (Writes models policy (called_by call info)) before after tables (Ok json))
+          (λ info given. (
+            new,
+            (own, groups tables rests, record { change = asked_change asked; asked = given; admissible = admissible; tables = refl; sound = sound_in models tables new after.kept stands.over; answer = is }),
+            here,
+          )) gives

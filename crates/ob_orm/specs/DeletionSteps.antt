@@ -1,5 +1,5 @@
 -- Private: what the steps of a deletion say of their results.
-use Rattle.std.specs.Prelude.{◌≡◌, ◌⊎◌, ◌↔◌, ◌≤◌, ◌+◌, ◌&&◌, ◌++◌, ℕ, List, map, filter, length, not, Bool, true, false, All, Contains, Option, Some, None, option_map, option_and_then, unwrap_or, if◌then◌else◌, IsSome, IsSomeAnd}
+use Rattle.std.specs.Prelude.{◌≡◌, ◌⊎◌, ◌↔◌, ◌≤◌, ◌+◌, ◌&&◌, ◌++◌, ℕ, List, map, filter, length, not, Bool, true, false, Contains, Option, Some, None, option_map, option_and_then, unwrap_or, if◌then◌else◌, IsSome, IsSomeAnd, IsOk, Result, Ok, Err, ⊤}
 use Rattle.std.specs.BTreeSet as sorted
 use Rattle.ob_base.specs.BrokenOrder.{cell_order}
 use Rattle.ob_base.specs.Ids.{row_key_cmp}
@@ -8,12 +8,13 @@ use Rattle.ob_base.specs.declared.id.FieldNo.{FieldNo}
 use Rattle.ob_base.specs.declared.id.ModelNo.{ModelNo}
 use Rattle.ob_base.specs.declared.id.RecId.{RecId}
 use Rattle.ob_base.specs.declared.id.RowKey.{RowKey}
+use Rattle.ob_base.specs.declared.place.PathStep.{PathStep}
 use Rattle.ob_base.specs.declared.refusal.Broken.{Broken}
 use Rattle.ob_base.specs.declared.refusal.BrokenKind.{BrokenKind}
 use Rattle.ob_base.specs.declared.refusal.BrokenKind.TheVariants as kind
+use Rattle.ob_base.specs.declared.refusal.Op.TheVariants as op
 use Rattle.ob_base.specs.declared.refusal.Refusal.{Refusal}
 use Rattle.ob_base.specs.declared.refusal.Refusal.TheVariants as refusal
-use Rattle.ob_base.specs.declared.value.Value.{Value}
 use Rattle.ob_base.specs.declared.value.Value.TheVariants as value
 use Rattle.ob_cache.specs.Calls.{settled_over}
 use Rattle.ob_cache.specs.Stages.{IsKeptRelation}
@@ -23,11 +24,15 @@ use Rattle.ob_definition.specs.Keys.{is_many2one}
 use Rattle.ob_definition.specs.declared.field_type.OnDelete.{OnDelete}
 use Rattle.ob_definition.specs.declared.field_type.OnDelete.TheVariants as ondelete
 use Rattle.ob_io.specs.Store.{Store}
+use Rattle.ob_orm.specs.AskingSteps.{AdmitsBy, DeniesBy, may_by}
 use Rattle.ob_orm.specs.Deletion.{Bars, HasAction, IsDeleted, NamesRow, left_at, row_of_cell}
 use Rattle.ob_orm.specs.Locks.{IsLocked, told_field}
-use Rattle.ob_orm.specs.Unlink.{AreDeleted, StopsDeletion, rows_named}
+use Rattle.ob_orm.specs.Unlink.{AreDeleted, StopsDeletion}
+use Rattle.ob_orm.specs.Rights.{DeniesOne, rows_named}
 use Rattle.ob_orm.specs.Write.{AreThere}
+use Rattle.ob_orm.specs.declared.asking.Caller.{Caller}
 use Rattle.ob_orm.specs.declared.unlinking.relations.KeptRelation.{KeptRelation}
+use Rattle.ob_schema.specs.Facts.{told_by}
 use Rattle.ob_schema.specs.Fields.{is_plain_kept}
 use Rattle.ob_schema.specs.Models.{FieldHas, HasField, HasModel, field_at, is_id_from, model_at}
 use Rattle.ob_schema.specs.Plain.{naming}
@@ -184,14 +189,32 @@ abbrev pub IsStoppedBy : List ModelInfo → Tables → List RowKey → Refusal �
 IsStoppedBy models tables rows (refusal.Constraint b) = StopsDeletion models tables rows b
 IsStoppedBy models tables rows _ = ⊥
 
--- why rows aren't deleted: the least of the ids that no row has; or what keeps them from it
-abbrev pub StopsUnlink : List ModelInfo → ModelNo → Tables → List ℕ → Refusal → Type 0
-StopsUnlink models model tables ids (refusal.Missing m id) = (m ≡ model) × IsLeastMissing model tables ids id.0
-StopsUnlink models model tables ids (refusal.Constraint b) = AreThere model tables ids × StopsDeletion models tables (rows_named model ids) b
-StopsUnlink models model tables ids _ = ⊥
+-- why rows that are there aren't deleted for a caller: the least that a rule denies him; or what keeps them from it
+abbrev pub HoldsBack : List ModelInfo → Caller → ModelNo → Tables → List ℕ → Refusal → Type 0
+HoldsBack models by model tables ids (refusal.Rule m operation id name) = DeniesBy by (told_by models tables) op.Unlink (rows_named model ids) (refusal.Rule m operation id name)
+HoldsBack models by model tables ids (refusal.Constraint b) = AdmitsBy by (told_by models tables) op.Unlink (rows_named model ids) × StopsDeletion models tables (rows_named model ids) b
+HoldsBack models by model tables ids _ = ⊥
 
--- whatever the tables: one of the ids is missing, or something is broken at a cell of the models
+-- why rows aren't deleted: the least of the ids that no row has; or what holds the rows back
+abbrev pub StopsUnlink : List ModelInfo → Caller → ModelNo → Tables → List ℕ → Refusal → Type 0
+StopsUnlink models by model tables ids (refusal.Missing m id) = (m ≡ model) × IsLeastMissing model tables ids id.0
+StopsUnlink models by model tables ids why = AreThere model tables ids × HoldsBack models by model tables ids why
+
+-- whatever the tables: a rule denies the row of one of the ids, or something is broken at a cell of the models
+abbrev pub MayHoldBack : List ModelInfo → ModelNo → List ℕ → Refusal → Type 0
+MayHoldBack models model ids (refusal.Rule m operation id name) = DeniesOne op.Unlink (rows_named model ids) (refusal.Rule m operation id name)
+MayHoldBack models model ids (refusal.Constraint b) = HasField models b.cell.model b.cell.field
+MayHoldBack models model ids _ = ⊥
+
+-- or one of the ids is missing
 abbrev pub MayStopUnlink : List ModelInfo → ModelNo → List ℕ → Refusal → Type 0
 MayStopUnlink models model ids (refusal.Missing m id) = (m ≡ model) × Contains ids id.0
-MayStopUnlink models model ids (refusal.Constraint b) = HasField models b.cell.model b.cell.field
-MayStopUnlink models model ids _ = ⊥
+MayStopUnlink models model ids why = MayHoldBack models model ids why
+
+-- the ids that a call gives, whose caller may delete rows of the model; or why not
+abbrev pub IsNaming : {A : Type 0} → (A → List ℕ) → Caller → ModelNo → Result A Refusal → Result (List ℕ) (List PathStep) → Type 0
+IsNaming of by model (Ok ids) meant = (meant ≡ Ok (of ids)) × (may_by by (op.Unlink, model) ≡ true)
+IsNaming of by model (Err (refusal.Request place)) meant = meant ≡ Err place
+IsNaming of by model (Err (refusal.Right m operation)) meant = IsOk meant × (m ≡ model) × (operation ≡ op.Unlink) × (may_by by (op.Unlink, model) ≡ false)
+IsNaming of by model (Err refusal.NoMemory) meant = ⊤
+IsNaming of by model (Err _) meant = ⊥

@@ -5,6 +5,10 @@ use Rattle.std.specs.Option.{option_map_or}
 use Rattle.serde_json.specs.Data.{Data, boolean, string, array, object, Members, no_members, put}
 use Rattle.serde_json.specs.Find.{as_str}
 use Rattle.serde_json.specs.View.{items_of}
+use Rattle.ob_access.specs.Policies.{PolicyData}
+use Rattle.ob_access.specs.Rights.{field_right}
+use Rattle.ob_base.specs.declared.id.ModelNo.{ModelNo}
+use Rattle.ob_base.specs.declared.id.RecId.{RecId}
 use Rattle.ob_base.specs.declared.refusal.Refusal.{Refusal}
 use Rattle.ob_base.specs.declared.refusal.Refusal.TheVariants as refusal
 use Rattle.ob_call.specs.Arguments.{Expected, Given, arguments_of}
@@ -16,6 +20,7 @@ use Rattle.ob_definition.specs.Keys.{is_selection}
 use Rattle.ob_definition.specs.declared.field_type.Choice.{Choice}
 use Rattle.ob_definition.specs.declared.field_type.FieldType.{FieldType}
 use Rattle.ob_definition.specs.declared.field_type.FieldType.TheVariants as type
+use Rattle.ob_orm.specs.Rights.{ByGroups}
 use Rattle.ob_schema.specs.Fields.{Column}
 use Rattle.ob_schema.specs.Models.{field_at, is_computed_from, is_id_from, model_at}
 use Rattle.ob_schema.specs.Tables.{Tables}
@@ -104,17 +109,27 @@ field_data models texts field = object (members_put (filter (λ a. asks texts a.
 abbrev pub fields_data : List ModelInfo → List Data → List Column → Data
 fields_data models texts columns = object (members_put (map (λ column. (column.1.name, field_data models texts column.1)) columns) no_members)
 
--- what the arguments ask for
-abbrev pub fields_told : List ModelInfo → ModelInfo → List (Option Given) → Data
-fields_told models info (names ∷ texts ∷ []) = fields_data models (texts_in texts) (asked_columns info names)
-fields_told models info _ = fields_data models [] []
+-- of some fields of a model those that a caller in these groups may read
+abbrev pub readable : PolicyData → List RecId → RecId → ModelNo → List Column → List Column
+readable policy own user model columns = filter (λ column. field_right policy own user model (record { 0 = column.0 }) false) columns
+
+-- what the arguments ask for, of the fields that the caller may read
+abbrev pub fields_told : List ModelInfo → PolicyData → List RecId → Called → List (Option Given) → Data
+fields_told models policy own c (names ∷ texts ∷ []) = fields_data models (texts_in texts) (readable policy own c.caller c.model (asked_columns c.info names))
+fields_told models policy own c _ = fields_data models [] []
 
 -- why a fields_get is refused
 abbrev pub GetsFieldsCause : Called → Refusal → Type 0
 GetsFieldsCause c (refusal.Request place) = arguments_of (fields_get_expects c.info.fields) c.args c.kw ≡ Err place
 GetsFieldsCause c _ = ⊥
 
--- The machine answers a fields_get with the object of the fields, whatever the tables, or with why not.
-abbrev pub GetsFields : List ModelInfo → Called → Tables → Result Data Refusal → Type 0
-GetsFields models c tables (Ok json) = (given : List (Option Given)) × (arguments_of (fields_get_expects c.info.fields) c.args c.kw ≡ Ok given) × (json ≡ fields_told models c.info given)
-GetsFields models c tables (Err why) = GetsFieldsCause c why
+-- a fields_get that is answered, by the caller's groups: with the object of the fields
+abbrev pub TellsFields : List ModelInfo → PolicyData → Called → Data → List RecId → Type 0
+TellsFields models policy c json own = (given : List (Option Given)) × (arguments_of (fields_get_expects c.info.fields) c.args c.kw ≡ Ok given) × (json ≡ fields_told models policy own c given)
+
+-- The machine answers a fields_get with the object of the fields that its caller may read, by the
+-- groups that he has in the tables, or with why not. It asks no right: a field that he may not read
+-- is left out, also where it is named.
+abbrev pub GetsFields : List ModelInfo → PolicyData → Called → Tables → Result Data Refusal → Type 0
+GetsFields models policy c tables (Ok json) = ByGroups models policy tables c.caller (TellsFields models policy c json)
+GetsFields models policy c tables (Err why) = GetsFieldsCause c why

@@ -1,12 +1,18 @@
 -- Private: the words by which the rooms of `fields_get` are joined.
-use Rattle.std.specs.Prelude.{◌≡◌, List, codes, Bool, Option, Result, Ok, Err, if◌then◌else◌}
+use Rattle.std.specs.Prelude.{◌≡◌, List, codes, Bool, false, Option, Result, Ok, Err, if◌then◌else◌}
+use Rattle.ob_access.specs.Policies.{PolicyData}
+use Rattle.ob_access.specs.Rights.{field_right}
+use Rattle.ob_base.specs.declared.id.FieldNo.{FieldNo}
+use Rattle.ob_base.specs.declared.id.ModelNo.{ModelNo}
+use Rattle.ob_base.specs.declared.id.RecId.{RecId}
 use Rattle.ob_base.specs.declared.place.PathStep.{PathStep}
 use Rattle.ob_call.specs.Forms.{fields_at, names_fault, texts_fault}
 use Rattle.ob_base.specs.declared.refusal.Refusal.{Refusal}
 use Rattle.ob_cache.specs.Calls.{Refuses}
-use Rattle.ob_call.specs.Arguments.{Given, arguments_of}
 use Rattle.ob_call.specs.Called.{Called}
-use Rattle.ob_orm.specs.FieldsGet.{Attribute, GetsFieldsCause, asks, fields_get_expects, fields_told, members_put}
+use Rattle.ob_orm.specs.FieldsGet.{Attribute, GetsFieldsCause, TellsFields, asks, members_put, readable}
+use Rattle.ob_orm.specs.declared.asking.Caller.{Caller}
+use Rattle.ob_schema.specs.Fields.{Column}
 use Rattle.ob_schema.specs.declared.info.ModelInfo.{ModelInfo}
 use Rattle.ob_orm.specs.declared.fields.attributes.Attributes.{Attributes}
 use Rattle.ob_orm.specs.declared.fields.fields_form.FieldsForm.{FieldsForm}
@@ -33,7 +39,15 @@ pub record AreAsked (texts : List Data) (asked : Attributes) : Type 0 where
 abbrev pub members_put_if : Bool → List Attribute → Members → Members
 members_put_if asked attributes members = if asked then members_put attributes members else members
 
--- the answer or the refusal is a fields_get's, whatever the tables; no keeper is asked
-abbrev pub IsTold : List ModelInfo → Called → Result Data Refusal → Type 0
-IsTold models c (Ok json) = (given : List (Option Given)) × (arguments_of (fields_get_expects c.info.fields) c.args c.kw ≡ Ok given) × (json ≡ fields_told models c.info given)
-IsTold models c (Err why) = Refuses ⊥ (GetsFieldsCause c) why
+-- of some fields of a model those that a caller may read
+abbrev pub readable_by : Caller → ModelNo → List Column → List Column
+readable_by by model columns = readable by.policy.now by.groups.now by.user model columns
+
+-- whether he may read one
+abbrev pub may_read : Caller → ModelNo → FieldNo → Bool
+may_read by model field = field_right by.policy.now by.groups.now by.user model field false
+
+-- the answer or the refusal is a fields_get's, by a caller's groups; no keeper is asked
+abbrev pub IsTold : List ModelInfo → PolicyData → List RecId → Called → Result Data Refusal → Type 0
+IsTold models policy own c (Ok json) = TellsFields models policy c json own
+IsTold models policy own c (Err why) = Refuses ⊥ (GetsFieldsCause c) why

@@ -16,7 +16,7 @@ use Rattle.ob_base.specs.declared.value.Value.TheVariants as value
 use Rattle.ob_cache.specs.Calls.{HasTables, KeeperRose, Standpoint, models_at}
 use Rattle.ob_orm.specs.Author.{system_at}
 use Rattle.ob_orm.specs.FieldsGet.{is_readonly}
-use Rattle.ob_orm.specs.NewRows.{MadeRows, Values, made_row}
+use Rattle.ob_orm.specs.NewRows.{Values, made_row}
 use Rattle.ob_orm.specs.declared.author.Author.{Author}
 use Rattle.ob_orm.specs.declared.installing.InstallFault.{InstallFault}
 use Rattle.ob_orm.specs.declared.installing.InstallFault.TheVariants as fault
@@ -30,6 +30,7 @@ use Rattle.ob_schema.specs.declared.info.Origin.TheVariants as origin
 use Rattle.ob_schema.specs.declared.preset.PresetRow.{PresetRow}
 use Rattle.ob_schema.specs.declared.preset.PresetValue.{PresetValue}
 use Rattle.ob_schema.specs.declared.preset.PresetValue.TheVariants as preset
+use Rattle.ob_tables.specs.After.{after}
 
 -- the tables of an engine, where it has any, have no row, and each model's next id is 1
 abbrev pub IsNew : Standpoint → Type 0
@@ -55,6 +56,11 @@ given_by ids values = map (λ given. (given.0, brought ids given.1)) values
 abbrev pub is_of_group : PresetRow → Bool
 is_of_group row = starts_with nat_eq row.place (codes "group.")
 
+-- the tables with the rows so far, and the ids of these
+pub record RowsSoFar : Type 0 where
+  pub tables : Tables
+  pub ids : List ℕ
+
 -- rows as they are made one behind another: their ids, and the tables with the first so many of them
 pub record Course : Type 0 where
   pub rows : List PresetRow
@@ -63,13 +69,13 @@ pub record Course : Type 0 where
 
 module _ (models : List ModelInfo) (by : Author) where
   -- a row behind others: the tables with it and its parents, and the ids of all
-  abbrev pub with_row : MadeRows → PresetRow → MadeRows
+  abbrev pub with_row : RowsSoFar → PresetRow → RowsSoFar
   with_row at row =
       let one = made_row models by at.tables row.model (given_by at.ids row.values) in
-      record { tables = one.tables; ids = at.ids ++ one.id ∷ [] }
+      record { tables = after models at.tables one.edits; ids = at.ids ++ one.id ∷ [] }
 
   -- rows one behind another, where there are none: the tables with them, and their ids
-  abbrev pub installed_by : List PresetRow → MadeRows
+  abbrev pub installed_by : List PresetRow → RowsSoFar
   installed_by rows = fold with_row (record { tables = empty_tables models; ids = [] }) rows
 
   abbrev pub course_by : List PresetRow → Course
@@ -77,7 +83,7 @@ module _ (models : List ModelInfo) (by : Author) where
 
 -- The system makes those that modules bring.
 module _ (models : List ModelInfo) (now : ℤ) where
-  abbrev pub installed : List PresetRow → MadeRows
+  abbrev pub installed : List PresetRow → RowsSoFar
   installed rows = installed_by models (system_at now) rows
 
   abbrev pub course : List PresetRow → Course

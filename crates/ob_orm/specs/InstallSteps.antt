@@ -10,8 +10,7 @@ use Rattle.ob_base.specs.declared.refusal.BrokenKind.TheVariants as kind
 use Rattle.ob_base.specs.declared.refusal.Refusal.{Refusal}
 use Rattle.ob_base.specs.declared.refusal.Refusal.TheVariants as refusal
 use Rattle.ob_orm.specs.FieldsGet.{is_readonly}
-use Rattle.ob_orm.specs.Install.{ChangesAt, Course, IsForbidden, IsMadeFor, IsOfManaged, is_of_group}
-use Rattle.ob_orm.specs.NewRows.{MadeRows}
+use Rattle.ob_orm.specs.Install.{ChangesAt, Course, IsForbidden, IsMadeFor, IsOfManaged, RowsSoFar, is_of_group}
 use Rattle.ob_orm.specs.NewRowSteps.{IsReady, so_far}
 use Rattle.ob_orm.specs.declared.installing.InstallFault.{InstallFault}
 use Rattle.ob_orm.specs.declared.installing.InstallFault.TheVariants as fault
@@ -75,7 +74,7 @@ pub record IsPlacedBehind (old new : Placed) : Type 0 where
   pub counts : new.counts.items ≡ old.counts.items ++ length new.making.edits.items ∷ []
 
 -- the tables so far, where there were none, and the ids
-abbrev pub made_by : List ModelInfo → Placed → MadeRows
+abbrev pub made_by : List ModelInfo → Placed → RowsSoFar
 made_by models placed = record { tables = so_far models (empty_tables models) placed.making; ids = map (λ id. id.0) placed.ids.items }
 
 -- all rows are placed

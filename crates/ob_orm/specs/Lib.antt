@@ -5,6 +5,10 @@ pub mod Author
 pub mod RowValues
 pub mod NewRows
 pub mod GivenValues
+pub mod Rights
+pub mod Touches
+pub mod Touched
+pub mod Writable
 pub mod Write
 pub mod Create
 pub mod Locks
@@ -13,7 +17,8 @@ pub mod Unlink
 pub mod FieldsGet
 pub mod Install
 pub mod RefusalText
-pub mod Faults
+pub mod AskingSteps
+pub mod TouchSteps
 pub mod ObjectSteps
 pub mod CreateSteps
 pub mod NewRowSteps

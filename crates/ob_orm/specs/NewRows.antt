@@ -1,5 +1,5 @@
 -- Rows that are made of given values, one behind another, each with rows of those of its parents that no given id names.
-use Rattle.std.specs.Prelude.{◌==◌, ℕ, List, [], ◌∷◌, map, Bool, true, false, if◌then◌else◌, is_some, Option, Some, None, option_and_then, option_map}
+use Rattle.std.specs.Prelude.{◌==◌, ◌++◌, ℕ, List, [], ◌∷◌, map, Bool, true, false, if◌then◌else◌, is_some, Option, Some, None, option_and_then, option_map}
 use Rattle.std.specs.List.{filter_map, flat_map}
 use Rattle.std.specs.Map.{lookup}
 use Rattle.std.specs.Option.{option_map_or, option_or}
@@ -18,7 +18,7 @@ use Rattle.ob_schema.specs.declared.info.ModelInfo.{ModelInfo}
 use Rattle.ob_schema.specs.declared.info.Origin.{Origin}
 use Rattle.ob_schema.specs.declared.info.Origin.TheVariants as origin
 use Rattle.ob_schema.specs.declared.info.ParentInfo.{ParentInfo}
-use Rattle.ob_tables.specs.After.{after, edited}
+use Rattle.ob_tables.specs.After.{after}
 use Rattle.ob_tables.specs.declared.edit.Edit.{Edit}
 use Rattle.ob_tables.specs.declared.edit.Edit.TheVariants as edit
 
@@ -61,19 +61,19 @@ module _ (models : List ModelInfo) where
   abbrev pub behind : ModelNo → FieldNo → Values → Values
   behind model link given = filter_map (λ one. option_map (λ field. (field, one.1)) (field_behind model link one.0)) given
 
--- what is begun of a row: the tables with the parents that are made so far, and what is given with the links to them
+-- what is begun of a row: the edits that make its parents so far, and what is given with the links to them
 pub record Begun : Type 0 where
-  pub tables : Tables
+  pub edits : List Edit
   pub given : Values
 
--- the tables with a row, and its id
+-- the edits that make a row, with rows of its parents, and its id
 pub record MadeRow : Type 0 where
-  pub tables : Tables
+  pub edits : List Edit
   pub id : ℕ
 
--- the tables with several rows, and their ids
+-- the edits that make several rows, and their ids
 pub record MadeRows : Type 0 where
-  pub tables : Tables
+  pub edits : List Edit
   pub ids : List ℕ
 
 module _ (models : List ModelInfo) (by : Author) where
@@ -91,17 +91,20 @@ module _ (models : List ModelInfo) (by : Author) where
   making tables model given = edit.Make model (record { 0 = next_of tables model }) (filled true model given)
 
   -- a parent whose link isn't given by an id is made, of what is given behind the link; then the link names it
-  abbrev pub with_parent : ModelNo → Begun → ParentInfo → Begun
-  with_parent model at parent =
-      if is_some (linked at.given parent.link) then at else record {
-        tables = edited models at.tables (making at.tables parent.model (behind models model parent.link at.given));
-        given = (parent.link, value.Ref (record { 0 = next_of at.tables parent.model })) ∷ at.given;
+  abbrev pub with_parent : Tables → ModelNo → Values → ParentInfo → Begun
+  with_parent tables model given parent =
+      if is_some (linked given parent.link) then record { edits = []; given = given } else record {
+        edits = making tables parent.model (behind models model parent.link given) ∷ [];
+        given = (parent.link, value.Ref (record { 0 = next_of tables parent.model })) ∷ given;
       }
 
   -- one parent behind another
-  abbrev pub with_parents : ModelNo → Begun → List ParentInfo → Begun
-  with_parents model at [] = at
-  with_parents model at (parent ∷ more) = with_parents model (with_parent model at parent) more
+  abbrev pub with_parents : Tables → ModelNo → Values → List ParentInfo → Begun
+  with_parents tables model given [] = record { edits = []; given = given }
+  with_parents tables model given (parent ∷ more) =
+      let one = with_parent tables model given parent in
+      let rest = with_parents (after models tables one.edits) model one.given more in
+      record { edits = one.edits ++ rest.edits; given = rest.given }
 
   -- the values of a parent's row that a change of these gives it; where none are given it isn't changed
   abbrev pub changed_values : ModelNo → Values → Values
@@ -115,15 +118,16 @@ module _ (models : List ModelInfo) (by : Author) where
   -- a row of these values: its parents that are made, itself, and then what it changes of the other parents
   abbrev pub made_row : Tables → ModelNo → Values → MadeRow
   made_row tables model given =
-      let at = with_parents model (record { tables = tables; given = given }) (parents_of models model) in record {
-        tables = after models (edited models at.tables (making at.tables model at.given)) (flat_map (parent_change model given) (parents_of models model));
-        id = next_of at.tables model;
+      let at = with_parents tables model given (parents_of models model) in
+      let before = after models tables at.edits in record {
+        edits = at.edits ++ making before model at.given ∷ flat_map (parent_change model given) (parents_of models model);
+        id = next_of before model;
       }
 
   -- rows of these values, each over the tables that those before it left
   abbrev pub made_rows : Tables → ModelNo → List Values → MadeRows
-  made_rows tables model [] = record { tables = tables; ids = [] }
+  made_rows tables model [] = record { edits = []; ids = [] }
   made_rows tables model (given ∷ more) =
       let one = made_row tables model given in
-      let rest = made_rows one.tables model more in
-      record { tables = rest.tables; ids = one.id ∷ rest.ids }
+      let rest = made_rows (after models tables one.edits) model more in
+      record { edits = one.edits ++ rest.edits; ids = one.id ∷ rest.ids }

@@ -6,20 +6,20 @@
 //! Rooms: `creating`, `writing` and `unlinking`, with `values` (to which fields calls give values),
 //! `objects` (one object of values, or a list of them), `row_values` (the value that JSON gives a
 //! field), `making` (how rows are made of given values, with rows of their parents), `author` (who
-//! makes or changes rows and when, and what that stamps in them), `there` (which rows are there),
-//! `settled` (values as they were settled last), `locking` (which rows are locked), `ids` (the cell
-//! `id` of a row) and `settling` (how edits are settled); `fields` (what fields a model has);
+//! makes or changes rows and when, and what that stamps in them), `asking` (what the caller may do,
+//! and which rows rules deny him), `there` (which rows are there), `settled` (values as they were
+//! settled last), `locking` (which rows are locked), `ids` (the cell `id` of a row) and `settling`
+//! (how edits are settled); `fields` (what fields a model has, of those that the caller may read);
 //! `installing` (how the rows that modules bring are placed and made, and what they may not do);
-//! `refusal_texts` (how refusals and cells are told), `creatable` (of which models a create makes
-//! rows and a write changes them), and `fault` (faults of the engine as refusals). How arguments are
-//! read stands in the crate `ob_call`, and what only reads in `ob_query`. The definitions stand in
-//! specs/.
+//! `refusal_texts` (how refusals and cells are told), and `creatable` (of which models a create makes
+//! rows and a write changes them). How arguments are read stands in the crate `ob_call`, and what
+//! only reads in `ob_query`. The definitions stand in specs/.
 #![tactic(auto)]
 
+mod asking;
 mod author;
 mod creatable;
 mod creating;
-mod fault;
 mod fields;
 mod ids;
 mod installing;
@@ -31,6 +31,7 @@ mod row_values;
 mod settled;
 mod settling;
 mod there;
+mod touching;
 mod unlinking;
 mod values;
 mod writing;

@@ -6,7 +6,7 @@
 //! given), `parents` (what becomes of a row's parents) and `limits` (ids past their limit). What a
 //! row is made of is `made_row`: a change begins there.
 
-ghost use Rattle.std.specs.Prelude.{◌≡◌, All, IfOk, OnOk, map};
+ghost use Rattle.std.specs.Prelude.{◌≡◌, ◌++◌, ◌∷◌, [], All, IfOk, OnOk, map};
 ghost use Rattle.ob_base.specs.Times.{IsMoment};
 ghost use Rattle.ob_orm.specs.NewRows as spec;
 ghost use Rattle.ob_orm.specs.NewRows.{made_row, made_rows};
@@ -14,7 +14,6 @@ ghost use Rattle.ob_orm.specs.NewRowSteps.{AddsEdits, HoldsNextIds, IsReady, IsT
 ghost use Rattle.ob_schema.specs.Models.{HasModel};
 ghost use Rattle.ob_schema.specs.Tables.{Tables, next_of};
 ghost use Rattle.ob_tables.specs.Fitting.{IsFitId};
-ghost use Rattle.ob_tables.specs.After.{edited};
 
 pub(crate) mod filling;
 pub(crate) mod limits;
@@ -51,9 +50,8 @@ pub(crate) fn make_rows(
     requires ready { IsReady maker.now.schema.now making.old }
     ensures ready { OnOk result (IsReady maker.entry.now.schema.now making.new) }
     ensures made { IfOk result (λ ids. (old : Tables) → HoldsNextIds maker.entry.now.schema.now old making.old
-        → (so_far maker.entry.now.schema.now old making.new ≡ (made_rows maker.entry.now.schema.now maker.entry.now.author (so_far maker.entry.now.schema.now old making.old) model each.items).tables)
-        × (map (λ id. id.0) ids.items ≡ (made_rows maker.entry.now.schema.now maker.entry.now.author (so_far maker.entry.now.schema.now old making.old) model each.items).ids)
-        × HoldsNextIds maker.entry.now.schema.now old making.new) }
+        → let made = made_rows maker.entry.now.schema.now maker.entry.now.author (so_far maker.entry.now.schema.now old making.old) model each.items in
+        (making.new.edits.items ≡ making.old.edits.items ++ made.edits) × (map (λ id. id.0) ids.items ≡ made.ids) × HoldsNextIds maker.entry.now.schema.now old making.new) }
 {
     let mut ids = Vec::new(maker.alloc);
     for given in each {
@@ -78,9 +76,8 @@ pub(crate) fn make_row(
     ensures adds { OnOk result (AddsEdits making.old making.new) }
     ensures ready { OnOk result (IsReady maker.entry.now.schema.now making.new) }
     ensures made { IfOk result (λ id. (old : Tables) → HoldsNextIds maker.entry.now.schema.now old making.old
-        → (so_far maker.entry.now.schema.now old making.new ≡ (made_row maker.entry.now.schema.now maker.entry.now.author (so_far maker.entry.now.schema.now old making.old) model given.items).tables)
-        × (id.0 ≡ (made_row maker.entry.now.schema.now maker.entry.now.author (so_far maker.entry.now.schema.now old making.old) model given.items).id)
-        × HoldsNextIds maker.entry.now.schema.now old making.new) }
+        → let made = made_row maker.entry.now.schema.now maker.entry.now.author (so_far maker.entry.now.schema.now old making.old) model given.items in
+        (making.new.edits.items ≡ making.old.edits.items ++ made.edits) × (id.0 ≡ made.id) × HoldsNextIds maker.entry.now.schema.now old making.new) }
 {
     let mut given = given;
     let mut changes = parent_changes(maker, model, given.as_slice())?;
@@ -105,10 +102,8 @@ pub(crate) fn make_one(
     ensures adds { OnOk result (AddsEdits making.old making.new) }
     ensures ready { OnOk result (IsReady maker.entry.now.schema.now making.new) }
     ensures made { IfOk result (λ id. (old : Tables) → HoldsNextIds maker.entry.now.schema.now old making.old
-        → (so_far maker.entry.now.schema.now old making.new ≡ edited maker.entry.now.schema.now (so_far maker.entry.now.schema.now old making.old)
-        (spec.making maker.entry.now.schema.now maker.entry.now.author (so_far maker.entry.now.schema.now old making.old) model given.now))
-        × (id.0 ≡ next_of (so_far maker.entry.now.schema.now old making.old) model)
-        × HoldsNextIds maker.entry.now.schema.now old making.new) }
+        → let before = so_far maker.entry.now.schema.now old making.old in
+        (making.new.edits.items ≡ making.old.edits.items ++ spec.making maker.entry.now.schema.now maker.entry.now.author before model given.now ∷ []) × (id.0 ≡ next_of before model) × HoldsNextIds maker.entry.now.schema.now old making.new) }
 {
     let values = filled(maker, true, model, given)?;
     let id = take_id(making, model)?;

@@ -15,7 +15,6 @@ ghost use Rattle.ob_tables.specs.After.{after};
 ghost use Rattle.ob_tables.specs.Changes.{MakesBelow};
 ghost use Rattle.ob_tables.specs.Fitting.{IsFitEdit};
 
-use crate::fault::{keeper_refusal, settle_refusal};
 use ob_base::{Ledger, Refusal, Steps};
 use ob_cache::Engine;
 use ob_io::Keeper;
@@ -74,6 +73,6 @@ fn stage_edits<K: Keeper, L: Ledger>(
     ensures same { K.kept engine.new.keeper.now ≡ K.kept engine.old.keeper.now }
     ensures lender { engine.new.keeper.ghost_name ≡ engine.old.keeper.ghost_name }
 {
-    engine.stage(edits).map_err(keeper_refusal)?;
-    engine.settle(steps).map_err(settle_refusal)
+    engine.stage(edits)?;
+    Ok(engine.settle(steps)?)
 }

@@ -1,15 +1,18 @@
 //! Which of the rows that a call names are there.
 
-ghost use Rattle.std.specs.Prelude.{◌≡◌, ◌≤◌, Contains, IfErr, IfOk, IfSome, is_some};
+ghost use Rattle.std.specs.Prelude.{◌≡◌, ◌≤◌, Contains, IfErr, IfOk, IfSome, None};
 ghost use Rattle.ob_cache.specs.Calls.{Refuses};
 ghost use Rattle.ob_cache.specs.Standing.{RestsAt, Stays};
+ghost use Rattle.ob_cache.specs.Telling.{TellsFacts};
 ghost use Rattle.ob_cache.specs.declared.stages.Phase.TheVariants as phase;
 ghost use Rattle.ob_io.specs.Cause.{Rose};
+ghost use Rattle.ob_orm.specs.AskingSteps.{AreKnown};
+ghost use Rattle.ob_orm.specs.Rights.{rows_named};
 ghost use Rattle.ob_orm.specs.WriteSteps.{MissesOnly};
+ghost use Rattle.ob_schema.specs.Facts.{OfAllTold};
 ghost use Rattle.ob_schema.specs.Models.{HasModel};
-ghost use Rattle.ob_schema.specs.Tables.{Tables, row_at};
+ghost use Rattle.ob_schema.specs.Tables.{Tables};
 
-use crate::fault::keeper_refusal;
 use ob_base::{ModelNo, RecId, Refusal};
 use ob_cache::Engine;
 use ob_call::least;
@@ -24,6 +27,7 @@ pub(crate) fn missing_id<K: Keeper>(
     requires model { HasModel engine.old.held.models model }
     requires rest { engine.old.held.phase ≡ phase.Settled }
     ensures told { IfOk result (λ missing. (tables : Tables) → RestsAt (K.kept engine.old.keeper.now) engine.old.held tables → MissesOnly model tables ids.now missing) }
+    ensures known { IfOk result (λ missing. missing ≡ None → OfAllTold (TellsFacts (K.kept engine.old.keeper.now) engine.old.held) (AreKnown (rows_named model ids.now))) }
     ensures asked { IfOk result (λ missing. IfSome missing (Contains ids.now)) }
     ensures causes { IfErr result (Refuses (Rose (K.faults engine.old.keeper.now) (K.faults engine.new.keeper.now)) (λ _. ⊥)) }
     ensures same { Stays (K.kept engine.old.keeper.now) engine.old.held (K.kept engine.new.keeper.now) engine.new.held }
@@ -41,22 +45,18 @@ pub(crate) fn missing_id<K: Keeper>(
 }
 
 /// Whether a row is there.
-fn is_there<K: Keeper>(
+pub(crate) fn is_there<K: Keeper>(
     engine: &mut Engine<'_, K>,
     model: ModelNo,
     id: RecId,
 ) -> Result<bool, Refusal>
     requires model { HasModel engine.old.held.models model }
     requires rest { engine.old.held.phase ≡ phase.Settled }
-    ensures told { IfOk result (λ there. (tables : Tables) → RestsAt (K.kept engine.old.keeper.now) engine.old.held tables
-        → there ≡ is_some (row_at tables model id)) }
+    ensures told { IfOk result (λ there. OfAllTold (TellsFacts (K.kept engine.old.keeper.now) engine.old.held) (λ told. there ≡ told.knows model id)) }
     ensures causes { IfErr result (Refuses (Rose (K.faults engine.old.keeper.now) (K.faults engine.new.keeper.now)) (λ _. ⊥)) }
     ensures same { Stays (K.kept engine.old.keeper.now) engine.old.held (K.kept engine.new.keeper.now) engine.new.held }
     ensures count { K.faults engine.old.keeper.now ≤ K.faults engine.new.keeper.now }
     ensures lender { engine.new.keeper.ghost_name ≡ engine.old.keeper.ghost_name }
 {
-    match engine.has_row(model, id) {
-        Ok(there) => Ok(there),
-        Err(fault) => Err(keeper_refusal(fault)),
-    }
+    Ok(engine.has_row(model, id)?)
 }

@@ -2,12 +2,14 @@
 use Rattle.std.proofs.Common.{◌≡◌, ◌&&◌, Bool, true, false, ℕ, ◌≤◌, ◌<◌, inl, inr, List, Option, Some, None, Result, Ok, Err, refl, sym, subst, ◌∙◌, arith}
 use Rattle.std.specs.Prelude.{IfErr, IsErrOf, IsSomeAnd}
 use Rattle.ob_cache.proofs.CallerLemmas.{stays-then}
-use Rattle.ob_cache.specs.Calls.{HasTables, standpoint}
+use Rattle.ob_base.specs.declared.refusal.Refusal.{Refusal}
+use Rattle.ob_cache.specs.Calls.{HasTables, KeeperRose, Refuses, standpoint}
 use Rattle.ob_cache.specs.Stages.{IsUsable, StandsOver, resting}
 use Rattle.ob_cache.specs.Standing.{Stands, Stays}
 use Rattle.ob_cache.specs.declared.engine.Engine.{Engine}
 use Rattle.ob_cache.specs.declared.stages.Phase.TheVariants as phase
 use Rattle.ob_io.specs.Cause.{HasCause, Rose}
+use Rattle.ob_io.specs.Refusals.{keeper_refusal}
 use Rattle.ob_io.specs.declared.keeper.KeepFault.{KeepFault}
 use Rattle.ob_io.specs.declared.keeper.KeepFault.TheVariants as keep_fault
 use Rattle.ob_io.specs.declared.keeper.Keeper.{Ghosts}
@@ -76,6 +78,11 @@ module _ {K : Type 0} (g : Ghosts K) where
     same = stays-then (g.kept a.keeper.now) (g.kept b.keeper.now) (g.kept c.keeper.now) a.held b.held c.held first.same second.same;
     count = omega (arith, first.count, second.count);
   }
+
+  -- and a question behind others that has no answer refuses the call that asks, whatever else may
+  pub unanswered_refuses : (a b c : Engine K) (P : Refusal → Type 0) (fault : KeepFault) → OnlyAsked g a b → IsUnanswered g b c fault → Refuses (KeeperRose (standpoint g a) (standpoint g c)) P (keeper_refusal fault)
+  unanswered_refuses a b c P keep_fault.Failed asked cause = rose_later (g.faults a.keeper.now) (g.faults b.keeper.now) (g.faults c.keeper.now) asked.count cause
+  unanswered_refuses a b c P keep_fault.NoMemory asked cause = tt
 
   -- what holds of all that was told holds of all that is, and the other way round
   pub told_on : (a b : Engine K) (P : Told → Type 0) → OnlyAsked g a b → OfAllTold (TellsOf g a) P → OfAllTold (TellsOf g b) P

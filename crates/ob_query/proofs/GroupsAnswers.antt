@@ -22,7 +22,8 @@ use Rattle.ob_query.specs.Groups.{Groups, GroupsOver}
 use Rattle.ob_query.specs.NamedFields.{groups_named}
 use Rattle.ob_query.specs.Search.{found_in, held_of}
 use Rattle.ob_query.specs.SearchParts.{found_by, sought_view, told_to}
-use Rattle.ob_query.specs.Views.{AreGroupsOf, View, view_of}
+use Rattle.ob_access.specs.Users.{AreGroupsOf}
+use Rattle.ob_query.specs.Views.{View, view_of}
 use Rattle.ob_query.specs.declared.caller.Caller.{Caller}
 use Rattle.ob_query.specs.declared.grouping.asked.AskedGroups.{AskedGroups}
 use Rattle.ob_schema.specs.Facts.{told_by}

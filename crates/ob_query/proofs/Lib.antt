@@ -7,7 +7,6 @@ pub mod RankedRows
 pub mod Walks
 pub mod Asked
 pub mod Callers
-pub mod CallersGroups
 pub mod NamedBy
 pub mod NamingSteps
 pub mod Granted

@@ -34,7 +34,8 @@ use Rattle.ob_query.specs.NamedFields.{Naming, name_fields, names_name, read_nam
 use Rattle.ob_query.specs.Read.{IsLeastFailing, ReadCause, ReadRefuses, Reads, ReadsOver, TellsRows}
 use Rattle.ob_query.specs.ReadArguments.{Asked, asked_by, asked_of, read_expects}
 use Rattle.ob_query.specs.ReadParts.{HidesLeast, IsHiddenAmong, IsLeastMissing, TellsAsked, read_view, told_read}
-use Rattle.ob_query.specs.Views.{AreGroupsOf, View, view_of}
+use Rattle.ob_access.specs.Users.{AreGroupsOf}
+use Rattle.ob_query.specs.Views.{View, view_of}
 use Rattle.ob_query.specs.declared.caller.Caller.{Caller}
 use Rattle.ob_query.specs.declared.reading.Asked.{Asked as Own}
 use Rattle.ob_schema.specs.Facts.{told_by}
@@ -144,11 +145,11 @@ as_cause : (policy : PolicyData) (c : Called) (why : Refusal) → AskCause polic
 as_cause policy c (refusal.Request place) h = h
 as_cause policy c (refusal.Right m operation) h = h
 as_cause policy c (refusal.FieldRight m field) h = h
-as_cause policy c (refusal.Missing m id) h = absurd h
-as_cause policy c (refusal.Rule m operation id name) h = absurd h
-as_cause policy c (refusal.Constraint broken) h = absurd h
-as_cause policy c refusal.Keeper h = absurd h
-as_cause policy c refusal.NoMemory h = absurd h
+as_cause policy c (refusal.Missing m id) h = absurd h.1
+as_cause policy c (refusal.Rule m operation id name) h = absurd h.1
+as_cause policy c (refusal.Constraint broken) h = absurd h.1
+as_cause policy c refusal.Keeper h = absurd h.1
+as_cause policy c refusal.NoMemory h = absurd h.1
 
 -- of a model that may be there
 pub read_cause : (rose : Type 0) (policy : PolicyData) (call : Call) (found : Option ModelInfo) (why : Refusal)

@@ -22,8 +22,6 @@ use Rattle.ob_call.specs.declared.arguments.Given.{Given}
 use Rattle.ob_call.specs.declared.call.Call.{Call}
 use Rattle.ob_codec.specs.CommandForms.{id_json, list_json, number_json}
 use Rattle.ob_domain.specs.Naming.{named_fields}
-use Rattle.ob_io.specs.declared.keeper.KeepFault.{KeepFault}
-use Rattle.ob_io.specs.declared.keeper.KeepFault.TheVariants as keep_fault
 use Rattle.ob_query.proofs.Asked.{rose_later}
 use Rattle.ob_query.proofs.Granted.{everywhere}
 use Rattle.ob_query.proofs.NamedBy.{domain_same, named_same, order_same, same_pair}
@@ -36,8 +34,9 @@ use Rattle.ob_query.specs.Search.{SearchCounts, SearchCountsOver, Searches, Sear
 use Rattle.ob_query.specs.SearchForms as forms
 use Rattle.ob_query.specs.SearchForms.{count_expects, counted_by, counted_of, order_fault, search_expects, sought_by, sought_in, sought_of, tree_given}
 use Rattle.ob_query.specs.SearchOrder.{limited}
-use Rattle.ob_query.specs.SearchParts.{AreFound, IsRefusalOf, found_by, sought_view, told_sought}
-use Rattle.ob_query.specs.Views.{AreGroupsOf, FromView, View, view_of}
+use Rattle.ob_query.specs.SearchParts.{AreFound, found_by, sought_view, told_sought}
+use Rattle.ob_access.specs.Users.{AreGroupsOf}
+use Rattle.ob_query.specs.Views.{FromView, View, view_of}
 use Rattle.ob_query.specs.declared.caller.Caller.{Caller}
 use Rattle.ob_query.specs.declared.searching.sought.Sought.{Sought}
 use Rattle.ob_schema.specs.Models.{model_at}
@@ -51,11 +50,6 @@ use Rattle.serde_json.specs.View.{view}
 use Rattle.serde_json.specs.declared.value.Value.{Value}
 
 -- ---- refusals
-
--- what fails as a question does refuses the call so, whatever else may
-pub unanswered_refuses : (rose : Type 0) (P : Refusal → Type 0) (fault : KeepFault) (why : Refusal) → IsRefusalOf fault why → (fault ≡ keep_fault.Failed → rose) → Refuses rose P why
-unanswered_refuses rose P keep_fault.Failed why is cause = subst (Refuses rose P) (sym is) (cause refl)
-unanswered_refuses rose P keep_fault.NoMemory why is cause = subst (Refuses rose P) (sym is) tt
 
 -- a refusal between two moments that has no cause but the keeper's is one from an earlier on
 pub told_later : (P : Refusal → Type 0) (before mid after : Standpoint) (why : Refusal) → before.faults ≤ mid.faults → Refuses (KeeperRose mid after) (λ _. ⊥) why → Refuses (KeeperRose before after) P why
@@ -139,11 +133,11 @@ StandsFor by model sought meant = sought_view sought ≡ told_sought by model me
 module _ (models : List ModelInfo) (call : Call) (before after : Standpoint) (tables : Tables) (by : Caller) (user : by.user ≡ call.caller) (own : AreGroupsOf models by.policy.now tables by.user by.groups.now) (sought : Sought)
     (same : sought.by ≡ by) (model : sought.model ≡ call.model) where
   -- the ids of the rows that were found
-  pub ids_answered : (ids : List RecId) (r : Result Value Refusal)
+  pub ids_answered : (ids : List RecId) (json : Value)
       → IfSome (model_at models call.model) (λ info. IsAskedBy by call.model (StandsFor by call.model) (sought_of models (called_by call info)) (search_named models (called_by call info)) (Ok sought))
-      → AreFound models tables sought ids → IfOk r (λ json. view json ≡ list_json (map id_json ids)) → IfErr r (λ why. why ≡ refusal.NoMemory)
-      → IfSome (model_at models call.model) (λ info. TellsBy (Searches models by.policy.now (called_by call info)) before after tables (result_view r))
-  ids_answered ids (Ok json) asked found told causes =
+      → AreFound models tables sought ids → view json ≡ list_json (map id_json ids)
+      → IfSome (model_at models call.model) (λ info. TellsBy (Searches models by.policy.now (called_by call info)) before after tables (Ok (view json)))
+  ids_answered ids json asked found told =
       IfSome_then (model_at models call.model) asked
       (λ info is.
       let c = called_by call info in
@@ -156,8 +150,6 @@ module _ (models : List ModelInfo) (call : Call) (before after : Standpoint) (ta
         as_sought models tables by c sought meant.0 same model meant.2 ids found,
         told,
       ))
-  ids_answered ids (Err why) asked found told causes =
-      wanting_tells (KeeperRose before after) (model_at models call.model) (λ info cause. Searches models by.policy.now (called_by call info) tables (Err cause)) why causes
 
   -- and their number
   pub count_answered : (count : ℕ) (json : Data)

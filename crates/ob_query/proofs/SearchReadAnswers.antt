@@ -37,7 +37,7 @@ use Rattle.ob_query.specs.SearchForms.{objects_by, objects_in, objects_of, order
 use Rattle.ob_query.specs.SearchForms as forms
 use Rattle.ob_query.specs.SearchOrder.{window}
 use Rattle.ob_query.specs.SearchParts.{AreFound, HaveRows, IsToldObjects, found_by, is_known_found, objects_view, sought_view, told_objects, told_sought, told_to}
-use Rattle.ob_query.specs.Views.{AreGroupsOf}
+use Rattle.ob_access.specs.Users.{AreGroupsOf}
 use Rattle.ob_query.specs.declared.caller.Caller.{Caller}
 use Rattle.ob_query.specs.declared.searching.sought.Sought.{Sought}
 use Rattle.ob_query.specs.declared.searching.sought.SoughtObjects.{SoughtObjects}

@@ -9,7 +9,8 @@ use Rattle.ob_domain.specs.Naming.{held_in, paths_asked}
 use Rattle.ob_domain.specs.Reading.{domain_from}
 use Rattle.ob_domain.specs.Trees.{Tree}
 use Rattle.ob_query.specs.SearchForms.{active_field}
-use Rattle.ob_query.specs.Views.{AreGroupsOf, View, may_read_field, view_of}
+use Rattle.ob_access.specs.Users.{AreGroupsOf}
+use Rattle.ob_query.specs.Views.{View, may_read_field, view_of}
 use Rattle.ob_schema.specs.Models.{model_at}
 use Rattle.ob_schema.specs.Tables.{Tables}
 use Rattle.ob_schema.specs.declared.info.ModelInfo.{ModelInfo}

@@ -5,16 +5,12 @@ use Rattle.ob_base.specs.declared.id.ModelNo.{ModelNo}
 use Rattle.ob_base.specs.declared.id.RecId.{RecId}
 use Rattle.ob_base.specs.declared.memory.NoMemory.{NoMemory}
 use Rattle.ob_base.specs.declared.place.PathStep.{PathStep}
-use Rattle.ob_base.specs.declared.refusal.Refusal.{Refusal}
-use Rattle.ob_base.specs.declared.refusal.Refusal.TheVariants as refusal
 use Rattle.ob_call.specs.Columns.{columns_at}
 use Rattle.ob_call.specs.Forms.{fields_at, names_fault}
 use Rattle.ob_domain.specs.Over.{IsOver}
 use Rattle.ob_domain.specs.Trees.{tree_of_domain}
 use Rattle.ob_domain.specs.declared.fault.DomainFault.{DomainFault}
 use Rattle.ob_domain.specs.declared.fault.DomainFault.TheVariants as fault
-use Rattle.ob_io.specs.declared.keeper.KeepFault.{KeepFault}
-use Rattle.ob_io.specs.declared.keeper.KeepFault.TheVariants as keep_fault
 use Rattle.ob_query.specs.Callers.{may_read_field, seen_by}
 use Rattle.ob_query.specs.Read.{told_columns}
 use Rattle.ob_query.specs.Search.{held_of, is_found, told_order}
@@ -90,13 +86,6 @@ pub record IsToldObjects (asked told : SoughtObjects) : Type 0 where
   pub model : told.sought.model ≡ asked.sought.model
   pub over : (models : List ModelInfo) → IsSoughtOver models asked.sought → IsSoughtOver models told.sought
   pub fields : told.fields.items ≡ filter (λ field. may_read_field asked.sought.by (step_at asked.sought.model field)) asked.fields.items
-
--- ---- refusals
-
--- the refusal of a call whose question has no answer
-abbrev pub IsRefusalOf : KeepFault → Refusal → Type 0
-IsRefusalOf keep_fault.Failed why = why ≡ refusal.Keeper
-IsRefusalOf keep_fault.NoMemory why = why ≡ refusal.NoMemory
 
 -- ---- rows
 

@@ -1,10 +1,9 @@
 -- What a caller may know of tables: his view, and which models and fields he may read. Each call that reads is answered from it.
-use Rattle.std.specs.Prelude.{◌↔◌, List, Bool, false, not, find, is_some, Contains, Option, IsSomeAnd, Result}
+use Rattle.std.specs.Prelude.{List, Bool, false, not, find, is_some, Option, Result}
 use Rattle.ob_access.specs.Policies.{PolicyData}
 use Rattle.ob_access.specs.Rights.{field_right, right}
-use Rattle.ob_access.specs.Users.{IsInGroup, users_of}
+use Rattle.ob_access.specs.Users.{AreGroupsOf}
 use Rattle.ob_access.specs.Views.{seen, seen_ids}
-use Rattle.ob_base.specs.Rising.{IsRising}
 use Rattle.ob_base.specs.declared.id.ModelNo.{ModelNo}
 use Rattle.ob_base.specs.declared.id.RecId.{RecId}
 use Rattle.ob_base.specs.declared.refusal.Op.TheVariants as op
@@ -14,21 +13,6 @@ use Rattle.ob_schema.specs.Tables.{Tables, ids_in, row_at}
 use Rattle.ob_schema.specs.declared.info.ModelInfo.{ModelInfo}
 use Rattle.ob_schema.specs.declared.info.Step.{Step}
 use Rattle.serde_json.specs.Data.{Data}
-
--- ---- who calls
-
--- he is in a group, as the model of users has it; where the registry has none he is in no group
-abbrev pub IsInGroupOf : List ModelInfo → PolicyData → Told → RecId → RecId → Type 0
-IsInGroupOf models policy told user group = IsSomeAnd (users_of models) (λ users. IsInGroup policy told users user group)
-
--- these are the groups of a caller by what is told: those that his row names, and with each the ones that it implies; each above the one before it
-pub record AreGroupsBy (models : List ModelInfo) (policy : PolicyData) (told : Told) (user : RecId) (own : List RecId) : Type 0 where
-  pub rising : IsRising own
-  pub members : (group : RecId) → Contains own group ↔ IsInGroupOf models policy told user group
-
--- by what tables have
-abbrev pub AreGroupsOf : List ModelInfo → PolicyData → Tables → RecId → List RecId → Type 0
-AreGroupsOf models policy tables user own = AreGroupsBy models policy (told_by models tables) user own
 
 -- ---- what he may know
 

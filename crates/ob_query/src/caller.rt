@@ -3,15 +3,15 @@
 
 ghost use Rattle.std.specs.Prelude.{◌≡◌, [], IfErr, IfOk};
 ghost use Rattle.ob_access.specs.Policies.{IsPolicyOver};
+ghost use Rattle.ob_access.specs.Users.{AreGroupsOf};
 ghost use Rattle.ob_cache.specs.Calls.{HasTables, KeeperRose, Refuses, models_at, standpoint};
 ghost use Rattle.ob_query.specs.Callers.{IsAnswered, IsGranted, fields_named, first_denied, may_read, may_read_field};
 ghost use Rattle.ob_query.specs.SearchQuestions.{OnlyAsked};
-ghost use Rattle.ob_query.specs.Views.{AreGroupsOf};
 ghost use Rattle.ob_schema.specs.Tables.{Tables};
 
 use crate::naming::{Naming, first_where};
 use ob_access::{GroupSet, Policy, Users};
-use ob_base::{ModelNo, NoMemory, Op, RecId, RefList, Refusal};
+use ob_base::{ModelNo, Op, RecId, RefList, Refusal};
 use ob_cache::{Engine, ReadFault};
 use ob_domain::HoldFault;
 use ob_io::{KeepFault, Keeper};
@@ -98,9 +98,7 @@ fn no_groups(alloc: Global, policy: &Policy) -> Result<GroupSet, Refusal>
     ensures groups { IfOk result (λ groups. groups ≡ []) }
     ensures causes { IfErr result (λ why. why ≡ Refusal.NoMemory) }
 {
-    policy
-        .groups_of(alloc, &RefList::new(alloc))
-        .map_err(no_memory)
+    Ok(policy.groups_of(alloc, &RefList::new(alloc))?)
 }
 
 /// An answer about rows, told apart. Where nothing is told of rows, `other` stands in for it: an
@@ -118,11 +116,4 @@ pub(crate) fn answered<T: Drop>(
         Err(HoldFault::Fact(ReadFault::NoMemory)) => Err(KeepFault::NoMemory),
         Err(HoldFault::NoMemory) => Err(KeepFault::NoMemory),
     }
-}
-
-/// Want of memory, as a call is refused for it.
-pub(crate) fn no_memory(_: NoMemory) -> Refusal
-    ensures { result ≡ Refusal.NoMemory }
-{
-    Refusal::NoMemory
 }

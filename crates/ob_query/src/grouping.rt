@@ -45,7 +45,7 @@ mod terms;
 mod told_groups;
 mod written;
 
-use crate::caller::{Caller, granted, groups_of, no_memory};
+use crate::caller::{Caller, granted, groups_of};
 use crate::grouping::aggregates::entries_naming;
 use crate::grouping::asked::{AskedGroups, GroupsArguments, groups_by};
 use crate::grouping::forms::groups_parameters;
@@ -53,9 +53,8 @@ use crate::grouping::gathered::{Groups, gathered};
 use crate::grouping::groupings::groupings_naming;
 use crate::grouping::told_groups::group_objects;
 use crate::naming::domain_naming;
-use crate::searching::refusal_of;
 use ob_access::Policy;
-use ob_base::{Ledger, NoMemory, Refusal, Steps};
+use ob_base::{Ledger, Refusal, Steps};
 use ob_cache::Engine;
 use ob_call::{Call, Json, arguments_of};
 use ob_io::Keeper;
@@ -124,10 +123,8 @@ fn grouped_rows<K: Keeper>(
         user: call.caller,
     };
     let asked = asked_groups(alloc, engine.schema(), by, call)?;
-    match gathered(alloc, engine, &asked) {
-        Ok(groups) => groups_json(alloc, &asked, groups),
-        Err(fault) => Err(refusal_of(fault)),
-    }
+    let found = gathered(alloc, engine, &asked)?;
+    groups_json(alloc, &asked, found)
 }
 
 /// What a call asks for, or why the caller may not ask it.
@@ -156,10 +153,8 @@ fn asked_groups<'c>(
         order: given[5],
         lazy: given[6],
     };
-    match groups_by(alloc, schema, by, call, arguments) {
-        Ok(asked) => allowed_groups(alloc, schema, asked, arguments),
-        Err(NoMemory) => Err(Refusal::NoMemory),
-    }
+    let asked = groups_by(alloc, schema, by, call, arguments)?;
+    allowed_groups(alloc, schema, asked, arguments)
 }
 
 /// What is asked of groups, where the caller may ask it: he may read the model's rows, and each
@@ -180,9 +175,9 @@ fn allowed_groups<'c>(
     let sought = &asked.sought;
     let model = sought.model;
     let namings = [
-        domain_naming(alloc, model, &arguments.domain, &sought.domain).map_err(no_memory)?,
-        entries_naming(alloc, schema, model, &arguments.fields).map_err(no_memory)?,
-        groupings_naming(alloc, model, &arguments.groupby, &asked.written).map_err(no_memory)?,
+        domain_naming(alloc, model, &arguments.domain, &sought.domain)?,
+        entries_naming(alloc, schema, model, &arguments.fields)?,
+        groupings_naming(alloc, model, &arguments.groupby, &asked.written)?,
     ];
     granted(&sought.by, model, &namings)?;
     Ok(asked)
@@ -196,8 +191,5 @@ fn groups_json(alloc: Global, asked: &AskedGroups<'_>, groups: Groups) -> Result
     ensures causes { IfErr result (λ why. why ≡ Refusal.NoMemory) }
     ensures plain { IfOk result (λ json. has_float (view json) ≡ false) }
 {
-    match group_objects(alloc, asked, groups) {
-        Ok(objects) => Ok(Json::Array(objects)),
-        Err(NoMemory) => Err(Refusal::NoMemory),
-    }
+    Ok(Json::Array(group_objects(alloc, asked, groups)?))
 }

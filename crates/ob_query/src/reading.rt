@@ -4,7 +4,7 @@
 //! this one. What it means is `Reads`, and why it may be refused over any keeper `ReadCause`: a
 //! change begins with these.
 
-ghost use Rattle.std.specs.Prelude.{◌≡◌, false, All, Contains, IfErr, IfOk, IfSome};
+ghost use Rattle.std.specs.Prelude.{◌≡◌, false, Contains, IfErr, IfOk, IfSome};
 ghost use Rattle.serde_json.specs.View.{view};
 ghost use Rattle.serde_json.specs.Written.{has_float};
 ghost use Rattle.ob_access.specs.Policies.{IsPolicyOver};
@@ -17,16 +17,15 @@ ghost use Rattle.ob_query.specs.ReadArguments.{asked_of};
 ghost use Rattle.ob_query.specs.ReadParts.{IsHiddenAmong, IsLeastMissing, IsReadOver, TellsAsked, read_view, told_read};
 ghost use Rattle.ob_query.specs.SearchQuestions.{OnlyAsked, TellsOf, TellsTo};
 ghost use Rattle.ob_schema.specs.Facts.{OfAllTold};
-ghost use Rattle.ob_schema.specs.Models.{HasField, HasModel, model_at};
+ghost use Rattle.ob_schema.specs.Models.{HasModel, model_at};
 ghost use Rattle.ob_schema.specs.Tables.{Tables};
 
 mod read_form;
 
-use crate::caller::{Caller, granted, groups_of, no_memory};
+use crate::caller::{Caller, granted, groups_of};
 use crate::naming::names_naming;
 use crate::reading::read_form::read_parameters;
 use crate::searching::questions::exists;
-use crate::searching::refusal_of;
 use crate::searching::sought::told_fields;
 use crate::told_rows::fetched_rows;
 use ob_access::Policy;
@@ -130,12 +129,12 @@ fn asked_rows<'c>(
     let Some(ids) = &given[0] else {
         unreachable!();
     };
-    let ids = named_ids(alloc, ids.json).map_err(no_memory)?;
+    let ids = named_ids(alloc, ids.json)?;
     let (model, names) = (call.model, &given[1]);
-    let namings = [names_naming(alloc, schema, model, names).map_err(no_memory)?];
+    let namings = [names_naming(alloc, schema, model, names)?];
     granted(&by, model, &namings)?;
-    let fields = named_fields(alloc, schema, model, names).map_err(no_memory)?;
-    let fields = told_fields(alloc, &by, model, fields.as_slice()).map_err(no_memory)?;
+    let fields = named_fields(alloc, schema, model, names)?;
+    let fields = told_fields(alloc, &by, model, fields.as_slice())?;
     Ok(Asked {
         by,
         model,
@@ -158,7 +157,7 @@ fn least_missing<K: Keeper>(
 {
     let mut missing = None;
     for id in ids {
-        if !exists(engine, model, RecId(*id)).map_err(refusal_of)? {
+        if !exists(engine, model, RecId(*id))? {
             missing = least(missing, *id);
         }
     }

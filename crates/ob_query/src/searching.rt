@@ -23,7 +23,7 @@ ghost use Rattle.ob_query.specs.Callers.{IsAllowed, IsAskedBy, in_turn, is_first
 ghost use Rattle.ob_query.specs.NamedFields.{count_named, name_fields, objects_named, search_named};
 ghost use Rattle.ob_query.specs.Search.{SearchCause, SearchCountCause, SearchCounts, SearchReadCause, SearchReads, Searches};
 ghost use Rattle.ob_query.specs.SearchForms.{counted_of, objects_of, sought_of};
-ghost use Rattle.ob_query.specs.SearchParts.{IsRefusalOf, IsSoughtOver, IsToldObjects, objects_view, sought_view, told_objects, told_sought};
+ghost use Rattle.ob_query.specs.SearchParts.{IsSoughtOver, IsToldObjects, objects_view, sought_view, told_objects, told_sought};
 ghost use Rattle.ob_query.specs.SearchQuestions.{OnlyAsked};
 ghost use Rattle.ob_schema.specs.Models.{HasField, HasModel, model_at};
 ghost use Rattle.ob_schema.specs.Paths.{step_at};
@@ -39,7 +39,7 @@ pub(crate) mod searched;
 pub(crate) mod sought;
 pub(crate) mod walk;
 
-use crate::caller::{Caller, granted, groups_of, no_memory};
+use crate::caller::{Caller, granted, groups_of};
 use crate::naming::{domain_naming, names_naming, order_naming};
 use crate::searching::forms::{count_parameters, search_parameters, search_read_parameters};
 use crate::searching::found::{count_found, sought_ids};
@@ -52,7 +52,7 @@ use ob_access::Policy;
 use ob_base::{Ledger, NoMemory, RecId, Refusal, Steps};
 use ob_cache::Engine;
 use ob_call::{Call, Given, Json, arguments_of};
-use ob_io::{KeepFault, Keeper};
+use ob_io::Keeper;
 use ob_schema::Schema;
 use std::alloc::Global;
 
@@ -167,10 +167,8 @@ fn searched_ids<K: Keeper>(
         user: call.caller,
     };
     let sought = asked_search(alloc, engine.schema(), by, call)?;
-    match sought_ids(alloc, engine, &sought) {
-        Ok(ids) => ids_told(alloc, ids.as_slice()),
-        Err(fault) => Err(refusal_of(fault)),
-    }
+    let ids = sought_ids(alloc, engine, &sought)?;
+    Ok(ids_json(alloc, ids.as_slice())?)
 }
 
 /// How many rows a call counts.
@@ -201,10 +199,8 @@ fn counted_rows<K: Keeper>(
         user: call.caller,
     };
     let sought = asked_count(alloc, engine.schema(), by, call)?;
-    match count_found(alloc, engine, &sought) {
-        Ok(count) => Ok(Json::from(count)),
-        Err(fault) => Err(refusal_of(fault)),
-    }
+    let count = count_found(alloc, engine, &sought)?;
+    Ok(Json::from(count))
 }
 
 /// The objects of the rows for which a call searches.
@@ -235,10 +231,8 @@ fn searched_objects<K: Keeper>(
         user: call.caller,
     };
     let asked = asked_objects(alloc, engine.schema(), by, call)?;
-    match sought_ids(alloc, engine, &asked.sought) {
-        Ok(ids) => objects_told(alloc, engine, &asked, ids.as_slice()),
-        Err(fault) => Err(refusal_of(fault)),
-    }
+    let ids = sought_ids(alloc, engine, &asked.sought)?;
+    objects_told(alloc, engine, &asked, ids.as_slice())
 }
 
 /// What a search asks for, or why the caller may not ask it.
@@ -264,10 +258,8 @@ fn asked_search<'c>(
         limit: given[2],
         order: given[3],
     };
-    match sought_by(alloc, schema, by, call, arguments) {
-        Ok(sought) => allowed_search(alloc, sought, arguments),
-        Err(NoMemory) => Err(Refusal::NoMemory),
-    }
+    let sought = sought_by(alloc, schema, by, call, arguments)?;
+    allowed_search(alloc, sought, arguments)
 }
 
 /// What a count asks for, or why the caller may not ask it.
@@ -293,10 +285,8 @@ fn asked_count<'c>(
         limit: given[1],
         order: None,
     };
-    match sought_by(alloc, schema, by, call, arguments) {
-        Ok(sought) => allowed_count(alloc, sought, arguments),
-        Err(NoMemory) => Err(Refusal::NoMemory),
-    }
+    let sought = sought_by(alloc, schema, by, call, arguments)?;
+    allowed_count(alloc, sought, arguments)
 }
 
 /// What a search that reads asks for, or why the caller may not ask it.
@@ -323,10 +313,8 @@ fn asked_objects<'c>(
         limit: given[3],
         order: given[4],
     };
-    match objects_by(alloc, schema, by, call, arguments, given[1]) {
-        Ok(asked) => allowed_objects(alloc, schema, asked, arguments, given[1]),
-        Err(NoMemory) => Err(Refusal::NoMemory),
-    }
+    let asked = objects_by(alloc, schema, by, call, arguments, given[1])?;
+    allowed_objects(alloc, schema, asked, arguments, given[1])
 }
 
 /// A search, in the order that the caller is told, where he may ask it: he may read the model's
@@ -340,18 +328,13 @@ fn allowed_search<'c>(
         IsAllowed old.by old.model (in_turn ((is_first (option_map given_of arguments.entry.domain), named_fields old.model (tree_of_domain old.domain)) ∷ (is_first (option_map given_of arguments.entry.order), option_map_or (λ g. map (λ term. step_at old.model term.field) old.order) (option_map given_of arguments.entry.order) []) ∷ []))
         (λ told. (sought_view told ≡ told_sought old.by old.model (sought_view old)) × (told.by ≡ old.by) × (told.model ≡ old.model) × ((models : List ModelInfo) → IsSoughtOver models old → IsSoughtOver models told)) result }
 {
+    let model = sought.model;
     let namings = [
-        domain_naming(alloc, sought.model, &arguments.domain, &sought.domain).map_err(no_memory)?,
-        order_naming(
-            alloc,
-            sought.model,
-            &arguments.order,
-            sought.order.as_slice(),
-        )
-        .map_err(no_memory)?,
+        domain_naming(alloc, model, &arguments.domain, &sought.domain)?,
+        order_naming(alloc, model, &arguments.order, sought.order.as_slice())?,
     ];
-    granted(&sought.by, sought.model, &namings)?;
-    in_told_order(alloc, sought).map_err(no_memory)
+    granted(&sought.by, model, &namings)?;
+    Ok(in_told_order(alloc, sought)?)
 }
 
 /// A count, where the caller may ask it.
@@ -362,10 +345,9 @@ fn allowed_count<'c>(
 ) -> Result<Sought<'c>, Refusal>
     ensures { let old = sought.entry in IsAllowed old.by old.model (in_turn ((is_first (option_map given_of arguments.entry.domain), named_fields old.model (tree_of_domain old.domain)) ∷ [])) (λ told. told ≡ old) result }
 {
-    let namings = [domain_naming(alloc, sought.model, &arguments.domain, &sought.domain).map_err(
-        no_memory,
-    )?];
-    granted(&sought.by, sought.model, &namings)?;
+    let model = sought.model;
+    let namings = [domain_naming(alloc, model, &arguments.domain, &sought.domain)?];
+    granted(&sought.by, model, &namings)?;
     Ok(sought)
 }
 
@@ -386,40 +368,14 @@ fn allowed_objects<'c>(
         (λ told. IsToldObjects asked.entry told) result }
 {
     let sought = &asked.sought;
+    let model = sought.model;
     let namings = [
-        domain_naming(alloc, sought.model, &arguments.domain, &sought.domain).map_err(no_memory)?,
-        names_naming(alloc, schema, sought.model, &fields).map_err(no_memory)?,
-        order_naming(
-            alloc,
-            sought.model,
-            &arguments.order,
-            sought.order.as_slice(),
-        )
-        .map_err(no_memory)?,
+        domain_naming(alloc, model, &arguments.domain, &sought.domain)?,
+        names_naming(alloc, schema, model, &fields)?,
+        order_naming(alloc, model, &arguments.order, sought.order.as_slice())?,
     ];
-    granted(&sought.by, sought.model, &namings)?;
-    told_objects(alloc, asked).map_err(no_memory)
-}
-
-/// The refusal of a call whose question has no answer.
-pub(crate) fn refusal_of(fault: KeepFault) -> Refusal
-    ensures { IsRefusalOf fault result }
-{
-    match fault {
-        KeepFault::Failed => Refusal::Keeper,
-        KeepFault::NoMemory => Refusal::NoMemory,
-    }
-}
-
-/// The answer that has ids.
-fn ids_told(alloc: Global, ids: &[RecId]) -> Result<Json, Refusal>
-    ensures told { IfOk result (λ json. view json ≡ list_json (map id_json ids.now)) }
-    ensures causes { IfErr result (λ why. why ≡ Refusal.NoMemory) }
-{
-    match ids_json(alloc, ids) {
-        Ok(json) => Ok(json),
-        Err(NoMemory) => Err(Refusal::NoMemory),
-    }
+    granted(&sought.by, model, &namings)?;
+    Ok(told_objects(alloc, asked)?)
 }
 
 /// The JSON of ids.

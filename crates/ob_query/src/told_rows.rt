@@ -2,12 +2,9 @@
 //! the objects of rows by their ids. Each call that tells rows goes by these.
 
 ghost use Rattle.std.specs.Prelude.{◌≡◌, false, map, true, All, Contains, IfErr, IfOk, IfSome};
-ghost use Rattle.serde_json.specs.View.{items_of, members_view, view};
-ghost use Rattle.serde_json.specs.Data.{put};
+ghost use Rattle.serde_json.specs.View.{items_of, view};
 ghost use Rattle.serde_json.specs.Written.{has_float, items_have_float};
 ghost use Rattle.ob_access.specs.Policies.{IsPolicyOver};
-ghost use Rattle.ob_codec.specs.Held.{HasFieldType};
-ghost use Rattle.ob_codec.specs.JsonForm.{IsJsonOf};
 ghost use Rattle.ob_cache.specs.Calls.{KeeperRose, Refuses, models_at, standpoint};
 ghost use Rattle.ob_query.specs.Read.{TellsRow};
 ghost use Rattle.ob_query.specs.ReadParts.{TellsCell, TellsOrHides};
@@ -15,17 +12,15 @@ ghost use Rattle.ob_query.specs.ReadRows.{AreFetched};
 ghost use Rattle.ob_query.specs.SearchQuestions.{OnlyAsked, TellsTo};
 ghost use Rattle.ob_call.specs.Columns.{columns_at};
 ghost use Rattle.ob_schema.specs.Facts.{OfAllTold};
-ghost use Rattle.ob_schema.specs.Models.{HasField, HasModel, field_at, model_at};
+ghost use Rattle.ob_schema.specs.Models.{HasField, HasModel, model_at};
 
 use crate::caller::Caller;
 use crate::searching::questions::{is_known, value_in};
-use crate::searching::refusal_of;
-use ob_base::{FieldNo, ModelNo, RecId, Refusal, Value};
+use ob_base::{FieldNo, ModelNo, RecId, Refusal};
 use ob_cache::Engine;
-use ob_call::{Json, least};
+use ob_call::{Json, least, put_member};
 use ob_codec::to_json;
 use ob_io::Keeper;
-use ob_schema::Schema;
 use serde_json::Map;
 use std::alloc::Global;
 
@@ -62,7 +57,7 @@ pub(crate) fn fetched_rows<K: Keeper>(
     let mut hidden = None;
     for id in ids {
         match row_object(alloc, engine, by, model, fields, RecId(*id))? {
-            Some(object) => objects.push(object).map_err(|_| Refusal::NoMemory)?,
+            Some(object) => objects.push(object)?,
             None => hidden = least(hidden, *id),
         }
     }
@@ -87,11 +82,11 @@ fn row_object<K: Keeper>(
     ensures plain { IfOk result (λ told. IfSome told (λ json. has_float (view json) ≡ false)) }
     ensures asked { OnlyAsked K.Keeper engine.old engine.new }
 {
-    match is_known(alloc, engine, by, model, id) {
-        Ok(true) => Ok(Some(known_object(alloc, engine, by, model, fields, id)?)),
-        Ok(false) => Ok(None),
-        Err(fault) => Err(refusal_of(fault)),
+    if !is_known(alloc, engine, by, model, id)? {
+        return Ok(None);
     }
+    let object = known_object(alloc, engine, by, model, fields, id)?;
+    Ok(Some(object))
 }
 
 /// The object that tells of a row that the caller sees.
@@ -113,17 +108,12 @@ fn known_object<K: Keeper>(
     ensures asked { OnlyAsked K.Keeper engine.old engine.new }
 {
     let mut members = Map::new(alloc);
-    put(alloc, &mut members, "id", Json::from(id.0))?;
+    put_member(alloc, &mut members, "id", Json::from(id.0))?;
     for field in fields {
         let field = *field;
         let json = cell_json(alloc, engine, by, model, field, id)?;
-        let schema = engine.schema();
-        put(
-            alloc,
-            &mut members,
-            schema.info(model, field).name.as_str(),
-            json,
-        )?;
+        let name = engine.schema().info(model, field).name.as_str();
+        put_member(alloc, &mut members, name, json)?;
     }
     Ok(Json::Object(members))
 }
@@ -145,46 +135,6 @@ fn cell_json<K: Keeper>(
     ensures plain { IfOk result (λ json. has_float (view json) ≡ false) }
     ensures asked { OnlyAsked K.Keeper engine.old engine.new }
 {
-    match value_in(alloc, engine, by, model, field, id) {
-        Ok(value) => json_of(alloc, engine.schema(), model, field, &value),
-        Err(fault) => Err(refusal_of(fault)),
-    }
-}
-
-/// A value of a field as replies tell it.
-fn json_of(
-    alloc: Global,
-    schema: &Schema,
-    model: ModelNo,
-    field: FieldNo,
-    value: &Value,
-) -> Result<Json, Refusal>
-    requires field { HasField schema.now model field }
-    requires value { HasFieldType (field_at schema.now model field) value.now }
-    ensures told { IfOk result (λ json. IsJsonOf value.now (view json)) }
-    ensures causes { IfErr result (λ why. why ≡ Refusal.NoMemory) }
-{
-    match to_json(alloc, schema, model, field, value) {
-        Ok(json) => Ok(json),
-        Err(_) => Err(Refusal::NoMemory),
-    }
-}
-
-/// Puts a member into an object.
-fn put(
-    alloc: Global,
-    members: &mut Map<String, Json>,
-    name: &str,
-    json: Json,
-) -> Result<(), Refusal>
-    ensures put { IfOk result (λ _. members_view members.new.entries ≡ put name.now (view json) (members_view members.old.entries)) }
-    ensures causes { IfErr result (λ why. why ≡ Refusal.NoMemory) }
-{
-    let Ok(name) = String::from_str(alloc, name) else {
-        return Err(Refusal::NoMemory);
-    };
-    match members.insert(name, json) {
-        Ok(_) => Ok(()),
-        Err(_) => Err(Refusal::NoMemory),
-    }
+    let value = value_in(alloc, engine, by, model, field, id)?;
+    Ok(to_json(alloc, engine.schema(), model, field, &value)?)
 }

@@ -130,7 +130,7 @@ module _ (terms : Terms) (before after : Standpoint) (info : ModelInfo) (layout 
 
   module _ (writes : WriteMethod) (is : model_at models call.model ≡ Some info) where
     -- a method that writes was refused
-    pub refused_writing_serves : (why : Refusal) → IsCalled (Makes writes models called_with) before after (MakesCause writes models called_with) (Err why) → MayTell reply (outcome_text models id (told layout (Err why)))
+    pub refused_writing_serves : (why : Refusal) → IsCalled (Makes writes models policy called_with) before after (MakesCause writes models policy called_with) (Err why) → MayTell reply (outcome_text models id (told layout (Err why)))
         → ServesOver terms before after call.now (called id (handed_view layout (method.Writes writes) call)) reply
     refused_writing_serves why is_called tells = λ tables rests.
         let (cause, rest) = is_called.answer tables rests in
@@ -138,15 +138,15 @@ module _ (terms : Terms) (before after : Standpoint) (info : ModelInfo) (layout 
         (refused_step setup tables call.now (KeeperRose before after) id (handed_view layout (method.Writes writes) call) reply why (as_call (method.Writes writes) why tables is cause) tells)
 
     -- it was carried out, and was kept with its reply or not
-    kept_serves : (old next : Tables) (json : Data) (last : Standpoint) (rose_keeping rose : Type 0) → (rose_keeping → rose) → Makes writes models called_with old (Ok json) next
+    kept_serves : (old next : Tables) (json : Data) (last : Standpoint) (rose_keeping rose : Type 0) → (rose_keeping → rose) → Makes writes models policy called_with old (Ok json) next
         → Keeps rose_keeping id json old next last.kept last.held reply → Serves setup old call.now rose (called id (handed_view layout (method.Writes writes) call)) reply last.kept last.held
     kept_serves old next json last rose_keeping rose since makes (inl (rests, tells)) =
-        record { tables = next; rests = rests; answer = inl (Ok json, at_model (λ own. Makes writes models (called_by call own) old (Ok json) next) (model_at models call.model) info is makes, tells) }
+        record { tables = next; rests = rests; answer = inl (Ok json, at_model (λ own. Makes writes models policy (called_by call own) old (Ok json) next) (model_at models call.model) info is makes, tells) }
     kept_serves old next json last rose_keeping rose since makes (inr (rests, inl unmade)) = record { tables = old; rests = rests; answer = inr (refl, inl unmade) }
     kept_serves old next json last rose_keeping rose since makes (inr (rests, inr (cause, tells))) = record { tables = old; rests = rests; answer = inr (refl, inr (since cause, tells)) }
 
     -- by what became of it
-    pub writing_serves : (json : Data) (last : Standpoint) → (KeeperRose after last → KeeperRose before last) → IsCalled (Makes writes models called_with) before after (MakesCause writes models called_with) (Ok json)
+    pub writing_serves : (json : Data) (last : Standpoint) → (KeeperRose after last → KeeperRose before last) → IsCalled (Makes writes models policy called_with) before after (MakesCause writes models policy called_with) (Ok json)
         → ((old next : Tables) → Stands after.kept after.held (settled_over after.held.models old next) → Keeps (KeeperRose after last) id json old next last.kept last.held reply)
         → ServesOver terms before last call.now (called id (handed_view layout (method.Writes writes) call)) reply
     writing_serves json last since is_called keeps = λ tables rests.
@@ -318,8 +318,8 @@ tells_as before after policy call reads named is r =
     subst (λ (method : ReadMethod). IfSome (model_at (models_at before) call.model) (λ info. IsAsked (Tells method (models_at before) policy (called_by call info)) before after (TellsCause method (models_at before) policy (called_by call info)) r)) (sym is)
 
 -- a call by what one method makes is one by the method that it is
-pub makes_as : (before after : Standpoint) (call : Handed) (writes named : WriteMethod) → writes ≡ named → (r : Result Data Refusal)
-    → IfSome (model_at (models_at before) call.model) (λ info. IsCalled (Makes named (models_at before) (called_by call info)) before after (MakesCause named (models_at before) (called_by call info)) r)
-    → IfSome (model_at (models_at before) call.model) (λ info. IsCalled (Makes writes (models_at before) (called_by call info)) before after (MakesCause writes (models_at before) (called_by call info)) r)
-makes_as before after call writes named is r =
-    subst (λ (method : WriteMethod). IfSome (model_at (models_at before) call.model) (λ info. IsCalled (Makes method (models_at before) (called_by call info)) before after (MakesCause method (models_at before) (called_by call info)) r)) (sym is)
+pub makes_as : (before after : Standpoint) (policy : PolicyData) (call : Handed) (writes named : WriteMethod) → writes ≡ named → (r : Result Data Refusal)
+    → IfSome (model_at (models_at before) call.model) (λ info. IsCalled (Makes named (models_at before) policy (called_by call info)) before after (MakesCause named (models_at before) policy (called_by call info)) r)
+    → IfSome (model_at (models_at before) call.model) (λ info. IsCalled (Makes writes (models_at before) policy (called_by call info)) before after (MakesCause writes (models_at before) policy (called_by call info)) r)
+makes_as before after policy call writes named is r =
+    subst (λ (method : WriteMethod). IfSome (model_at (models_at before) call.model) (λ info. IsCalled (Makes method (models_at before) policy (called_by call info)) before after (MakesCause method (models_at before) policy (called_by call info)) r)) (sym is)

@@ -3,7 +3,7 @@ use Rattle.std.specs.Prelude.{◌≡◌, ℕ, ℤ, List}
 use Rattle.ob_query.specs.Isolation.{AreViewedAlike}
 use Rattle.ob_schema.specs.Tables.{Tables}
 use Rattle.serde_json.specs.Data.{Data}
-use Rattle.stockd.specs.Machine.{Answers}
+use Rattle.stockd.specs.Machine.{Answers, asked_by}
 use Rattle.stockd.specs.Request.{Call, called}
 use Rattle.stockd.specs.Setup.{Setup}
 use Rattle.stockd.specs.declared.request.Method.TheVariants as method
@@ -18,3 +18,10 @@ abbrev pub RepliesGoByViews : Setup → Type 0
 RepliesGoByViews setup =
     (id : Data) (call : Call) (now : ℤ) (one other : Tables) → IsReading call → AreViewedAlike setup.models setup.policy call.caller one other
     → (reply : List ℕ) → Answers setup one now (called id call) reply one → Answers setup other now (called id call) reply other
+
+-- so it is with a body that makes such a call: over two databases that its caller sees alike, and of which each lets him make it
+abbrev pub BodiesGoByViews : Setup → Type 0
+BodiesGoByViews setup =
+    (body : List ℕ) (id : Data) (call : Call) (now : ℤ) (one other : Tables) → asked_by setup one body ≡ called id call → asked_by setup other body ≡ called id call
+    → IsReading call → AreViewedAlike setup.models setup.policy call.caller one other
+    → (reply : List ℕ) → Answers setup one now (asked_by setup one body) reply one → Answers setup other now (asked_by setup other body) reply other

@@ -40,13 +40,13 @@ Tells reading.Search models policy = Searches models policy
 Tells reading.SearchCount models policy = SearchCounts models policy
 Tells reading.SearchRead models policy = SearchReads models policy
 Tells reading.ReadGroup models policy = Groups models policy
-Tells reading.FieldsGet models policy = GetsFields models
+Tells reading.FieldsGet models policy = GetsFields models policy
 
 -- what a method that writes makes of tables
-abbrev pub Makes : WriteMethod → List ModelInfo → Called → Tables → Result Data Refusal → Tables → Type 0
-Makes writing.Create = Creates
-Makes writing.Write = Writes
-Makes writing.Unlink = Unlinks
+abbrev pub Makes : WriteMethod → List ModelInfo → PolicyData → Called → Tables → Result Data Refusal → Tables → Type 0
+Makes writing.Create models policy = Creates models policy
+Makes writing.Write models policy = Writes models policy
+Makes writing.Unlink models policy = Unlinks models policy
 
 -- when a method that reads may be refused, whatever the keeper tells
 abbrev pub TellsCause : ReadMethod → List ModelInfo → PolicyData → Called → Refusal → Type 0
@@ -58,20 +58,20 @@ TellsCause reading.ReadGroup models policy = GroupsCause models policy
 TellsCause reading.FieldsGet models policy = GetsFieldsCause
 
 -- when a method that writes may
-abbrev pub MakesCause : WriteMethod → List ModelInfo → Called → Refusal → Type 0
-MakesCause writing.Create = CreateCause
-MakesCause writing.Write = WriteCause
-MakesCause writing.Unlink = UnlinkCause
+abbrev pub MakesCause : WriteMethod → List ModelInfo → PolicyData → Called → Refusal → Type 0
+MakesCause writing.Create models policy = CreateCause models policy
+MakesCause writing.Write models policy = WriteCause models policy
+MakesCause writing.Unlink models policy = UnlinkCause models policy
 
 -- when a method may
 abbrev pub MeansCause : Method → List ModelInfo → PolicyData → Called → Refusal → Type 0
 MeansCause (method.Reads reads) models policy = TellsCause reads models policy
-MeansCause (method.Writes writes) models policy = MakesCause writes models
+MeansCause (method.Writes writes) models policy = MakesCause writes models policy
 
 -- the outcome of a method, and the tables after it: one that reads leaves them
 abbrev pub Means : Method → List ModelInfo → PolicyData → Called → Tables → Result Data Refusal → Tables → Type 0
 Means (method.Reads reads) models policy handed old outcome new = Tells reads models policy handed old outcome × (new ≡ old)
-Means (method.Writes writes) models policy handed old outcome new = Makes writes models handed old outcome new
+Means (method.Writes writes) models policy handed old outcome new = Makes writes models policy handed old outcome new
 
 -- the outcome of a call at a moment, and the tables after it
 abbrev pub Calls : Setup → Tables → ℤ → Call → Result Data Refusal → Tables → Type 0

@@ -24,7 +24,6 @@ ghost use Rattle.stockd.specs.Reply.{Keeps, TellsKept, text_of};
 ghost use Rattle.stockd.specs.Request.{call_of, called, listed, login_of, request_by, request_with, telling_by};
 ghost use Rattle.stockd.specs.Setup.{over};
 ghost use Rattle.stockd.specs.Texts.{no_memory_text};
-ghost use Rattle.stockd.specs.declared.terms.Terms.{Terms};
 
 use crate::replies::{Reply, call_refused, refused, told, unread, version_told};
 use crate::request::{Layout, Method, MethodCall, ReadMethod, WriteMethod, call_of};
@@ -266,7 +265,16 @@ fn serve_call<K: Keeper, L: Ledger>(
             )
         }
         Method::Writes(method) => {
-            serve_writing(alloc, engine, steps, id, method, call.layout, &handed)
+            serve_writing(
+                alloc,
+                engine,
+                terms,
+                steps,
+                id,
+                method,
+                call.layout,
+                &handed,
+            )
         }
     }
 }
@@ -306,6 +314,7 @@ fn serve_reading<K: Keeper, L: Ledger>(
 fn serve_writing<K: Keeper, L: Ledger>(
     alloc: Global,
     engine: &mut Engine<'_, K>,
+    terms: &Terms<'_>,
     steps: &mut Steps<L>,
     id: &Json,
     method: WriteMethod,
@@ -313,19 +322,20 @@ fn serve_writing<K: Keeper, L: Ledger>(
     call: &Call<'_>,
 ) -> Reply
     requires rest { IsResting (standpoint K.Keeper engine.old) }
+    requires policy { IsPolicyOver (models_at (standpoint K.Keeper engine.old)) terms.now.policy.now }
     requires moment { IsMoment call.now.now }
     requires model { HasModel (models_at (standpoint K.Keeper engine.old)) call.now.model }
     requires id { has_float (view id.now) ≡ false }
-    ensures served { (terms : Terms) → ServesOver terms (standpoint K.Keeper engine.old) (standpoint K.Keeper engine.new) call.entry.now.now
+    ensures served { ServesOver terms.now (standpoint K.Keeper engine.old) (standpoint K.Keeper engine.new) call.entry.now.now
         (called (view id.now) (handed_view layout (Method.Writes method) call.entry.now)) (text_of result) }
-    ensures causes { (terms : Terms) → RepliesBy terms (standpoint K.Keeper engine.old) (standpoint K.Keeper engine.new) call.entry.now.now
+    ensures causes { RepliesBy terms.now (standpoint K.Keeper engine.old) (standpoint K.Keeper engine.new) call.entry.now.now
         (called (view id.now) (handed_view layout (Method.Writes method) call.entry.now)) (text_of result) }
     ensures others { OthersStay engine.old.held.models (K.kept engine.old.keeper.now) (K.kept engine.new.keeper.now) }
     ensures rests { IsAtRest engine.old.held.models engine.new.held }
     ensures lender { engine.new.keeper.ghost_name ≡ engine.old.keeper.ghost_name }
     ensures count { K.faults engine.old.keeper.now ≤ K.faults engine.new.keeper.now }
 {
-    match make(alloc, engine, steps, method, call) {
+    match make(alloc, engine, terms.policy, steps, method, call) {
         Ok(json) => keep(alloc, engine, id, json),
         Err(refusal) => call_refused(alloc, engine.schema(), id, layout, refusal),
     }
@@ -357,7 +367,7 @@ fn tell<K: Keeper, L: Ledger>(
         ReadMethod::SearchCount => search_count(alloc, engine, policy, call, steps),
         ReadMethod::SearchRead => search_read(alloc, engine, policy, call, steps),
         ReadMethod::ReadGroup => read_group(alloc, engine, policy, call, steps),
-        ReadMethod::FieldsGet => fields_get(alloc, engine, call, steps),
+        ReadMethod::FieldsGet => fields_get(alloc, engine, policy, call, steps),
     }
 }
 
@@ -365,6 +375,7 @@ fn tell<K: Keeper, L: Ledger>(
 fn make<K: Keeper, L: Ledger>(
     alloc: Global,
     engine: &mut Engine<'_, K>,
+    policy: &Policy,
     steps: &mut Steps<L>,
     method: WriteMethod,
     call: &Call<'_>,
@@ -372,9 +383,10 @@ fn make<K: Keeper, L: Ledger>(
     requires model { HasModel (models_at (standpoint K.Keeper engine.old)) call.now.model }
     requires moment { IsMoment call.now.now }
     requires rest { IsResting (standpoint K.Keeper engine.old) }
+    requires policy { IsPolicyOver (models_at (standpoint K.Keeper engine.old)) policy.now }
     ensures call { IfSome (model_at (models_at (standpoint K.Keeper engine.old)) call.entry.now.model) (λ info.
-        IsCalled (Makes method (models_at (standpoint K.Keeper engine.old)) (called_by call.entry.now info)) (standpoint K.Keeper engine.old) (standpoint K.Keeper engine.new)
-        (MakesCause method (models_at (standpoint K.Keeper engine.old)) (called_by call.entry.now info)) (result_view result)) }
+        IsCalled (Makes method (models_at (standpoint K.Keeper engine.old)) policy.now (called_by call.entry.now info)) (standpoint K.Keeper engine.old) (standpoint K.Keeper engine.new)
+        (MakesCause method (models_at (standpoint K.Keeper engine.old)) policy.now (called_by call.entry.now info)) (result_view result)) }
     ensures plain { IfOk result (λ json. has_float (view json) ≡ false) }
     ensures models { engine.new.held.models ≡ engine.old.held.models }
     ensures phase { engine.new.held.phase ≡ phase.Settled }
@@ -384,9 +396,9 @@ fn make<K: Keeper, L: Ledger>(
     ensures lender { engine.new.keeper.ghost_name ≡ engine.old.keeper.ghost_name }
 {
     match method {
-        WriteMethod::Create => create(alloc, engine, call, steps),
-        WriteMethod::Write => write(alloc, engine, call, steps),
-        WriteMethod::Unlink => unlink(alloc, engine, call, steps),
+        WriteMethod::Create => create(alloc, engine, policy, call, steps),
+        WriteMethod::Write => write(alloc, engine, policy, call, steps),
+        WriteMethod::Unlink => unlink(alloc, engine, policy, call, steps),
     }
 }
 

@@ -11,7 +11,6 @@ ghost use Rattle.ob_orm.specs.NewRowSteps.{HoldsNextIds, IsReady, held_next};
 ghost use Rattle.ob_schema.specs.Models.{HasModel};
 ghost use Rattle.ob_schema.specs.Tables.{Tables, next_of};
 
-use crate::fault::keeper_refusal;
 use ob_base::limits::MAX_MODELS;
 use ob_base::{ModelNo, NoMemory, RecId, Refusal};
 use ob_cache::Engine;
@@ -71,11 +70,9 @@ fn hold_next<K: Keeper>(
     if engine.schema().find_model(model).is_none() {
         return Ok(());
     }
-    let next = engine.next_id(model).map_err(keeper_refusal)?;
-    match next_ids.insert(model.0, next) {
-        Ok(_) => Ok(()),
-        Err(_) => Err(Refusal::NoMemory),
-    }
+    let next = engine.next_id(model)?;
+    next_ids.insert(model.0, next)?;
+    Ok(())
 }
 
 /// The id that the next row of a model takes, which it has then taken.

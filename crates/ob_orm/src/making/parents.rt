@@ -33,9 +33,8 @@ pub(crate) fn make_parents(
     ensures adds { OnOk result (AddsEdits making.old making.new) }
     ensures ready { OnOk result (IsReady maker.entry.now.schema.now making.new) }
     ensures made { OnOk result ((old : Tables) → HoldsNextIds maker.entry.now.schema.now old making.old
-        → (record { tables = so_far maker.entry.now.schema.now old making.new; given = given.new.items }
-        ≡ with_parents maker.entry.now.schema.now maker.entry.now.author model (record { tables = so_far maker.entry.now.schema.now old making.old; given = given.old.items }) (parents_of maker.entry.now.schema.now model))
-        × HoldsNextIds maker.entry.now.schema.now old making.new) }
+        → let begun = with_parents maker.entry.now.schema.now maker.entry.now.author (so_far maker.entry.now.schema.now old making.old) model given.old.items (parents_of maker.entry.now.schema.now model) in
+        (making.new.edits.items ≡ making.old.edits.items ++ begun.edits) × (given.new.items ≡ begun.given) × HoldsNextIds maker.entry.now.schema.now old making.new) }
 {
     let parents = maker.schema.model_info(model).inherits.as_slice();
     for parent in parents {
@@ -61,9 +60,8 @@ fn make_parent(
     ensures adds { OnOk result (AddsEdits making.old making.new) }
     ensures ready { OnOk result (IsReady maker.entry.now.schema.now making.new) }
     ensures made { OnOk result ((old : Tables) → HoldsNextIds maker.entry.now.schema.now old making.old
-        → (record { tables = so_far maker.entry.now.schema.now old making.new; given = given.new.items }
-        ≡ with_parent maker.entry.now.schema.now maker.entry.now.author model (record { tables = so_far maker.entry.now.schema.now old making.old; given = given.old.items }) parent)
-        × HoldsNextIds maker.entry.now.schema.now old making.new) }
+        → let begun = with_parent maker.entry.now.schema.now maker.entry.now.author (so_far maker.entry.now.schema.now old making.old) model given.old.items parent in
+        (making.new.edits.items ≡ making.old.edits.items ++ begun.edits) × (given.new.items ≡ begun.given) × HoldsNextIds maker.entry.now.schema.now old making.new) }
 {
     if linked(given.as_slice(), parent.link).is_some() {
         return Ok(());

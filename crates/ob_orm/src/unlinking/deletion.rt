@@ -12,14 +12,13 @@ ghost use Rattle.ob_cache.specs.Standing.{RestsAt, Stays};
 ghost use Rattle.ob_cache.specs.declared.stages.Phase.TheVariants as phase;
 ghost use Rattle.ob_io.specs.Cause.{Rose};
 ghost use Rattle.ob_orm.specs.DeletionSteps.{AddsCells, AreFit, IsDeletion, IsRelation, KeepsCount, LeadsBy, TakesBy, TakesMore};
-ghost use Rattle.ob_orm.specs.Unlink.{rows_named};
+ghost use Rattle.ob_orm.specs.Rights.{rows_named};
 ghost use Rattle.ob_orm.specs.declared.unlinking.relations.KeptRelation.{KeptRelation};
 ghost use Rattle.ob_schema.specs.Models.{FieldHas, HasModel};
 ghost use Rattle.ob_schema.specs.Plain.{naming};
 ghost use Rattle.ob_schema.specs.Tables.{Tables};
 ghost use Rattle.ob_tables.specs.Fitting.{IsFitId};
 
-use crate::fault::keeper_refusal;
 use crate::unlinking::relations::{KeptRelation, kept_relations};
 use crate::unlinking::taking::{add_found, take_named};
 use ob_base::{Cell, ModelNo, NoMemory, RecId, RefList, Refusal, RowKey};
@@ -54,9 +53,7 @@ pub(crate) fn deletion_of<K: Keeper>(
     ensures lender { engine.new.keeper.ghost_name ≡ engine.old.keeper.ghost_name }
 {
     let schema = engine.schema();
-    let Ok(relations) = kept_relations(alloc, schema) else {
-        return Err(Refusal::NoMemory);
-    };
+    let relations = kept_relations(alloc, schema)?;
     search(alloc, engine, relations.as_slice(), model, ids)
 }
 
@@ -82,9 +79,7 @@ fn search<K: Keeper>(
 {
     let mut rows = BTreeSet::new(alloc);
     let mut waiting = Vec::new(alloc);
-    let Ok(()) = take_named(model, ids, &mut rows, &mut waiting) else {
-        return Err(Refusal::NoMemory);
-    };
+    take_named(model, ids, &mut rows, &mut waiting)?;
     let mut cells = BTreeSet::new(alloc);
     while let Some(row) = waiting.pop() {
         add_holders(engine, relations, row, &mut rows, &mut waiting, &mut cells)?;
@@ -150,9 +145,7 @@ fn add_by<K: Keeper>(
     // The law of registries, by which the field of a relation is there.
     engine.schema().parts_fit_together();
     let ids = holders(engine, relation, row.id)?;
-    let Ok(()) = add_found(relation, ids.as_slice(), rows, waiting, cells) else {
-        return Err(Refusal::NoMemory);
-    };
+    add_found(relation, ids.as_slice(), rows, waiting, cells)?;
     Ok(())
 }
 
@@ -181,10 +174,7 @@ fn holders<K: Keeper>(
 {
     // The law of registries, by which each row has an id of 1 to the limit: one page has all.
     engine.schema().parts_fit_together();
-    match engine.holders(relation.model, relation.field, id, RecId(0), u32::MAX) {
-        Ok(ids) => Ok(ids),
-        Err(fault) => Err(keeper_refusal(fault)),
-    }
+    Ok(engine.holders(relation.model, relation.field, id, RecId(0), u32::MAX)?)
 }
 
 /// The rows of a set as a list.

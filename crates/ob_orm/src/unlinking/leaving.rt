@@ -86,9 +86,7 @@ fn push_left<K: Keeper>(
     let Some(value) = settled_value(engine, cell)? else {
         return Ok(());
     };
-    let Ok(()) = push_edit(alloc, schema, cell, value, rows, edits) else {
-        return Err(Refusal::NoMemory);
-    };
+    push_edit(alloc, schema, cell, value, rows, edits)?;
     Ok(())
 }
 

@@ -3,7 +3,7 @@
 
 ghost use Rattle.std.specs.Prelude.{◌≡◌, Contains, IfOk, true};
 ghost use Rattle.ob_orm.specs.DeletionSteps.{AddsCells, KeepsCount, TakesMore, cell_by};
-ghost use Rattle.ob_orm.specs.Unlink.{rows_named};
+ghost use Rattle.ob_orm.specs.Rights.{rows_named};
 
 use crate::unlinking::relations::KeptRelation;
 use ob_base::{Cell, ModelNo, NoMemory, RecId, RowKey};

@@ -1,4 +1,4 @@
-//! What a write asks for: which rows, and the values that each of them is given.
+//! What a write asks for: which rows, and the object of values that each of them is given.
 
 ghost use Rattle.std.specs.Prelude.{◌≡◌, ◌≤◌, ◌∷◌, codes, map, true, All, IfOk, IfSome};
 ghost use Rattle.ob_base.specs.Limits.{max_id};
@@ -12,19 +12,18 @@ ghost use Rattle.ob_orm.specs.Write.{change_of, write_expects};
 ghost use Rattle.ob_orm.specs.WriteSteps.{asked_change, write_fault};
 ghost use Rattle.ob_schema.specs.Models.{HasModel, model_at};
 
-use crate::creating::given::{NewValues, object_values};
+use crate::creating::given::{GivenObject, NewValues, given_object};
 use crate::objects::ObjectSpot;
-use ob_base::{FieldNo, ModelNo, NoMemory, Refusal, Sequence, Value};
+use ob_base::{ModelNo, NoMemory, Refusal};
 use ob_call::{Below, Call, Form, Ids, Json, Parameter, arguments_of, named_ids};
 use ob_schema::Schema;
 use std::alloc::Global;
 
-/// Rows, each once, and the values that each of them is given, for its own fields and those of its
-/// parents, by the numbers of the model's fields.
+/// Rows, each once, and what each of them is given, for its own fields and those of its parents.
 #[derive(Drop)]
 pub(crate) struct Change {
     pub(crate) ids: Vec<u64>,
-    pub(crate) given: Sequence<(FieldNo, Value)>,
+    pub(crate) object: GivenObject,
 }
 
 /// The form of an argument of a write.
@@ -47,7 +46,7 @@ impl Form for WriteForm<'_> {
     }
 }
 
-/// What a write of a call asks for, or the first place that is wrong.
+/// What a write of a call asks for, or the first place of its arguments that is wrong.
 pub(crate) fn asked_change(
     alloc: Global,
     schema: &Schema,
@@ -56,7 +55,7 @@ pub(crate) fn asked_change(
     requires model { HasModel schema.now call.now.model }
     ensures value { IfSome (model_at schema.now call.entry.now.model)
         (λ info. IsResultOf asked_change result (change_of schema.now (called_by call.entry.now info))) }
-    ensures typed { IfOk result (λ change. All (IsTyped schema.now call.entry.now.model) change.given) }
+    ensures typed { IfOk result (λ change. All (IsTyped schema.now call.entry.now.model) change.object.values) }
     ensures low { IfOk result (λ change. All (λ id. id ≤ max_id) change.ids.items) }
 {
     let expected = write_parameters(schema, call.model);
@@ -67,12 +66,10 @@ pub(crate) fn asked_change(
     let Some(vals) = &given[1] else {
         unreachable!();
     };
-    let object = ObjectSpot::Argument(vals.spot);
-    let values = object_values(alloc, schema, call.model, object, vals.json)?;
-    let Ok(ids) = named_ids(alloc, ids.json) else {
-        return Err(Refusal::NoMemory);
-    };
-    Ok(Change { ids, given: values })
+    let ids = named_ids(alloc, ids.json)?;
+    let spot = ObjectSpot::Argument(vals.spot);
+    let object = given_object(alloc, schema, call.model, spot, vals.json)?;
+    Ok(Change { ids, object })
 }
 
 /// What a write is called with: ids, and an object of values.

@@ -13,7 +13,8 @@ ghost use Rattle.ob_io.specs.Cause.{Rose};
 ghost use Rattle.ob_orm.specs.NewRows as spec;
 ghost use Rattle.ob_orm.specs.NewRows.{row_edits, row_named};
 ghost use Rattle.ob_orm.specs.NewRowSteps.{IsTyped};
-ghost use Rattle.ob_orm.specs.Write.{edits_of, edits_of_row, linked_in, parent_edits};
+ghost use Rattle.ob_orm.specs.Touched.{linked_in};
+ghost use Rattle.ob_orm.specs.Write.{edits_of, edits_of_row, parent_edits};
 ghost use Rattle.ob_orm.specs.WriteSteps.{SetsFit, asked_change};
 ghost use Rattle.ob_schema.specs.Models.{HasModel, IsParentIn};
 ghost use Rattle.ob_schema.specs.Plain.{plain_at};
@@ -43,7 +44,7 @@ pub(crate) fn change_edits<K: Keeper>(
     requires schema { engine.old.held.models ≡ maker.now.schema.now }
     requires model { HasModel maker.now.schema.now model }
     requires moment { IsMoment maker.now.author.now }
-    requires typed { All (IsTyped maker.now.schema.now model) change.now.given }
+    requires typed { All (IsTyped maker.now.schema.now model) change.now.object.values }
     requires low { All (λ id. id ≤ max_id) change.now.ids.items }
     requires rest { engine.old.held.phase ≡ phase.Settled }
     ensures told { IfOk result (λ edits. (tables : Tables) → RestsAt (K.kept engine.old.keeper.now) engine.old.held tables
@@ -56,7 +57,7 @@ pub(crate) fn change_edits<K: Keeper>(
 {
     let mut edits = Vec::new(maker.alloc);
     let ids = change.ids.as_slice();
-    let given = change.given.as_slice();
+    let given = change.object.values.as_slice();
     for id in ids {
         push_row(maker, engine, &mut edits, model, *id, given)?;
     }
@@ -157,7 +158,7 @@ fn push_parent<K: Keeper>(
 }
 
 /// The row that a row's link to a parent names behind the change.
-fn linked_row<K: Keeper>(
+pub(crate) fn linked_row<K: Keeper>(
     engine: &mut Engine<'_, K>,
     model: ModelNo,
     id: u64,

@@ -35,9 +35,7 @@ pub(crate) fn objects_told<K: Keeper>(
     ensures plain { IfOk result (λ json. has_float (view json) ≡ false) }
     ensures asked { OnlyAsked K.Keeper engine.old engine.new }
 {
-    let Ok(ids) = numbers_of(alloc, ids) else {
-        return Err(Refusal::NoMemory);
-    };
+    let ids = numbers_of(alloc, ids)?;
     let sought = &asked.sought;
     let fields = asked.fields.as_slice();
     let rows = fetched_rows(

@@ -1,34 +1,29 @@
 -- The cells as a list; none restricts; their edits.
-use Rattle.std.proofs.Common.{◌≡◌, List, map, subst, sym, ◌∙◌}
+use Rattle.std.proofs.Common.{◌≡◌, List, map, subst, ◌∙◌}
 use Rattle.std.specs.Prelude.{All, IfOk, IsSome}
 use Rattle.std.proofs.lemmas.Result.{err_from_is_err_and}
 use Rattle.ob_base.specs.declared.id.Cell.{Cell}
-use Rattle.ob_base.specs.declared.refusal.Refusal.{Refusal}
 use Rattle.ob_cache.specs.Standing.{RestsAt}
-use Rattle.ob_orm.proofs.Asking.{err-map, whatever}
-use Rattle.ob_cache.proofs.CallerLemmas.{Refuses-weaker}
+use Rattle.ob_orm.proofs.Questions.{err-map, whatever}
 use Rattle.ob_orm.proofs.Deleted.{cells-fields, cells-fit, restricts-told}
 use Rattle.ob_orm.proofs.WriteCarried.{unasked-cause}
-use Rattle.ob_orm.specs.DeletionSteps.{IsFitCell, IsRestricting, RestrictsBy, has_key, left_edit, staying}
+use Rattle.ob_orm.specs.DeletionSteps.{IsRestricting, RestrictsBy, has_key, left_edit, staying}
 use Rattle.ob_orm.proofs.unlinking.cell_edits.Goals as goal
-use Rattle.ob_schema.specs.Models.{HasField}
 use Rattle.ob_schema.specs.Tables.{Tables, kept_at}
-use Rattle.ob_schema.specs.declared.info.ModelInfo.{ModelInfo}
-use Rattle.ob_tables.specs.declared.edit.Edit.{Edit}
 
 pub test_cells-requires : goal.test_cells-requires
 test_cells-requires g c =
-    let listed = c.as_slice.ensures.value ∙ c.in-Ok.ensures in
+    let listed = c.as_slice.ensures.value ∙ c.in_ok-cells.ensures in
     record { fields = rw (c.schema.ensures, listed) (cells-fields c.args.engine.now.held.models c.args.deletion.now.rows c.args.deletion.now.cells c.requires.fit) }
 
 pub left_edits-requires-clause-fields : goal.left_edits-requires-clause-fields
 left_edits-requires-clause-fields g c =
-    let listed = c.as_slice-2.ensures.value ∙ c.in-Ok.ensures in
+    let listed = c.as_slice-2.ensures.value ∙ c.in_ok-cells.ensures in
     rw listed (cells-fit c.args.engine.now.held.models c.args.deletion.now.rows c.args.deletion.now.cells c.requires.fit)
 
 pub returns-clause-free : goal.returns-clause-free
 returns-clause-free g c =
-    let listed = c.as_slice.ensures.value ∙ c.in-Ok.ensures in
+    let listed = c.as_slice.ensures.value ∙ c.in_ok-cells.ensures in
     let free = rw (c.schema.ensures, listed) at c.in_ok-test_cells.ensures.ok in
     whatever c.left_edits.result (All (λ (cell : Cell). IsRestricting c.args.engine.now.held.models (has_key c.args.deletion.now.rows) cell → ⊥) c.args.deletion.now.cells.keys) free
 
@@ -36,7 +31,7 @@ pub returns-clause-told : goal.returns-clause-told
 returns-clause-told g c =
     let old = c.args.engine.now in
     let gone = has_key c.args.deletion.now.rows in
-    let listed = c.as_slice-2.ensures.value ∙ c.in-Ok.ensures in
+    let listed = c.as_slice-2.ensures.value ∙ c.in_ok-cells.ensures in
     subst (λ (l : List Cell). IfOk c.left_edits.result (λ edits. (tables : Tables) → RestsAt (g.K.Keeper.kept old.keeper.now) old.held tables → All (λ cell. IsSome (kept_at tables cell)) l
     → edits.items ≡ map (left_edit old.held.models gone tables) (staying gone l))) listed c.left_edits.ensures.told
 
@@ -46,7 +41,7 @@ returns-clause-refused g c =
 
 pub returns-in_err-test_cells-clause-refused : goal.returns-in_err-test_cells-clause-refused
 returns-in_err-test_cells-clause-refused g c =
-    let p = err_from_is_err_and c.from_residual.result c.from_residual.ensures.1 in
-    let listed = c.as_slice.ensures.value ∙ c.in-Ok.ensures in
+    let p = err_from_is_err_and c.from_residual-in_err-test_cells.result c.from_residual-in_err-test_cells.ensures.1 in
+    let listed = c.as_slice.ensures.value ∙ c.in_ok-cells.ensures in
     let (cell, among, restricts, is) = rw (c.schema.ensures, listed) at c.in_err-test_cells.ensures.refused in
     rw (p.1, p.2) (restricts-told c.args.engine.now.held.models c.args.deletion.now.rows c.args.deletion.now.cells _ c.in_err-test_cells.field-0.0 cell among restricts is)

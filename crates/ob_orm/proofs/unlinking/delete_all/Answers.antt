@@ -1,17 +1,16 @@
 -- The rows that go, their edits, and what settling says.
-use Rattle.std.proofs.Common.{◌≡◌, List, refl, subst, sym, ◌∙◌, arith}
+use Rattle.std.proofs.Common.{◌≡◌, List, subst, sym, ◌∙◌, arith}
 use Rattle.std.specs.Prelude.{All}
 use Rattle.std.proofs.lemmas.Result.{err_from_is_err_and, on_ok_weaker}
-use Rattle.ob_base.specs.declared.refusal.Refusal.{Refusal}
 use Rattle.ob_cache.proofs.CallerLemmas.{stays-then}
-use Rattle.ob_orm.proofs.Asking.{err-later, err-map, refused_later, stays-at_rest, stays-itself}
+use Rattle.ob_orm.proofs.Questions.{err-later, err-map, refused_later, stays-at_rest, stays-itself}
 use Rattle.ob_orm.proofs.CreateAnswer.{rose_from}
 use Rattle.ob_orm.proofs.Deleted.{bars-stop, covers-of, edits-below, edits-fit, settles-all, stops-all}
 use Rattle.ob_orm.proofs.WriteCarried.{unasked-cause}
 use Rattle.ob_orm.proofs.WriteMissing.{stays-rests}
 use Rattle.ob_orm.specs.CreateSteps.{BreaksField}
 use Rattle.ob_orm.specs.DeletionSteps.{AreFit, Covers, IsBarredBy, IsMakingNone, IsStoppedBy, MayAllGo, deletion_edits}
-use Rattle.ob_orm.specs.Unlink.{rows_named}
+use Rattle.ob_orm.specs.Rights.{rows_named}
 use Rattle.ob_orm.proofs.unlinking.delete_all.Goals as goal
 use Rattle.ob_schema.specs.Models.{IsRegistry}
 use Rattle.ob_schema.specs.declared.info.ModelInfo.{ModelInfo}

@@ -1,5 +1,5 @@
 -- The rows may go; the edits of the cells; the rows that are taken out.
-use Rattle.std.proofs.Common.{◌≡◌, ◌++◌, List, ap, map, refl, subst, sym, ◌∙◌}
+use Rattle.std.proofs.Common.{◌≡◌, ◌++◌, List, ap, map, subst, sym, ◌∙◌}
 use Rattle.std.specs.Prelude.{All, Any, IsSome}
 use Rattle.std.proofs.lemmas.List.Elements.{All-append}
 use Rattle.std.proofs.lemmas.Result.{err_from_is_err_and}
@@ -7,13 +7,12 @@ use Rattle.ob_base.specs.declared.id.Cell.{Cell}
 use Rattle.ob_base.specs.declared.id.RowKey.{RowKey}
 use Rattle.ob_base.specs.declared.refusal.Refusal.{Refusal}
 use Rattle.ob_cache.proofs.CallerLemmas.{Refuses-weaker, stays-then}
-use Rattle.ob_orm.proofs.Asking.{refused_later}
+use Rattle.ob_orm.proofs.Questions.{refused_later}
 use Rattle.ob_orm.proofs.Deleted.{all-kept, all-there, gone-fit, none-bars, restricts-bars, restricts-field, row-bars, rows-fit, rows-models}
 use Rattle.ob_orm.proofs.WriteMissing.{stays-rests}
 use Rattle.ob_orm.specs.CreateSteps.{BreaksField}
 use Rattle.ob_orm.specs.DeletionSteps.{AreFit, BarsRow, IsBarredBy, IsFitRow, IsMakingNone, IsRestricting, MayGo, RestrictsBy, gone_edits, has_key, left_edit, staying}
 use Rattle.ob_orm.proofs.unlinking.edits_of.Goals as goal
-use Rattle.ob_schema.specs.Models.{HasModel}
 use Rattle.ob_schema.specs.Tables.{row_at}
 use Rattle.ob_schema.specs.declared.info.ModelInfo.{ModelInfo}
 use Rattle.ob_tables.specs.declared.edit.Edit.{Edit}
@@ -38,15 +37,18 @@ returns-clause-told g c = λ tables rests covers.
     let may = subst (All (MayGo models tables)) listed (c.in_ok-test_rows.ensures.ok tables rests there) in
     let free = subst (λ (ms : List ModelInfo). All (λ (cell : Cell). IsRestricting ms gone cell → ⊥) cells.keys) same.models c.in_ok-edits.ensures.free in
     let told = subst (λ (ms : List ModelInfo). c.in_ok-edits.edits.items ≡ map (left_edit ms gone tables) (staying gone cells.keys)) same.models
-    (c.in_ok-edits.ensures.told tables (stays-rests _ _ _ _ same tables rests) (all-kept models tables rows cells covers)) in
-    (none-bars models tables rows cells covers may free, c.in-Ok.ensures ∙ ap (λ (es : List Edit). es ++ gone_edits c.args.rows.now) told ∙ ap (λ (l : List RowKey). map (left_edit models gone tables) (staying gone cells.keys) ++ gone_edits l) listed)
+    (c.in_ok-edits.ensures.told tables (stays-rests _ _ _ _ same tables rests) (all-kept models tables rows cells covers)) in (
+      none-bars models tables rows cells covers may free,
+      c.in_ok-push_gone.ensures ∙ ap (λ (es : List Edit). es ++ gone_edits c.args.rows.now) told
+          ∙ ap (λ (l : List RowKey). map (left_edit models gone tables) (staying gone cells.keys) ++ gone_edits l) listed,
+    )
 
 pub returns-clause-fit : goal.returns-clause-fit
 returns-clause-fit g c =
     let models = c.args.engine.now.held.models in
     let own = subst (λ (ms : List ModelInfo). All (IsMakingNone ms) c.in_ok-edits.edits.items) c.test_rows.ensures.same.models c.in_ok-edits.ensures.fit in
     let rows = subst (All (IsFitRow models)) (sym c.requires.listed) (rows-fit models c.args.deletion.now.rows c.args.deletion.now.cells c.requires.fit) in
-    rw c.in-Ok.ensures (All-append (IsMakingNone models) c.in_ok-edits.edits.items (gone_edits c.args.rows.now) own (gone-fit models c.args.rows.now rows))
+    rw c.in_ok-push_gone.ensures (All-append (IsMakingNone models) c.in_ok-edits.edits.items (gone_edits c.args.rows.now) own (gone-fit models c.args.rows.now rows))
 
 pub returns-clause-same : goal.returns-clause-same
 returns-clause-same g c = stays-then _ _ _ _ _ _ c.test_rows.ensures.same c.cell_edits.ensures.same
@@ -83,5 +85,5 @@ returns-in_err-edits-clause-causes g c =
 pub returns-in_err-edits-clause-same : goal.returns-in_err-edits-clause-same
 returns-in_err-edits-clause-same g c = stays-then _ _ _ _ _ _ c.test_rows.ensures.same c.cell_edits.ensures.same
 
-pub returns-in_default-clause-same : goal.returns-in_default-clause-same
-returns-in_default-clause-same g c = stays-then _ _ _ _ _ _ c.test_rows.ensures.same c.cell_edits.ensures.same
+pub returns-in_err-push_gone-clause-same : goal.returns-in_err-push_gone-clause-same
+returns-in_err-push_gone-clause-same g c = stays-then _ _ _ _ _ _ c.test_rows.ensures.same c.cell_edits.ensures.same

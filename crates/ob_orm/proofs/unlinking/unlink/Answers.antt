@@ -11,5 +11,6 @@ returns-clause-call g c =
     let call = c.args.call.now in
     let before = standpoint g.K.Keeper c.args.engine.now in
     let says = c.delete_named.ensures in
-    IsCalled-found (model_at (models_at before) call.model) (λ info. Unlinks (models_at before) (called_by call info)) (λ info. UnlinkCause (models_at before) (called_by call info)) before
+    IsCalled-found (model_at (models_at before) call.model) (λ info. Unlinks (models_at before) c.args.policy.now (called_by call info))
+    (λ info. UnlinkCause (models_at before) c.args.policy.now (called_by call info)) before
     (standpoint g.K.Keeper c.delete_named.new.engine) (result_view c.delete_named.result) says.answer (IfErr-result_view _ c.delete_named.result says.causes) says.rests says.same says.count

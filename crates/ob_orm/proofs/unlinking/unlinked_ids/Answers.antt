@@ -26,7 +26,7 @@ returns-clause-value c = λ info.
     let told = rw expects at c.in_ok-given.ensures.told in
     let fit = rw expects at c.in_ok-given.ensures.fit in
     let one = sole_are ids_expected items (Some c.in-Some.ids) fit (rw c.in-Some.is at c.index.ensures) in
-    taken_ids (arguments_of unlink_expects (view call.args.now) (view call.kw.now)) items c.in-Some.ids c.in-Ok.ids.items told one c.in-Ok.ensures
+    taken_ids (arguments_of unlink_expects (view call.args.now) (view call.kw.now)) items c.in-Some.ids c.in_ok-ids.ids.items told one c.in_ok-ids.ensures
 
 pub returns-clause-low : goal.returns-clause-low
-returns-clause-low c = rw c.in-Ok.ensures (named-low (view c.in-Some.ids.json.now))
+returns-clause-low c = rw c.in_ok-ids.ensures (named-low (view c.in-Some.ids.json.now))

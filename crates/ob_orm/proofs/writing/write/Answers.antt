@@ -11,5 +11,5 @@ returns-clause-call g c =
     let call = c.args.call.now in
     let before = standpoint g.K.Keeper c.args.engine.now in
     let says = c.change_rows.ensures in
-    IsCalled-found (model_at (models_at before) call.model) (λ info. Writes (models_at before) (called_by call info)) (λ info. WriteCause (models_at before) (called_by call info)) before
+    IsCalled-found (model_at (models_at before) call.model) (λ info. Writes (models_at before) c.args.policy.now (called_by call info)) (λ info. WriteCause (models_at before) c.args.policy.now (called_by call info)) before
     (standpoint g.K.Keeper c.change_rows.new.engine) (result_view c.change_rows.result) says.answer (IfErr-result_view _ c.change_rows.result says.causes) says.rests says.same says.count

@@ -2,7 +2,7 @@ use Rattle.std.proofs.Common.{sym, ◌∙◌}
 use Rattle.std.proofs.lemmas.Result.{IfOk-weaker}
 use Rattle.ob_cache.specs.declared.fault.ReadFault.TheVariants as read_fault
 use Rattle.ob_query.proofs.Asked.{as_asked, tells_tables}
-use Rattle.ob_query.proofs.CallersGroups.{groups_none, groups_some, none_contained, none_rise}
+use Rattle.ob_access.proofs.CallerLemmas.{groups_none, groups_some, none_contained, none_rise}
 use Rattle.ob_schema.specs.Facts.{told_by}
 use Rattle.ob_query.proofs.caller.groups_of.Goals as goal
 

@@ -52,8 +52,8 @@ returns-in_err-given-clause-asked c =
     (λ infos. groups_expects models call.model infos (written_of infos (view call.args.now) (view call.kw.now))) (λ info gs. groups_by models (called_by call info) gs) (λ info. groups_named models (called_by call info))
     (view call.args.now) (view call.kw.now) c.in_err-given.field-0.0 told)
 
-pub returns-in-Ok-clause-asked : goal.returns-in-Ok-clause-asked
-returns-in-Ok-clause-asked c =
+pub returns-clause-asked : goal.returns-clause-asked
+returns-clause-asked c =
     let models = c.args.schema.now in
     let call = c.args.call.now in
     let by = c.args.by in
@@ -77,15 +77,15 @@ returns-in-Ok-clause-asked c =
     let five = c.index-5.result.now in
     let six = c.index-6.result.now in
     let last = c.index-7.result.now in
-    let old = c.in-Ok.asked in
+    let old = c.in_ok-asked.asked in
     let are = seven_are first items seven one two three four five six last c.index.ensures c.index-2.ensures c.index-3.ensures c.index-4.ensures c.index-5.ensures c.index-6.ensures c.index-7.ensures in
-    let meant = taken_groups models call items one two three four five six last (asked_view old) are told c.in-Ok.ensures.asked in
-    let rows = IfSome_then (model_at models call.model) c.in-Ok.ensures.asked (λ info is. ap (λ (a : forms.AskedGroups). a.sought) is) in
-    let named = named_groups models call items one two three four five six last (sought_view old.sought) old.written are told rows c.in-Ok.ensures.written in
+    let meant = taken_groups models call items one two three four five six last (asked_view old) are told c.in_ok-asked.ensures.asked in
+    let rows = IfSome_then (model_at models call.model) c.in_ok-asked.ensures.asked (λ info is. ap (λ (a : forms.AskedGroups). a.sought) is) in
+    let named = named_groups models call items one two three four five six last (sought_view old.sought) old.written are told rows c.in_ok-asked.ensures.written in
     let pairs = λ (m : ModelNo). in_turn (groups_pairs (fields_at models m) m one two three (sought_view old.sought) (map (λ (g : Grouping). step_at m g.field) old.written.groupings.items)) in
     let Told = λ (told : AskedGroups). told ≡ old in
     let At = λ (b : Caller) (m : ModelNo). IsAllowed b m (pairs m) Told c.allowed_groups.result in
     let own : At old.sought.by old.sought.model = c.allowed_groups.ensures in
-    let allowed = subst (At by) c.in-Ok.ensures.model (subst (λ (b : Caller). At b old.sought.model) c.in-Ok.ensures.by own) in
+    let allowed = subst (At by) c.in_ok-asked.ensures.model (subst (λ (b : Caller). At b old.sought.model) c.in_ok-asked.ensures.by own) in
     allowed_in by call.model (model_at models call.model) (λ info. StandsForGroups) (λ info. groups_of models (called_by call info)) (λ info. groups_named models (called_by call info)) (pairs call.model) Told (λ info. asked_view old)
     c.allowed_groups.result meant named (λ info told own. sym (ap asked_view own)) allowed

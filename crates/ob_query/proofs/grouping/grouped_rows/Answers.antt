@@ -51,16 +51,16 @@ returns-in_err-asked-clause-causes g c =
     (denied_cause_at _ models (c.schema.ensures ∙ c.groups_of.ensures.asked.same.models) call by refl rose (λ info. StandsForGroups) (λ m info. groups_of m (called_by call info)) (λ m info. groups_named m (called_by call info))
     c.in_err-asked.field-0.0 c.requires.model c.in_err-asked.ensures.asked)
 
-pub returns-in-Ok-clause-answer : goal.returns-in-Ok-clause-answer
-returns-in-Ok-clause-answer g c = λ tables rests.
+pub returns-clause-answer : goal.returns-clause-answer
+returns-clause-answer g c = λ tables rests.
     let old = c.args.engine.now in
     let mid = c.groups_of.new.engine in
     let models = old.held.models in
     let same = c.groups_of.ensures.asked.same.models in
     let asked = rw (c.schema.ensures, same) at c.in_ok-asked.ensures.asked in
-    let gathered = rw same at (c.in-Ok.ensures.told tables (rests_on g.K.Keeper old mid tables c.groups_of.ensures.asked rests)) in
-    groups_answered models c.args.call.now (standpoint g.K.Keeper old) (standpoint g.K.Keeper c.gathered.new.engine) tables _ refl (c.in_ok-groups.ensures.groups tables rests) c.in_ok-asked.asked c.in-Ok.groups c.groups_json.result
+    let gathered = rw same at (c.in_ok-found.ensures.told tables (rests_on g.K.Keeper old mid tables c.groups_of.ensures.asked rests)) in
+    groups_answered models c.args.call.now (standpoint g.K.Keeper old) (standpoint g.K.Keeper c.gathered.new.engine) tables _ refl (c.in_ok-groups.ensures.groups tables rests) c.in_ok-asked.asked c.in_ok-found.found c.groups_json.result
     c.in_ok-asked.ensures.by c.in_ok-asked.ensures.model asked gathered c.groups_json.ensures.told c.groups_json.ensures.causes
 
-pub returns-in-Ok-clause-asked : goal.returns-in-Ok-clause-asked
-returns-in-Ok-clause-asked g c = asked_then g.K.Keeper c.args.engine.now c.groups_of.new.engine c.gathered.new.engine c.groups_of.ensures.asked c.gathered.ensures.asked
+pub returns-clause-asked : goal.returns-clause-asked
+returns-clause-asked g c = asked_then g.K.Keeper c.args.engine.now c.groups_of.new.engine c.gathered.new.engine c.groups_of.ensures.asked c.gathered.ensures.asked

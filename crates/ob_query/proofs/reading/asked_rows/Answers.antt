@@ -50,11 +50,9 @@ returns-in_err-granted-clause-asked c =
     let are = three_are items three first second (rw c.in-Some.is at c.index.ensures) c.index-2.ensures in
     let named = named_read models call items first second three.third are given in
     let pairs = in_turn (read_pairs (fields_at models call.model) call.model second) in
-    let naming = c.in_ok-map_err.field-0 in
-    let made : c.names_naming.result ≡ Ok naming = grind arith in
+    let naming = c.in_ok-names_naming.field-0 in
     let one = named_is naming (is_first (option_map given_of second)) (map (step_at call.model) (option_map_or (λ g. name_fields (fields_at models call.model) g.json) (option_map given_of second) []))
-    (IfOk-at_ok (λ (n : Naming). n.positioned ≡ is_first (option_map given_of second)) made c.names_naming.ensures.positioned)
-    (IfOk-at_ok (λ (n : Naming). n.fields.items ≡ map (step_at call.model) (option_map_or (λ g. name_fields (fields_at models call.model) g.json) (option_map given_of second) [])) made c.names_naming.ensures.fields) in
+    c.in_ok-names_naming.ensures.positioned c.in_ok-names_naming.ensures.fields in
     let names = one_name naming naming naming _ _ _ one one one in
     let why = c.in_err-granted.field-0.0 in
     rw (p.1, p.2) (IfSome_then (model_at models call.model) named
@@ -76,22 +74,15 @@ returns-clause-asked c =
     let are = three_are items three first second (rw c.in-Some.is at c.index.ensures) c.index-2.ensures in
     let named = named_read models call items first second three.third are given in
     let pairs = in_turn (read_pairs (fields_at models call.model) call.model second) in
-    let naming = c.in_ok-map_err.field-0 in
-    let made : c.names_naming.result ≡ Ok naming = grind arith in
+    let naming = c.in_ok-names_naming.field-0 in
     let one = named_is naming (is_first (option_map given_of second)) (map (step_at call.model) (option_map_or (λ g. name_fields (fields_at models call.model) g.json) (option_map given_of second) []))
-    (IfOk-at_ok (λ (n : Naming). n.positioned ≡ is_first (option_map given_of second)) made c.names_naming.ensures.positioned)
-    (IfOk-at_ok (λ (n : Naming). n.fields.items ≡ map (step_at call.model) (option_map_or (λ g. name_fields (fields_at models call.model) g.json) (option_map given_of second) [])) made c.names_naming.ensures.fields) in
+    c.in_ok-names_naming.ensures.positioned c.in_ok-names_naming.ensures.fields in
     let names = one_name naming naming naming _ _ _ one one one in
     let ids = c.in_ok-ids.ids.items in
     let numbers = c.in_ok-fields.fields.items in
-    let ids_made : c.named_ids.result ≡ Ok c.in_ok-ids.ids = grind arith in
-    let fields_made : c.named_fields.result ≡ Ok c.in_ok-fields.fields = grind arith in
-    let told_made : c.told_fields.result ≡ Ok c.in_ok-fields-2.fields = grind arith in
-    let ids_are = IfOk-at_ok (λ (v : Vec ℕ Global). v.items ≡ named_ids (view first.json.now)) ids_made c.named_ids.ensures in
-    let numbers_are = IfOk-at_ok (λ (v : Vec FieldNo Global). IfSome (model_at models call.model) (λ info. columns_at info v.items ≡ asked_columns info (option_map given_of second))) fields_made c.named_fields.ensures.fields in
     let may = λ (field : FieldNo). may_read_field by (step_at call.model field) in
-    let told = IfOk-at_ok (λ (v : Vec FieldNo Global). v.items ≡ filter may c.as_slice.result.now) told_made c.told_fields.ensures ∙ ap (filter may) c.as_slice.ensures.value in
-    let meant = taken_read models call items first second three.third are given ids numbers ids_are numbers_are in
+    let told = c.in_ok-fields-2.ensures ∙ ap (filter may) c.as_slice.ensures.value in
+    let meant = taken_read models call items first second three.third are given ids numbers c.in_ok-ids.ensures c.in_ok-fields.ensures.fields in
     let asked : Asked = record { by = by; model = call.model; ids = c.in_ok-ids.ids; fields = c.in_ok-fields-2.fields } in
     let Own = IsToldRead by call.model ids numbers in
     let granted = subst (λ (fields : List Step). IsGranted by call.model fields (Ok c.in_ok-granted.field-0)) names c.in_ok-granted.ensures in
@@ -103,9 +94,6 @@ returns-clause-over c =
     let models = c.args.schema.now in
     let model = c.args.call.now.model in
     let by = c.args.by in
-    let fields_made : c.named_fields.result ≡ Ok c.in_ok-fields.fields = grind arith in
-    let told_made : c.told_fields.result ≡ Ok c.in_ok-fields-2.fields = grind arith in
     let may = λ (field : FieldNo). may_read_field by (step_at model field) in
-    let told = IfOk-at_ok (λ (v : Vec FieldNo Global). v.items ≡ filter may c.as_slice.result.now) told_made c.told_fields.ensures ∙ ap (filter may) c.as_slice.ensures.value in
-    let there = IfOk-at_ok (λ (v : Vec FieldNo Global). All (HasField models model) v.items) fields_made c.named_fields.ensures.there in
-    record { policy = c.requires.policy; model = c.requires.model; fields = subst (All (HasField models model)) (sym told) (All-filter may (HasField models model) c.in_ok-fields.fields.items there) }
+    let told = c.in_ok-fields-2.ensures ∙ ap (filter may) c.as_slice.ensures.value in
+    record { policy = c.requires.policy; model = c.requires.model; fields = subst (All (HasField models model)) (sym told) (All-filter may (HasField models model) c.in_ok-fields.fields.items c.in_ok-fields.ensures.there) }

@@ -10,23 +10,22 @@ use Rattle.ob_schema.specs.Facts.{OfAllTold, Told}
 use Rattle.ob_query.proofs.reading.least_missing.Goals as goal
 use Rattle.ob_query.proofs.reading.least_missing.Goals.{then-not-branch, else-not-branch}
 
-pub returns-in_err-map_err-clause-asked : goal.returns-in_err-map_err-clause-asked
-returns-in_err-map_err-clause-asked g c = asked_then g.K.Keeper c.args.engine.now c.loop-id.engine c.exists.new.engine c.loop-id.invariant.asked c.exists.ensures.asked
+pub returns-in_err-exists-clause-asked : goal.returns-in_err-exists-clause-asked
+returns-in_err-exists-clause-asked g c = asked_then g.K.Keeper c.args.engine.now c.loop-id.engine c.exists.new.engine c.loop-id.invariant.asked c.exists.ensures.asked
 
 pub loop-id-preserved : goal.loop-id-preserved
 loop-id-preserved g c =
     let old = c.args.engine.now in let mid = c.loop-id.engine in let next = c.exists.new.engine in
     let ids = c.args.ids.now in let i = c.loop-id.id-index in let id = get_or ids i 0 in
     let more : take (i + 1) ids ≡ take i ids ++ id ∷ [] = take_more ids i 0 c.loop-id-test.true in
-    let made : c.exists.result ≡ Ok c.in_ok-map_err.field-0 = grind arith in
-    let known = IfOk-at_ok (λ b. OfAllTold (TellsOf g.K.Keeper mid) (λ (told : Told). b ≡ told.knows c.args.model (record { 0 = id }))) made c.exists.ensures.told in
+    let known = c.in_ok-exists.ensures.told in
     elim c.if-not-branch.branch [
       | then-not-branch w ↦ (
-          let none : c.in_ok-map_err.field-0 ≡ false = grind (arith, common_steps) in
+          let none : c.in_ok-exists.field-0 ≡ false = grind (arith, common_steps) in
           let lesser : c.if-not-branch.missing ≡ Some (least_of c.loop-id.missing id) = grind (arith, common_steps) in
           rw (more, lesser) (IsSeeking-gap g.K.Keeper old c.args.model mid next (take i ids) c.loop-id.missing id c.exists.ensures.asked (λ told tells. sym (known told tells) ∙ none) c.loop-id.invariant))
       | else-not-branch w ↦ (
-          let there : c.in_ok-map_err.field-0 ≡ true = grind (arith, common_steps) in
+          let there : c.in_ok-exists.field-0 ≡ true = grind (arith, common_steps) in
           rw (more, w.missing-is) (IsSeeking-there g.K.Keeper old c.args.model mid next (take i ids) c.loop-id.missing id c.exists.ensures.asked (λ told tells. sym (known told tells) ∙ there) c.loop-id.invariant))
     ]
 

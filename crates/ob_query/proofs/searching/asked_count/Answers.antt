@@ -27,8 +27,8 @@ returns-in_err-given-clause-asked c =
     rw (p.1, p.2) (denied_by c.args.by models call.model (λ (given : Vec (Option Given) Global). all_given_of given.items) (λ info (sought : Sought) (meant : forms.Sought). sought_view sought ≡ meant)
     (λ infos. count_expects models call.model) (λ info gs. counted_by models (called_by call info) gs) (λ info. count_named models (called_by call info)) (view call.args.now) (view call.kw.now) c.in_err-given.field-0.0 told)
 
-pub returns-in-Ok-clause-asked : goal.returns-in-Ok-clause-asked
-returns-in-Ok-clause-asked c =
+pub returns-clause-asked : goal.returns-clause-asked
+returns-clause-asked c =
     let models = c.args.schema.now in
     let call = c.args.call.now in
     let by = c.args.by in
@@ -38,14 +38,14 @@ returns-in-Ok-clause-asked c =
     let fit = rw expects at c.in_ok-given.ensures.fit in
     let one = c.index.result.now in
     let two = c.index-2.result.now in
-    let old = c.in-Ok.sought in
+    let old = c.in_ok-sought.sought in
     let are = two_are (domain_expected models call.model true) limit_expected items fit one two c.index.ensures c.index-2.ensures in
-    let meant = taken_count models call items one two (sought_view old) are told c.in-Ok.ensures.sought in
-    let named = named_count models call items one two (sought_view old) are told c.in-Ok.ensures.sought in
+    let meant = taken_count models call items one two (sought_view old) are told c.in_ok-sought.ensures.sought in
+    let named = named_count models call items one two (sought_view old) are told c.in_ok-sought.ensures.sought in
     let Told = λ (told : Sought). told ≡ old in
     let pairs = λ (m : ModelNo). in_turn (count_pairs m one (sought_view old)) in
     let At = λ (b : Caller) (m : ModelNo). IsAllowed b m (pairs m) Told c.allowed_count.result in
     let own : At old.by old.model = c.allowed_count.ensures in
-    let allowed = subst (At by) c.in-Ok.ensures.model (subst (λ (b : Caller). At b old.model) c.in-Ok.ensures.by own) in
+    let allowed = subst (At by) c.in_ok-sought.ensures.model (subst (λ (b : Caller). At b old.model) c.in_ok-sought.ensures.by own) in
     allowed_in by call.model (model_at models call.model) (λ info (sought : Sought) (meant : forms.Sought). sought_view sought ≡ meant) (λ info. counted_of models (called_by call info)) (λ info. count_named models (called_by call info))
     (pairs call.model) Told (λ info. sought_view old) c.allowed_count.result meant named (λ info told own. ap sought_view own) allowed

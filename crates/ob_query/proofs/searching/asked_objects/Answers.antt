@@ -47,8 +47,8 @@ returns-in_err-given-clause-asked c =
     rw (p.1, p.2) (denied_by c.args.by models call.model (λ (given : Vec (Option Given) Global). all_given_of given.items) (StandsForObjects c.args.by call.model) (search_read_expects models call.model)
     (λ info gs. objects_by models (called_by call info) gs) (λ info. objects_named models (called_by call info)) (view call.args.now) (view call.kw.now) c.in_err-given.field-0.0 told)
 
-pub returns-in-Ok-clause-asked : goal.returns-in-Ok-clause-asked
-returns-in-Ok-clause-asked c =
+pub returns-clause-asked : goal.returns-clause-asked
+returns-clause-asked c =
     let models = c.args.schema.now in
     let call = c.args.call.now in
     let by = c.args.by in
@@ -67,47 +67,47 @@ returns-in-Ok-clause-asked c =
     let three = c.index-3.result.now in
     let last = c.index-4.result.now in
     let names = c.index-5.result.now in
-    let his = c.index-in-Ok.result.now in
-    let old = c.in-Ok.asked in
+    let his = c.index-6.result.now in
+    let old = c.in_ok-asked.asked in
     let are = five_are first second fifth items five one names two three last c.index.ensures c.index-5.ensures c.index-2.ensures c.index-3.ensures c.index-4.ensures in
-    let again = five_are first second fifth items five one his two three last c.index.ensures c.index-in-Ok.ensures c.index-2.ensures c.index-3.ensures c.index-4.ensures in
+    let again = five_are first second fifth items five one his two three last c.index.ensures c.index-6.ensures c.index-2.ensures c.index-3.ensures c.index-4.ensures in
     let same : his ≡ names = ap (λ (l : List (Option Given)). get_or l 1 one) (sym again ∙ are) in
-    let meant = taken_objects models call items one names two three last (λ info. objects_view info old) are told c.in-Ok.ensures.asked in
-    let rows = IfSome_then (model_at models call.model) c.in-Ok.ensures.asked (λ info is. ap (λ (s : forms.SoughtObjects). s.sought) is) in
+    let meant = taken_objects models call items one names two three last (λ info. objects_view info old) are told c.in_ok-asked.ensures.asked in
+    let rows = IfSome_then (model_at models call.model) c.in_ok-asked.ensures.asked (λ info is. ap (λ (s : forms.SoughtObjects). s.sought) is) in
     let named = named_objects models call items one names two three last (sought_view old.sought) are told rows (five_last first second fifth items five last c.index-4.ensures) in
     let pairs_by = λ (n : Option Given) (m : ModelNo). in_turn (objects_pairs (fields_at models m) m one n last (sought_view old.sought)) in
     let pairs = pairs_by names in
     let At = λ (b : Caller) (m : ModelNo). IsAllowed b m (pairs m) (IsToldObjects old) c.allowed_objects.result in
     let first_of : At old.sought.by old.sought.model =
     subst (λ (n : Option Given). IsAllowed old.sought.by old.sought.model (pairs_by n old.sought.model) (IsToldObjects old) c.allowed_objects.result) same c.allowed_objects.ensures in
-    let allowed = subst (At by) c.in-Ok.ensures.model (subst (λ (b : Caller). At b old.sought.model) c.in-Ok.ensures.by first_of) in
+    let allowed = subst (At by) c.in_ok-asked.ensures.model (subst (λ (b : Caller). At b old.sought.model) c.in_ok-asked.ensures.by first_of) in
     allowed_in by call.model (model_at models call.model) (StandsForObjects by call.model) (λ info. objects_of models (called_by call info)) (λ info. objects_named models (called_by call info)) (pairs call.model) (IsToldObjects old)
-    (λ info. objects_view info old) c.allowed_objects.result meant named (λ info told own. told_stands by call.model info old told c.in-Ok.ensures.by c.in-Ok.ensures.model own) allowed
+    (λ info. objects_view info old) c.allowed_objects.result meant named (λ info told own. told_stands by call.model info old told c.in_ok-asked.ensures.by c.in_ok-asked.ensures.model own) allowed
 
-pub returns-in-Ok-clause-by : goal.returns-in-Ok-clause-by
-returns-in-Ok-clause-by c =
-    let old = c.in-Ok.asked in
-    IfOk-weaker c.allowed_objects.result (IsToldObjects old) _ (λ told own. own.by ∙ c.in-Ok.ensures.by)
-    (allowed_ok old.sought.by old.sought.model (in_turn (objects_pairs (fields_at c.args.schema.now old.sought.model) old.sought.model c.index.result.now c.index-in-Ok.result.now c.index-4.result.now (sought_view old.sought))) (IsToldObjects old)
+pub returns-clause-by : goal.returns-clause-by
+returns-clause-by c =
+    let old = c.in_ok-asked.asked in
+    IfOk-weaker c.allowed_objects.result (IsToldObjects old) _ (λ told own. own.by ∙ c.in_ok-asked.ensures.by)
+    (allowed_ok old.sought.by old.sought.model (in_turn (objects_pairs (fields_at c.args.schema.now old.sought.model) old.sought.model c.index.result.now c.index-6.result.now c.index-4.result.now (sought_view old.sought))) (IsToldObjects old)
     c.allowed_objects.result c.allowed_objects.ensures)
 
-pub returns-in-Ok-clause-model : goal.returns-in-Ok-clause-model
-returns-in-Ok-clause-model c =
-    let old = c.in-Ok.asked in
-    IfOk-weaker c.allowed_objects.result (IsToldObjects old) _ (λ told own. own.model ∙ c.in-Ok.ensures.model)
-    (allowed_ok old.sought.by old.sought.model (in_turn (objects_pairs (fields_at c.args.schema.now old.sought.model) old.sought.model c.index.result.now c.index-in-Ok.result.now c.index-4.result.now (sought_view old.sought))) (IsToldObjects old)
+pub returns-clause-model : goal.returns-clause-model
+returns-clause-model c =
+    let old = c.in_ok-asked.asked in
+    IfOk-weaker c.allowed_objects.result (IsToldObjects old) _ (λ told own. own.model ∙ c.in_ok-asked.ensures.model)
+    (allowed_ok old.sought.by old.sought.model (in_turn (objects_pairs (fields_at c.args.schema.now old.sought.model) old.sought.model c.index.result.now c.index-6.result.now c.index-4.result.now (sought_view old.sought))) (IsToldObjects old)
     c.allowed_objects.result c.allowed_objects.ensures)
 
-pub returns-in-Ok-clause-over : goal.returns-in-Ok-clause-over
-returns-in-Ok-clause-over c =
-    let old = c.in-Ok.asked in
-    IfOk-weaker c.allowed_objects.result (IsToldObjects old) _ (λ told own. own.over c.args.schema.now c.in-Ok.ensures.over)
-    (allowed_ok old.sought.by old.sought.model (in_turn (objects_pairs (fields_at c.args.schema.now old.sought.model) old.sought.model c.index.result.now c.index-in-Ok.result.now c.index-4.result.now (sought_view old.sought))) (IsToldObjects old)
+pub returns-clause-over : goal.returns-clause-over
+returns-clause-over c =
+    let old = c.in_ok-asked.asked in
+    IfOk-weaker c.allowed_objects.result (IsToldObjects old) _ (λ told own. own.over c.args.schema.now c.in_ok-asked.ensures.over)
+    (allowed_ok old.sought.by old.sought.model (in_turn (objects_pairs (fields_at c.args.schema.now old.sought.model) old.sought.model c.index.result.now c.index-6.result.now c.index-4.result.now (sought_view old.sought))) (IsToldObjects old)
     c.allowed_objects.result c.allowed_objects.ensures)
 
-pub returns-in-Ok-clause-there : goal.returns-in-Ok-clause-there
-returns-in-Ok-clause-there c =
-    let old = c.in-Ok.asked in
-    IfOk-weaker c.allowed_objects.result (IsToldObjects old) _ (λ told own. subst (All (HasField c.args.schema.now c.args.call.now.model)) (sym own.fields) (All-filter (λ (field : FieldNo). may_read_field old.sought.by (step_at old.sought.model field)) (HasField c.args.schema.now c.args.call.now.model) old.fields.items c.in-Ok.ensures.there))
-    (allowed_ok old.sought.by old.sought.model (in_turn (objects_pairs (fields_at c.args.schema.now old.sought.model) old.sought.model c.index.result.now c.index-in-Ok.result.now c.index-4.result.now (sought_view old.sought))) (IsToldObjects old)
+pub returns-clause-there : goal.returns-clause-there
+returns-clause-there c =
+    let old = c.in_ok-asked.asked in
+    IfOk-weaker c.allowed_objects.result (IsToldObjects old) _ (λ told own. subst (All (HasField c.args.schema.now c.args.call.now.model)) (sym own.fields) (All-filter (λ (field : FieldNo). may_read_field old.sought.by (step_at old.sought.model field)) (HasField c.args.schema.now c.args.call.now.model) old.fields.items c.in_ok-asked.ensures.there))
+    (allowed_ok old.sought.by old.sought.model (in_turn (objects_pairs (fields_at c.args.schema.now old.sought.model) old.sought.model c.index.result.now c.index-6.result.now c.index-4.result.now (sought_view old.sought))) (IsToldObjects old)
     c.allowed_objects.result c.allowed_objects.ensures)

@@ -28,8 +28,8 @@ returns-in_err-given-clause-asked c =
     rw (p.1, p.2) (denied_by c.args.by models call.model (λ (given : Vec (Option Given) Global). all_given_of given.items) (λ info. StandsFor c.args.by call.model) (search_expects models call.model)
     (λ info gs. sought_by models (called_by call info) gs) (λ info. search_named models (called_by call info)) (view call.args.now) (view call.kw.now) c.in_err-given.field-0.0 told)
 
-pub returns-in-Ok-clause-asked : goal.returns-in-Ok-clause-asked
-returns-in-Ok-clause-asked c =
+pub returns-clause-asked : goal.returns-clause-asked
+returns-clause-asked c =
     let models = c.args.schema.now in
     let call = c.args.call.now in
     let by = c.args.by in
@@ -45,35 +45,35 @@ returns-in-Ok-clause-asked c =
     let two = c.index-2.result.now in
     let three = c.index-3.result.now in
     let last = c.index-4.result.now in
-    let old = c.in-Ok.sought in
+    let old = c.in_ok-sought.sought in
     let are = four_are first fourth items four one two three last c.index.ensures c.index-2.ensures c.index-3.ensures c.index-4.ensures in
-    let meant = taken_search models call items one two three last (sought_view old) are told c.in-Ok.ensures.sought in
-    let named = named_search models call items one two three last (sought_view old) are told c.in-Ok.ensures.sought (four_last first fourth items four last c.index-4.ensures) in
+    let meant = taken_search models call items one two three last (sought_view old) are told c.in_ok-sought.ensures.sought in
+    let named = named_search models call items one two three last (sought_view old) are told c.in_ok-sought.ensures.sought (four_last first fourth items four last c.index-4.ensures) in
     let pairs = λ (m : ModelNo). in_turn (search_pairs m one last (sought_view old)) in
     let Told = λ (b : Caller) (m : ModelNo) (told : Sought). (sought_view told ≡ told_sought b m (sought_view old)) × (told.by ≡ b) × (told.model ≡ m) × ((models : List ModelInfo) → IsSoughtOver models old → IsSoughtOver models told) in
     let At = λ (b : Caller) (m : ModelNo). IsAllowed b m (pairs m) (Told b m) c.allowed_search.result in
     let own : At old.by old.model = c.allowed_search.ensures in
-    let allowed = subst (At by) c.in-Ok.ensures.model (subst (λ (b : Caller). At b old.model) c.in-Ok.ensures.by own) in
+    let allowed = subst (At by) c.in_ok-sought.ensures.model (subst (λ (b : Caller). At b old.model) c.in_ok-sought.ensures.by own) in
     allowed_in by call.model (model_at models call.model) (λ info. StandsFor by call.model) (λ info. sought_of models (called_by call info)) (λ info. search_named models (called_by call info))
     (pairs call.model) (Told by call.model) (λ info. sought_view old) c.allowed_search.result meant named (λ info told own. own.0) allowed
 
-pub returns-in-Ok-clause-by : goal.returns-in-Ok-clause-by
-returns-in-Ok-clause-by c =
-    let old = c.in-Ok.sought in
+pub returns-clause-by : goal.returns-clause-by
+returns-clause-by c =
+    let old = c.in_ok-sought.sought in
     let Told = λ (told : Sought). (sought_view told ≡ told_sought old.by old.model (sought_view old)) × (told.by ≡ old.by) × (told.model ≡ old.model) × ((models : List ModelInfo) → IsSoughtOver models old → IsSoughtOver models told) in
-    IfOk-weaker c.allowed_search.result Told _ (λ told own. own.1 ∙ c.in-Ok.ensures.by)
+    IfOk-weaker c.allowed_search.result Told _ (λ told own. own.1 ∙ c.in_ok-sought.ensures.by)
     (allowed_ok old.by old.model (in_turn (search_pairs old.model c.index.result.now c.index-4.result.now (sought_view old))) Told c.allowed_search.result c.allowed_search.ensures)
 
-pub returns-in-Ok-clause-model : goal.returns-in-Ok-clause-model
-returns-in-Ok-clause-model c =
-    let old = c.in-Ok.sought in
+pub returns-clause-model : goal.returns-clause-model
+returns-clause-model c =
+    let old = c.in_ok-sought.sought in
     let Told = λ (told : Sought). (sought_view told ≡ told_sought old.by old.model (sought_view old)) × (told.by ≡ old.by) × (told.model ≡ old.model) × ((models : List ModelInfo) → IsSoughtOver models old → IsSoughtOver models told) in
-    IfOk-weaker c.allowed_search.result Told _ (λ told own. own.2 ∙ c.in-Ok.ensures.model)
+    IfOk-weaker c.allowed_search.result Told _ (λ told own. own.2 ∙ c.in_ok-sought.ensures.model)
     (allowed_ok old.by old.model (in_turn (search_pairs old.model c.index.result.now c.index-4.result.now (sought_view old))) Told c.allowed_search.result c.allowed_search.ensures)
 
-pub returns-in-Ok-clause-over : goal.returns-in-Ok-clause-over
-returns-in-Ok-clause-over c =
-    let old = c.in-Ok.sought in
+pub returns-clause-over : goal.returns-clause-over
+returns-clause-over c =
+    let old = c.in_ok-sought.sought in
     let Told = λ (told : Sought). (sought_view told ≡ told_sought old.by old.model (sought_view old)) × (told.by ≡ old.by) × (told.model ≡ old.model) × ((models : List ModelInfo) → IsSoughtOver models old → IsSoughtOver models told) in
-    IfOk-weaker c.allowed_search.result Told _ (λ told own. own.3 c.args.schema.now c.in-Ok.ensures.over)
+    IfOk-weaker c.allowed_search.result Told _ (λ told own. own.3 c.args.schema.now c.in_ok-sought.ensures.over)
     (allowed_ok old.by old.model (in_turn (search_pairs old.model c.index.result.now c.index-4.result.now (sought_view old))) Told c.allowed_search.result c.allowed_search.ensures)

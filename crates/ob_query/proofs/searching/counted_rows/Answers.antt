@@ -54,17 +54,17 @@ returns-in_err-sought-clause-causes g c =
     rw (p.1, p.2) (denied_cause_at _ models (c.schema.ensures ∙ c.groups_of.ensures.asked.same.models) call by refl rose (λ info (sought : Sought) (meant : forms.Sought). sought_view sought ≡ meant) (λ m info. counted_of m (called_by call info)) (λ m info. count_named m (called_by call info))
     c.in_err-sought.field-0.0 c.requires.model c.in_err-sought.ensures.asked)
 
-pub returns-in-Ok-clause-answer : goal.returns-in-Ok-clause-answer
-returns-in-Ok-clause-answer g c = λ tables rests.
+pub returns-clause-answer : goal.returns-clause-answer
+returns-clause-answer g c = λ tables rests.
     let old = c.args.engine.now in
     let mid = c.groups_of.new.engine in
     let models = old.held.models in
     let call = c.args.call.now in
     let same = c.groups_of.ensures.asked.same.models in
     let asked = rw (c.schema.ensures, same) at c.in_ok-sought.ensures.asked in
-    let found = rw same at (c.in-Ok.ensures.told tables (rests_on g.K.Keeper old mid tables c.groups_of.ensures.asked rests)) in
+    let found = rw same at (c.in_ok-count.ensures.told tables (rests_on g.K.Keeper old mid tables c.groups_of.ensures.asked rests)) in
     count_answered models call (standpoint g.K.Keeper old) (standpoint g.K.Keeper c.count_found.new.engine) tables _ refl (c.in_ok-groups.ensures.groups tables rests) c.in_ok-sought.sought c.in_ok-sought.ensures.by
-    c.in_ok-sought.ensures.model c.in-Ok.count (view c.from.result) asked found c.from.ensures
+    c.in_ok-sought.ensures.model c.in_ok-count.count (view c.from.result) asked found c.from.ensures
 
-pub returns-in-Ok-clause-asked : goal.returns-in-Ok-clause-asked
-returns-in-Ok-clause-asked g c = asked_then g.K.Keeper c.args.engine.now c.groups_of.new.engine c.count_found.new.engine c.groups_of.ensures.asked c.count_found.ensures.asked
+pub returns-clause-asked : goal.returns-clause-asked
+returns-clause-asked g c = asked_then g.K.Keeper c.args.engine.now c.groups_of.new.engine c.count_found.new.engine c.groups_of.ensures.asked c.count_found.ensures.asked

@@ -51,21 +51,21 @@ returns-in_err-sought-clause-causes g c =
     rw (p.1, p.2) (denied_cause_at _ models (c.schema.ensures ∙ c.groups_of.ensures.asked.same.models) call by refl rose (λ info. StandsFor by call.model) (λ m info. sought_of m (called_by call info)) (λ m info. search_named m (called_by call info))
     c.in_err-sought.field-0.0 c.requires.model c.in_err-sought.ensures.asked)
 
-pub returns-in-Ok-clause-answer : goal.returns-in-Ok-clause-answer
-returns-in-Ok-clause-answer g c = λ tables rests.
+pub returns-clause-answer : goal.returns-clause-answer
+returns-clause-answer g c = λ tables rests.
     let old = c.args.engine.now in
     let mid = c.groups_of.new.engine in
     let models = old.held.models in
     let call = c.args.call.now in
     let same = c.groups_of.ensures.asked.same.models in
     let asked = rw (c.schema.ensures, same) at c.in_ok-sought.ensures.asked in
-    let found = rw same at (c.in-Ok.ensures.told tables (rests_on g.K.Keeper old mid tables c.groups_of.ensures.asked rests)) in
-    let told = rw c.as_slice.ensures.value at c.ids_told.ensures.told in
+    let found = rw same at (c.in_ok-ids.ensures.told tables (rests_on g.K.Keeper old mid tables c.groups_of.ensures.asked rests)) in
+    let told = rw c.as_slice.ensures.value at c.in_ok-ids_json.ensures in
     ids_answered models call (standpoint g.K.Keeper old) (standpoint g.K.Keeper c.sought_ids.new.engine) tables _ refl (c.in_ok-groups.ensures.groups tables rests) c.in_ok-sought.sought c.in_ok-sought.ensures.by c.in_ok-sought.ensures.model
-    c.in-Ok.ids.items c.ids_told.result asked found told c.ids_told.ensures.causes
+    c.in_ok-ids.ids.items c.in_ok-ids_json.field-0 asked found told
 
-pub returns-in-Ok-clause-plain : goal.returns-in-Ok-clause-plain
-returns-in-Ok-clause-plain g c = IfOk-weaker c.ids_told.result _ _ (λ json told. ap has_float told ∙ ids_plain c.as_slice.result.now) c.ids_told.ensures.told
+pub returns-clause-plain : goal.returns-clause-plain
+returns-clause-plain g c = ap has_float c.in_ok-ids_json.ensures ∙ ids_plain c.as_slice.result.now
 
-pub returns-in-Ok-clause-asked : goal.returns-in-Ok-clause-asked
-returns-in-Ok-clause-asked g c = asked_then g.K.Keeper c.args.engine.now c.groups_of.new.engine c.sought_ids.new.engine c.groups_of.ensures.asked c.sought_ids.ensures.asked
+pub returns-clause-asked : goal.returns-clause-asked
+returns-clause-asked g c = asked_then g.K.Keeper c.args.engine.now c.groups_of.new.engine c.sought_ids.new.engine c.groups_of.ensures.asked c.sought_ids.ensures.asked

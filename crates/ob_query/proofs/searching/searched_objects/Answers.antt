@@ -51,19 +51,19 @@ returns-in_err-asked-clause-causes g c =
     rw (p.1, p.2) (denied_cause_at _ models (c.schema.ensures ∙ c.groups_of.ensures.asked.same.models) call by refl rose (StandsForObjects by call.model) (λ m info. objects_of m (called_by call info)) (λ m info. objects_named m (called_by call info))
     c.in_err-asked.field-0.0 c.requires.model c.in_err-asked.ensures.asked)
 
-pub returns-in-Ok-clause-answer : goal.returns-in-Ok-clause-answer
-returns-in-Ok-clause-answer g c = λ tables rests.
+pub returns-clause-answer : goal.returns-clause-answer
+returns-clause-answer g c = λ tables rests.
     let old = c.args.engine.now in
     let mid = c.groups_of.new.engine in
     let next = c.sought_ids.new.engine in
     let models = old.held.models in
     let call = c.args.call.now in
     let asked = c.in_ok-asked.asked in
-    let ids = c.in-Ok.ids.items in
+    let ids = c.in_ok-ids.ids.items in
     let same = c.groups_of.ensures.asked.same.models in
     let both = asked_then g.K.Keeper old mid next c.groups_of.ensures.asked c.sought_ids.ensures.asked in
     let meant = rw (c.schema.ensures, same) at c.in_ok-asked.ensures.asked in
-    let found = rw same at (c.in-Ok.ensures.told tables (rests_on g.K.Keeper old mid tables c.groups_of.ensures.asked rests)) in
+    let found = rw same at (c.in_ok-ids.ensures.told tables (rests_on g.K.Keeper old mid tables c.groups_of.ensures.asked rests)) in
     let there = found-there models tables asked.sought ids found in
     let listed = IfOk-weaker c.objects_told.result _ _
     (λ json lists. listed_here next.held.models models both.same.models c.as_slice.result.now ids c.as_slice.ensures.value tables asked _ c.in_ok-asked.ensures.by _ c.in_ok-asked.ensures.model json there
@@ -71,14 +71,14 @@ returns-in-Ok-clause-answer g c = λ tables rests.
     objects_answered models call (standpoint g.K.Keeper old) (standpoint g.K.Keeper next) (standpoint g.K.Keeper c.objects_told.new.engine) tables _ refl (c.in_ok-groups.ensures.groups tables rests) asked ids c.objects_told.result
     c.in_ok-asked.ensures.by c.in_ok-asked.ensures.model both.count meant found listed c.objects_told.ensures.causes
 
-pub returns-in-Ok-clause-causes : goal.returns-in-Ok-clause-causes
-returns-in-Ok-clause-causes g c =
+pub returns-clause-causes : goal.returns-clause-causes
+returns-clause-causes g c =
     let old = c.args.engine.now in
     let both = asked_then g.K.Keeper old c.groups_of.new.engine c.sought_ids.new.engine c.groups_of.ensures.asked c.sought_ids.ensures.asked in
     told_causes_later (λ why. IfSome (model_at old.held.models c.args.call.now.model) (λ info. SearchReadCause old.held.models c.args.policy.now (called_by c.args.call.now info) why)) (standpoint g.K.Keeper old) (standpoint g.K.Keeper c.sought_ids.new.engine) (standpoint g.K.Keeper c.objects_told.new.engine) c.objects_told.result both.count c.objects_told.ensures.causes
 
-pub returns-in-Ok-clause-asked : goal.returns-in-Ok-clause-asked
-returns-in-Ok-clause-asked g c =
+pub returns-clause-asked : goal.returns-clause-asked
+returns-clause-asked g c =
     let old = c.args.engine.now in
     let both = asked_then g.K.Keeper old c.groups_of.new.engine c.sought_ids.new.engine c.groups_of.ensures.asked c.sought_ids.ensures.asked in
     asked_then g.K.Keeper old c.sought_ids.new.engine c.objects_told.new.engine both c.objects_told.ensures.asked

@@ -12,13 +12,13 @@ use Rattle.ob_call.proofs.CallerLemmas.{least_of}
 use Rattle.ob_query.proofs.Asked.{asked_then}
 use Rattle.ob_query.proofs.ReadSteps.{IsFetching-row, IsFetching-gap, ObjectIn}
 use Rattle.ob_query.proofs.told_rows.fetched_rows.Goals as goal
-use Rattle.ob_query.proofs.told_rows.fetched_rows.Goals.{in-Some+in_ok-map_err-in-Some, in-None}
+use Rattle.ob_query.proofs.told_rows.fetched_rows.Goals.{in-Some+in_ok-push-in-Some, in-None}
 
 pub returns-in_err-object-clause-asked : goal.returns-in_err-object-clause-asked
 returns-in_err-object-clause-asked g c = asked_then g.K.Keeper c.args.engine.now c.loop-id.engine c.row_object.new.engine c.loop-id.invariant.asked c.row_object.ensures.asked
 
-pub returns-in_err-map_err-in-Some-clause-asked : goal.returns-in_err-map_err-in-Some-clause-asked
-returns-in_err-map_err-in-Some-clause-asked g c = asked_then g.K.Keeper c.args.engine.now c.loop-id.engine c.row_object.new.engine c.loop-id.invariant.asked c.row_object.ensures.asked
+pub returns-in_err-push-in-Some-clause-asked : goal.returns-in_err-push-in-Some-clause-asked
+returns-in_err-push-in-Some-clause-asked g c = asked_then g.K.Keeper c.args.engine.now c.loop-id.engine c.row_object.new.engine c.loop-id.invariant.asked c.row_object.ensures.asked
 
 pub loop-id-preserved : goal.loop-id-preserved
 loop-id-preserved g c =
@@ -28,7 +28,7 @@ loop-id-preserved g c =
     let told = λ (r : Result (Option Json) Refusal). IfOk r (λ object. OfAllTold (TellsTo g.K.Keeper c.args.by.now mid) (λ seen. ObjectIn seen (model_at mid.held.models c.args.model) c.args.model c.args.fields.now id object)) in
     let plain = λ (r : Result (Option Json) Refusal). IfOk r (λ object. IfSome object (λ json. has_float (view json) ≡ false)) in
     elim c.match-branch-2.branch [
-      | in-Some+in_ok-map_err-in-Some w ↦ (
+      | in-Some+in_ok-push-in-Some w ↦ (
           let made : c.row_object.result ≡ Ok (Some w.in-Some.object) = grind arith in
           let found = subst told made c.row_object.ensures.told in
           let plain = subst plain made c.row_object.ensures.plain in

@@ -14,14 +14,14 @@ cell_json-requires-clause-known g c =
 pub returns-in_err-json-clause-asked : goal.returns-in_err-json-clause-asked
 returns-in_err-json-clause-asked g c = asked_then g.K.Keeper c.args.engine.now c.loop-field.engine c.cell_json.new.engine c.loop-field.invariant.asked c.cell_json.ensures.asked
 
-pub returns-in_err-put-2-clause-asked : goal.returns-in_err-put-2-clause-asked
-returns-in_err-put-2-clause-asked g c = asked_then g.K.Keeper c.args.engine.now c.loop-field.engine c.cell_json.new.engine c.loop-field.invariant.asked c.cell_json.ensures.asked
+pub returns-in_err-put_member-2-clause-asked : goal.returns-in_err-put_member-2-clause-asked
+returns-in_err-put_member-2-clause-asked g c = asked_then g.K.Keeper c.args.engine.now c.loop-field.engine c.cell_json.new.engine c.loop-field.invariant.asked c.cell_json.ensures.asked
 
 pub loop-field-preserved : goal.loop-field-preserved
 loop-field-preserved g c =
     let old = c.args.engine.now in let mid = c.loop-field.engine in let next = c.cell_json.new.engine in
     IsToldTo-more g.K.Keeper c.args.by.now old c.args.model c.args.fields.now c.args.id mid next c.loop-field.field-index
-    (members_view c.loop-field.members.entries) (members_view c.put-in-loop-field.new.members.entries) (view c.in_ok-json.json) _ c.info.result.now c.loop-field-test.true (search rules) (search rules) c.cell_json.ensures.asked
+    (members_view c.loop-field.members.entries) (members_view c.put_member-in-loop-field.new.members.entries) (view c.in_ok-json.json) _ c.info.result.now c.loop-field-test.true (search rules) (search rules) c.cell_json.ensures.asked
     c.in_ok-json.ensures.told c.in_ok-json.ensures.plain (search rules) c.loop-field.invariant
 
 pub returns-clause-told : goal.returns-clause-told

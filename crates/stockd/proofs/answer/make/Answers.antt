@@ -10,7 +10,7 @@ returns-in-Create-clause-call g c =
     let after = standpoint g.K.Keeper c.create.new.engine in
     let call = c.args.call.now in
     let result = result_view c.create.result in
-    makes_as before after call c.args.method writing.Create c.in-Create.is result c.create.ensures.call
+    makes_as before after c.args.policy.now call c.args.method writing.Create c.in-Create.is result c.create.ensures.call
 
 pub returns-in-Create-clause-models : goal.returns-in-Create-clause-models
 returns-in-Create-clause-models g c = let (info, is) = known_model _ c.requires.model in (known _ info _ is c.create.ensures.call).rests.models_are
@@ -33,7 +33,7 @@ returns-in-Write-clause-call g c =
     let after = standpoint g.K.Keeper c.write.new.engine in
     let call = c.args.call.now in
     let result = result_view c.write.result in
-    makes_as before after call c.args.method writing.Write c.in-Write.is result c.write.ensures.call
+    makes_as before after c.args.policy.now call c.args.method writing.Write c.in-Write.is result c.write.ensures.call
 
 pub returns-in-Write-clause-models : goal.returns-in-Write-clause-models
 returns-in-Write-clause-models g c = let (info, is) = known_model _ c.requires.model in (known _ info _ is c.write.ensures.call).rests.models_are
@@ -56,7 +56,7 @@ returns-in-Unlink-clause-call g c =
     let after = standpoint g.K.Keeper c.unlink.new.engine in
     let call = c.args.call.now in
     let result = result_view c.unlink.result in
-    makes_as before after call c.args.method writing.Unlink c.in-Unlink.is result c.unlink.ensures.call
+    makes_as before after c.args.policy.now call c.args.method writing.Unlink c.in-Unlink.is result c.unlink.ensures.call
 
 pub returns-in-Unlink-clause-models : goal.returns-in-Unlink-clause-models
 returns-in-Unlink-clause-models g c = let (info, is) = known_model _ c.requires.model in (known _ info _ is c.unlink.ensures.call).rests.models_are

@@ -17,7 +17,7 @@ returns-clause-served g c =
     let terms = c.args.terms.now in
     let kw = named_or_none c.args.call.now.kw _ c.unwrap_or.result (empty_object c.new.result c.new.ensures.empty) c.unwrap_or.ensures in
     serves_same terms _ _ _ _ _ _ _ (to_z-of_z _ _ c.ranges.now) (seen_as (view c.args.id.now) c.args.call.now (method.Writes c.in-Writes.method) (view c.unwrap_or.result.now) c.in-Writes.is kw)
-    (c.serve_writing.ensures.served terms)
+    c.serve_writing.ensures.served
 
 pub returns-in-Reads-clause-causes : goal.returns-in-Reads-clause-causes
 returns-in-Reads-clause-causes g c =
@@ -31,4 +31,4 @@ returns-clause-causes g c =
     let terms = c.args.terms.now in
     let kw = named_or_none c.args.call.now.kw _ c.unwrap_or.result (empty_object c.new.result c.new.ensures.empty) c.unwrap_or.ensures in
     replies_same (over terms c.args.engine.now.held.models) _ _ _ _ _ _ (to_z-of_z _ _ c.ranges.now) (seen_as (view c.args.id.now) c.args.call.now (method.Writes c.in-Writes.method) (view c.unwrap_or.result.now) c.in-Writes.is kw)
-    (c.serve_writing.ensures.causes terms)
+    c.serve_writing.ensures.causes

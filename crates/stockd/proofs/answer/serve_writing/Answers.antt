@@ -10,7 +10,8 @@ use Rattle.stockd.proofs.Counts.{Rose-earlier}
 use Rattle.stockd.proofs.answer.serve_writing.Goals as goal
 
 pub returns-in-Ok-clause-served : goal.returns-in-Ok-clause-served
-returns-in-Ok-clause-served g c = λ terms.
+returns-in-Ok-clause-served g c =
+    let terms = c.args.terms.now in
     let before = standpoint g.K.Keeper c.args.engine.now in
     let (info, is) = known_model _ c.requires.model in
     let is_called = known _ info _ is c.in-Ok.ensures.call in
@@ -18,7 +19,8 @@ returns-in-Ok-clause-served g c = λ terms.
     (Rose-earlier _ _ _ is_called.count) is_called c.keep.ensures.kept
 
 pub returns-in-Err-clause-served : goal.returns-in-Err-clause-served
-returns-in-Err-clause-served g c = λ terms.
+returns-in-Err-clause-served g c =
+    let terms = c.args.terms.now in
     let before = standpoint g.K.Keeper c.args.engine.now in
     let (info, is) = known_model _ c.requires.model in
     let is_called = known _ info _ is c.in-Err.ensures.call in
@@ -26,7 +28,8 @@ returns-in-Err-clause-served g c = λ terms.
     (tells_by (models_at before) c.schema.result.now (view c.args.id.now) (told c.args.layout (Err c.in-Err.refusal)) _ (c.schema.ensures ∙ is_called.rests.models_are) c.call_refused.ensures)
 
 pub returns-in-Ok-clause-causes : goal.returns-in-Ok-clause-causes
-returns-in-Ok-clause-causes g c = λ terms.
+returns-in-Ok-clause-causes g c =
+    let terms = c.args.terms.now in
     let before = standpoint g.K.Keeper c.args.engine.now in
     let (info, is) = known_model _ c.requires.model in
     let is_called = known _ info _ is c.in-Ok.ensures.call in
@@ -34,7 +37,8 @@ returns-in-Ok-clause-causes g c = λ terms.
     (Rose-earlier _ _ _ is_called.count) c.keep.ensures.causes
 
 pub returns-in-Err-clause-causes : goal.returns-in-Err-clause-causes
-returns-in-Err-clause-causes g c = λ terms.
+returns-in-Err-clause-causes g c =
+    let terms = c.args.terms.now in
     let before = standpoint g.K.Keeper c.args.engine.now in
     let (info, is) = known_model _ c.requires.model in
     let is_called = known _ info _ is c.in-Err.ensures.call in

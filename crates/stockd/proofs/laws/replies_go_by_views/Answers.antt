@@ -11,8 +11,8 @@ use Rattle.ob_schema.specs.Tables.{Tables}
 use Rattle.ob_schema.specs.declared.info.ModelInfo.{ModelInfo}
 use Rattle.serde_json.specs.Data.{Data}
 use Rattle.stockd.specs.Isolation.{IsReading}
-use Rattle.stockd.specs.Machine.{Means, Tells, called_at}
-use Rattle.stockd.specs.Request.{Call}
+use Rattle.stockd.specs.Machine.{Answers, Means, Tells, called_at}
+use Rattle.stockd.specs.Request.{Call, Request, called}
 use Rattle.stockd.specs.Setup.{Setup}
 use Rattle.stockd.specs.declared.request.Method.{Method}
 use Rattle.stockd.specs.declared.request.ReadMethod.{ReadMethod}
@@ -28,7 +28,7 @@ module _ (reads : GoesByView Reads) (searches : GoesByView Searches) (counts : G
   tells_alike reading.SearchCount info is outcome tells = counts setup.models setup.policy (called_at now call info) one other is alike outcome tells
   tells_alike reading.SearchRead info is outcome tells = objects setup.models setup.policy (called_at now call info) one other is alike outcome tells
   tells_alike reading.ReadGroup info is outcome tells = groups setup.models setup.policy (called_at now call info) one other is alike outcome tells
-  tells_alike reading.FieldsGet info is (Ok json) tells = tells
+  tells_alike reading.FieldsGet info is (Ok json) tells = (tells.0, (alike tells.0 tells.1).0, tells.2)
   tells_alike reading.FieldsGet info is (Err why) tells = tells
 
   means_alike : IsReading call → (outcome : Result Data Refusal) (found : Option ModelInfo) → model_at setup.models call.model ≡ found
@@ -39,10 +39,15 @@ module _ (reads : GoesByView Reads) (searches : GoesByView Searches) (counts : G
       let tells = subst (λ (named : Method). Means named setup.models setup.policy (called_at now call info) one outcome one) is_reading.1 means in
       subst (λ (named : Method). Means named setup.models setup.policy (called_at now call info) other outcome other) (sym is_reading.1) (tells_alike is_reading.0 info is outcome tells.0, refl)
 
-pub returns : goal.returns
-returns c setup id call now one other is_reading alike reply answers =
+pub returns-clause-calls : goal.returns-clause-calls
+returns-clause-calls c setup id call now one other is_reading alike reply answers =
     let law = c.reads_go_by_views.ensures in (
       answers.0,
       means_alike law.reads law.searches law.counts law.objects law.groups setup call now one other alike is_reading answers.0 (model_at setup.models call.model) refl answers.1,
       answers.2,
     )
+
+pub returns-clause-bodies : goal.returns-clause-bodies
+returns-clause-bodies c setup body id call now one other is is_other is_reading alike reply answers =
+    let calls = returns-clause-calls c setup id call now one other is_reading alike reply in
+    subst (λ (request : Request). Answers setup other now request reply other) (sym is_other) (calls (subst (λ (request : Request). Answers setup one now request reply one) is answers))

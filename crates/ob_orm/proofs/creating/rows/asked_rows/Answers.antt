@@ -5,7 +5,7 @@ use Rattle.ob_call.specs.ArgumentsSteps.{all_given_of, given_of}
 use Rattle.ob_call.specs.Forms.{fields_at}
 use Rattle.ob_call.specs.declared.arguments.Given.{Given}
 use Rattle.ob_orm.specs.Objects.{objects_expected}
-use Rattle.ob_orm.proofs.CreateAnswer.{denied_rows, must_be_given, rows_passed}
+use Rattle.ob_orm.proofs.CreateAnswer.{denied_rows, must_be_given, rows_passed, rows_unread}
 use Rattle.ob_orm.proofs.FirstArguments.{sole_are, sole_fits}
 use Rattle.ob_orm.proofs.creating.rows.asked_rows.Goals as goal
 
@@ -24,9 +24,14 @@ returns-in_err-given-clause-value c =
     let p = err_from_is_err_and c.from_residual.result c.from_residual.ensures.1 in
     rw (p.1, p.2) (denied_rows (λ (given : Vec (Option Given) Global). all_given_of given.items) c.args.schema.now c.args.call.now c.in_err-given.field-0.0 c.in_err-given.ensures.told)
 
+pub returns-in_err-rows_in-clause-value : goal.returns-in_err-rows_in-clause-value
+returns-in_err-rows_in-clause-value c =
+    let p = err_from_is_err_and c.from_residual-in_err-rows_in.result c.from_residual-in_err-rows_in.ensures.1 in
+    rw (p.1, p.2) (rows_unread c.args.schema.now c.args.call.now)
+
 pub returns-clause-value : goal.returns-clause-value
 returns-clause-value c =
     let call = c.args.call.now in
     let p = objects_expected c.args.schema.now (fields_at c.args.schema.now call.model) in
     let one = sole_are p c.in_ok-given.given.items (Some c.in-Some.vals) c.in_ok-given.ensures.fit (rw c.in-Some.is at c.index.ensures) in
-    rows_passed c.args.schema.now call c.in_ok-given.given.items c.in-Some.vals c.rows_in.result one c.in_ok-given.ensures.told c.rows_in.ensures.value
+    rows_passed c.args.schema.now call c.in_ok-given.given.items c.in-Some.vals c.in_ok-rows_in.field-0 one c.in_ok-given.ensures.told c.in_ok-rows_in.ensures.value

@@ -1,8 +1,7 @@
-use Rattle.std.proofs.Common.{◌≡◌, take}
+use Rattle.std.proofs.Common.{◌≡◌, ◌++◌, take}
 use Rattle.std.specs.Prelude.{All}
 use Rattle.ob_orm.specs.NewRows.{with_parents}
 use Rattle.ob_orm.specs.NewRowSteps.{AddsEdits, HoldsNextIds, IsReady, IsTyped, so_far}
-use Rattle.ob_orm.proofs.NewRows.{begun_by}
 use Rattle.ob_orm.proofs.making.parents.make_parents.Given as goal
 use Rattle.ob_schema.specs.Tables.{Tables}
 
@@ -13,6 +12,7 @@ invariant-loop-parent l = record {
   ready : IsReady l.maker.schema.now l.making;
   typed : All (IsTyped l.maker.schema.now l.model) l.given.items;
   made : (old : Tables) → HoldsNextIds l.maker.schema.now old l.fn.making
-      → (begun_by l.maker.schema.now old l.making l.given.items ≡ with_parents l.maker.schema.now l.maker.author l.model (begun_by l.maker.schema.now old l.fn.making l.fn.given.items) (take l.parent-index l.parents))
+      → (l.making.edits.items ≡ l.fn.making.edits.items ++ (with_parents l.maker.schema.now l.maker.author (so_far l.maker.schema.now old l.fn.making) l.model l.fn.given.items (take l.parent-index l.parents)).edits)
+      × (l.given.items ≡ (with_parents l.maker.schema.now l.maker.author (so_far l.maker.schema.now old l.fn.making) l.model l.fn.given.items (take l.parent-index l.parents)).given)
       × HoldsNextIds l.maker.schema.now old l.making;
 }

@@ -7,7 +7,7 @@ use Rattle.std.proofs.lemmas.Result.{err_from_is_err_and}
 use Rattle.ob_base.specs.declared.id.RowKey.{RowKey}
 use Rattle.ob_base.specs.declared.refusal.Refusal.{Refusal}
 use Rattle.ob_cache.proofs.CallerLemmas.{stays-then}
-use Rattle.ob_orm.proofs.Asking.{refused_later, stays-none}
+use Rattle.ob_orm.proofs.Questions.{refused_later, stays-none}
 use Rattle.ob_orm.proofs.Contained.{any_is}
 use Rattle.ob_orm.proofs.WriteMissing.{stays-rests}
 use Rattle.ob_orm.specs.CreateSteps.{BreaksField}

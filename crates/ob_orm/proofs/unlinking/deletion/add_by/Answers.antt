@@ -20,16 +20,16 @@ holders-requires-clause-relation g c =
 
 pub returns-clause-rows : goal.returns-clause-rows
 returns-clause-rows g c = λ tables rests.
-    takes-as _ _ _ _ _ _ c.in-Ok.ensures.rows
+    takes-as _ _ _ _ _ _ c.in_ok-add_found.ensures.rows
     (found-rows tables c.args.relation c.args.row (c.leads_to.ensures.0 c.if-not-leads_to.false) c.as_slice.result.now (c.as_slice.ensures.same ∙ c.in_ok-ids.ensures.told tables rests))
 
 pub returns-clause-cells : goal.returns-clause-cells
 returns-clause-cells g c = λ tables rests.
-    adds-as _ _ _ _ c.in-Ok.ensures.cells
+    adds-as _ _ _ _ c.in_ok-add_found.ensures.cells
     (found-cells tables c.args.relation c.args.row (c.leads_to.ensures.0 c.if-not-leads_to.false) c.as_slice.result.now (c.as_slice.ensures.same ∙ c.in_ok-ids.ensures.told tables rests))
 
 pub returns-clause-fit : goal.returns-clause-fit
 returns-clause-fit g c =
     found-fit c.args.engine.now.held.models (subst IsRegistry c.schema.ensures c.parts_fit_together.ensures) c.args.relation c.requires.relation c.as_slice.result.now
     (subst (All IsFitId) (sym c.as_slice.ensures.same) c.in_ok-ids.ensures.fit) c.args.rows.now c.add_found.new.rows c.args.cells.now c.add_found.new.cells c.args.waiting.now.items c.add_found.new.waiting.items
-    c.in-Ok.ensures.rows c.in-Ok.ensures.cells
+    c.in_ok-add_found.ensures.rows c.in_ok-add_found.ensures.cells

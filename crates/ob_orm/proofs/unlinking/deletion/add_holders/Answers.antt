@@ -2,10 +2,8 @@
 use Rattle.std.proofs.Common.{List, get_or, refl, rules, subst, sym, ◌∙◌, false}
 use Rattle.std.specs.Prelude.{Any}
 use Rattle.std.proofs.lemmas.List.{take_all}
-use Rattle.ob_base.specs.declared.id.Cell.{Cell}
-use Rattle.ob_base.specs.declared.id.RowKey.{RowKey}
 use Rattle.ob_cache.proofs.CallerLemmas.{stays-then}
-use Rattle.ob_orm.proofs.Asking.{stays-none}
+use Rattle.ob_orm.proofs.Questions.{stays-none}
 use Rattle.ob_orm.proofs.Contained.{any_more}
 use Rattle.ob_orm.proofs.TakenRows.{adds-as, adds-none, adds-then, counts-none, counts-then, takes-as, takes-none, takes-then}
 use Rattle.ob_orm.proofs.WriteMissing.{stays-rests}

@@ -1,11 +1,10 @@
 -- One row more of which all is known.
-use Rattle.std.proofs.Common.{◌≡◌, ◌+◌, ◌∷◌, [], List, ℕ, refl, rules, length, length-append, ap, subst, sym, ◌∙◌, arith}
+use Rattle.std.proofs.Common.{◌≡◌, ◌+◌, ◌∷◌, [], List, refl, rules, length, length-append, ap, subst, sym, ◌∙◌, arith}
 use Rattle.std.specs.Prelude.{All, Contains}
 use Rattle.std.proofs.lemmas.List.{nil_from_length}
-use Rattle.std.proofs.lemmas.List.Elements.{All-contains}
 use Rattle.ob_base.specs.declared.id.RowKey.{RowKey}
 use Rattle.ob_cache.proofs.CallerLemmas.{stays-then}
-use Rattle.ob_orm.proofs.Asking.{stays-none}
+use Rattle.ob_orm.proofs.Questions.{stays-none}
 use Rattle.ob_orm.proofs.Contained.{all_among}
 use Rattle.ob_orm.proofs.FoundRows.{named-fit, named-row}
 use Rattle.ob_orm.proofs.NamingRows.{leads-all, takes-all}
@@ -13,8 +12,7 @@ use Rattle.ob_orm.proofs.Searched.{begun, ended, searched}
 use Rattle.ob_orm.proofs.TakenRows.{adds-as, no_row, takes-as}
 use Rattle.ob_orm.proofs.WriteMissing.{stays-rests}
 use Rattle.ob_orm.specs.DeletionSteps.{AreFit, IsRelation, TakesMore}
-use Rattle.ob_orm.specs.Unlink.{rows_named}
-use Rattle.ob_orm.specs.declared.unlinking.relations.KeptRelation.{KeptRelation}
+use Rattle.ob_orm.specs.Rights.{rows_named}
 use Rattle.ob_orm.proofs.unlinking.deletion.search.Goals as goal
 use Rattle.ob_schema.specs.declared.info.ModelInfo.{ModelInfo}
 
@@ -22,7 +20,7 @@ pub loop-row-init : goal.loop-row-init
 loop-row-init g c =
     let models = c.args.engine.now.held.models in
     let some = rows_named c.args.model c.args.ids.now in
-    let takes = subst (λ (l : List RowKey). TakesMore c.new-rows.result c.take_named.new.rows l c.take_named.new.waiting.items (Contains some)) c.new-waiting.ensures.items c.in-Ok.ensures.rows in
+    let takes = subst (λ (l : List RowKey). TakesMore c.new-rows.result c.take_named.new.rows l c.take_named.new.waiting.items (Contains some)) c.new-waiting.ensures.items c.in_ok-take_named.ensures.rows in
     record {
       told = λ tables rests. begun models tables some c.new-rows.result c.take_named.new.rows c.new-cells.result c.take_named.new.waiting.items c.new-rows.ensures.empty c.new-cells.ensures.empty takes;
       fit = named-fit models c.new-rows.result c.take_named.new.rows c.new-cells.result (Contains some) [] c.take_named.new.waiting.items takes (λ row. no_row c.new-rows.result row c.new-rows.ensures.empty)
@@ -67,7 +65,7 @@ loop-row-smaller g c =
 
 pub returns-clause-told : goal.returns-clause-told
 returns-clause-told g c = λ tables rests.
-    let none = nil_from_length c.loop-row.waiting.items (omega (arith, c.in_default-pop.ensures.cases.0, c.loop-row.waiting.ok.0)) in
+    let none = nil_from_length c.loop-row.waiting.items (omega (arith, c.in_default.ensures.cases.0, c.loop-row.waiting.ok.0)) in
     ended c.args.engine.now.held.models tables (rows_named c.args.model c.args.ids.now) c.loop-row.rows c.loop-row.cells c.loop-row.waiting.items (c.loop-row.invariant.told tables rests) none
 
 pub returns-clause-fit : goal.returns-clause-fit

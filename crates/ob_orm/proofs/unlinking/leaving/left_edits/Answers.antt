@@ -5,7 +5,7 @@ use Rattle.std.proofs.lemmas.List.{take_all}
 use Rattle.std.proofs.lemmas.List.Elements.{All-nil}
 use Rattle.ob_base.specs.declared.id.Cell.{Cell}
 use Rattle.ob_cache.proofs.CallerLemmas.{stays-then}
-use Rattle.ob_orm.proofs.Asking.{stays-none}
+use Rattle.ob_orm.proofs.Questions.{stays-none}
 use Rattle.ob_orm.proofs.LeftEdits.{edits-more, edits_for}
 use Rattle.ob_orm.proofs.WriteMissing.{stays-rests}
 use Rattle.ob_orm.specs.DeletionSteps.{IsFitCell, IsMakingNone, has_key}

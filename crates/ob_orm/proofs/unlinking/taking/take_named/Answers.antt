@@ -1,9 +1,9 @@
 -- One id more.
-use Rattle.std.proofs.Common.{List, ℕ, [], refl, subst, take}
+use Rattle.std.proofs.Common.{List, ℕ, [], refl, subst}
 use Rattle.std.specs.Prelude.{Contains}
 use Rattle.std.proofs.lemmas.List.{take_all}
 use Rattle.ob_orm.specs.DeletionSteps.{TakesMore}
-use Rattle.ob_orm.specs.Unlink.{rows_named}
+use Rattle.ob_orm.specs.Rights.{rows_named}
 use Rattle.ob_orm.proofs.TakenRows.{counts-none, counts-then, takes-as, takes-none, takes-then}
 use Rattle.ob_orm.proofs.TakenMore.{named-more, named-none}
 use Rattle.ob_orm.proofs.unlinking.taking.take_named.Goals as goal

@@ -2,7 +2,7 @@
 use Rattle.std.proofs.Common.{take}
 use Rattle.std.specs.Prelude.{Contains}
 use Rattle.ob_orm.specs.DeletionSteps.{KeepsCount, TakesMore}
-use Rattle.ob_orm.specs.Unlink.{rows_named}
+use Rattle.ob_orm.specs.Rights.{rows_named}
 use Rattle.ob_orm.proofs.unlinking.taking.take_named.Given as goal
 
 abbrev pub invariant-loop-id : goal.invariant-loop-id

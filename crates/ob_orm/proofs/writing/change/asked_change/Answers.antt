@@ -9,7 +9,7 @@ use Rattle.ob_call.specs.declared.arguments.Given.{Given}
 use Rattle.ob_orm.specs.Write.{ids_expected, vals_expected}
 use Rattle.ob_orm.proofs.CreateAnswer.{must_be_given}
 use Rattle.ob_orm.proofs.FirstArguments.{pair_are, second_fit}
-use Rattle.ob_orm.proofs.WriteAnswer.{denied_change, taken_change, wrong_change}
+use Rattle.ob_orm.proofs.WriteAnswer.{denied_change, taken_change}
 use Rattle.ob_orm.proofs.writing.change.asked_change.Goals as goal
 
 pub returns-in_err-given-clause-value : goal.returns-in_err-given-clause-value
@@ -18,8 +18,8 @@ returns-in_err-given-clause-value c =
     let told = rw c.write_parameters-expected.ensures.expects at c.in_err-given.ensures.told in
     rw (p.1, p.2) (denied_change (λ (given : Vec (Option Given) Global). all_given_of given.items) c.args.schema.now c.args.call.now c.in_err-given.field-0.0 told)
 
-pub object_values-requires-clause-form : goal.object_values-requires-clause-form
-object_values-requires-clause-form c =
+pub given_object-requires-clause-form : goal.given_object-requires-clause-form
+given_object-requires-clause-form c =
     let models = c.args.schema.now in
     let q = vals_expected models (fields_at models c.args.call.now.model) in
     let fit = rw c.write_parameters-expected.ensures.expects at c.in_ok-given.ensures.fit in
@@ -32,17 +32,6 @@ unreachable-requires-in_default-index c =
     let fit = rw c.write_parameters-expected.ensures.expects at c.in_ok-given.ensures.fit in
     must_be_given q c.index-2.result.now refl (second_fit ids_expected q c.in_ok-given.given.items c.index-2.result.now fit c.index-2.ensures) c.in_default-index.is
 
-pub returns-in_err-values-clause-value : goal.returns-in_err-values-clause-value
-returns-in_err-values-clause-value c =
-    let p = err_from_is_err_and c.from_residual-in_err-values.result c.from_residual-in_err-values.ensures.1 in
-    let models = c.args.schema.now in let call = c.args.call.now in
-    let items = c.in_ok-given.given.items in
-    let expects = c.write_parameters-expected.ensures.expects in
-    let told = rw expects at c.in_ok-given.ensures.told in
-    let fit = rw expects at c.in_ok-given.ensures.fit in
-    let two = pair_are ids_expected (vals_expected models (fields_at models call.model)) items (Some c.in-Some.ids) (Some c.in-Some-index.vals) fit (rw c.in-Some.is at c.index.ensures) (rw c.in-Some-index.is at c.index-2.ensures) in
-    rw (p.1, p.2) (wrong_change models call items c.in-Some.ids c.in-Some-index.vals two told c.in_err-values.field-0.0 c.in_err-values.ensures.value)
-
 pub returns-clause-value : goal.returns-clause-value
 returns-clause-value c =
     let models = c.args.schema.now in let call = c.args.call.now in
@@ -51,7 +40,7 @@ returns-clause-value c =
     let told = rw expects at c.in_ok-given.ensures.told in
     let fit = rw expects at c.in_ok-given.ensures.fit in
     let two = pair_are ids_expected (vals_expected models (fields_at models call.model)) items (Some c.in-Some.ids) (Some c.in-Some-index.vals) fit (rw c.in-Some.is at c.index.ensures) (rw c.in-Some-index.is at c.index-2.ensures) in
-    taken_change models call items c.in-Some.ids c.in-Some-index.vals two told (record { ids = c.in-Ok.ids; given = c.in_ok-values.values }) c.in-Ok.ensures c.in_ok-values.ensures.value
+    taken_change models call items c.in-Some.ids c.in-Some-index.vals two told (record { ids = c.in_ok-ids.ids; object = c.in_ok-object.object }) c.in_ok-ids.ensures c.in_ok-object.ensures.given
 
 pub returns-clause-low : goal.returns-clause-low
-returns-clause-low c = rw c.in-Ok.ensures (named-low (view c.in-Some.ids.json.now))
+returns-clause-low c = rw c.in_ok-ids.ensures (named-low (view c.in-Some.ids.json.now))

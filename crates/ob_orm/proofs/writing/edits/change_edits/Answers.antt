@@ -6,7 +6,7 @@ use Rattle.std.proofs.lemmas.List.{take_all}
 use Rattle.std.proofs.lemmas.List.Elements.{All-nil}
 use Rattle.ob_base.specs.Limits.{max_id}
 use Rattle.ob_cache.proofs.CallerLemmas.{stays-then}
-use Rattle.ob_orm.proofs.Asking.{stays-none}
+use Rattle.ob_orm.proofs.Questions.{stays-none}
 use Rattle.ob_orm.proofs.WriteEdits.{flat-more}
 use Rattle.ob_orm.proofs.WriteMissing.{stays-rests}
 use Rattle.ob_orm.specs.NewRows.{Values}

@@ -4,7 +4,7 @@ use Rattle.std.proofs.lemmas.List.{nil_from_length}
 use Rattle.std.specs.Prelude.{All}
 use Rattle.ob_orm.specs.NewRows.{Values}
 use Rattle.ob_orm.specs.NewRowSteps.{IsTyped}
-use Rattle.ob_orm.specs.Write.{linked_in}
+use Rattle.ob_orm.specs.Touched.{linked_in}
 use Rattle.ob_orm.proofs.LinkedRows.{parent-empty, parent-none, parent-set}
 use Rattle.ob_orm.proofs.writing.edits.push_parent.Goals as goal
 use Rattle.ob_schema.specs.Models.{IsParentIn}
