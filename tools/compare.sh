@@ -10,6 +10,9 @@
 #       another, ends and changed bytes at any place, in pieces of any length, each with a request
 #       that both answer alike; tools/compare_connections.py says which. Prints the first connection
 #       of a seed that differs, and how many seeds do.
+#   tools/compare.sh isolation [SEEDS]          reads of a caller behind a random stream, with a write
+#       before them that he can't see and without it (by default of seeds 1-50): both must be answered
+#       with the same bytes. Prints the first reply of a seed that differs, and how many streams do.
 #   tools/compare.sh modules [SEEDS]            random module texts to stockd (by default 1-200),
 #       most with something wrong in them. Prints each text that differs, how often each fault
 #       came, and how many texts differ. Two differences are known: a model without `name` and
@@ -58,17 +61,22 @@ http)
     program=$(tools/build.sh proved stockd) || exit 1
     exec python3 tools/compare_connections.py "$oracle" "$program" "${1:-1-20}" "${2:-30}"
     ;;
+isolation)
+    needs isolation.py
+    program=$(tools/build.sh proved stockd) || exit 1
+    exec python3 tools/compare_isolation.py "$oracle" "$program" "${1:-1-50}"
+    ;;
 modules)
     needs fuzz_modules.py
     program=$(tools/build.sh proved stockd) || exit 1
-    exec python3 "$oracle/fuzz_modules.py" --stage 3 --seeds "${1:-1-200}" -- "$program"
+    exec python3 "$oracle/fuzz_modules.py" --stage 11 --seeds "${1:-1-200}" -- "$program"
     ;;
 probe)
     needs stockd_oracle/codec.py
     exec python3 tools/probe/ask.py "$oracle" "${1:-1}" "${2:-600}" ${3:+"$3"}
     ;;
 *)
-    echo 'usage: tools/compare.sh requests|http|modules|probe ..; its head says more' >&2
+    echo 'usage: tools/compare.sh requests|http|isolation|modules|probe ..; its head says more' >&2
     exit 2
     ;;
 esac
