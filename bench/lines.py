@@ -178,6 +178,22 @@ def requests(n):
     return "\n".join(lines)
 
 
+def writes(n, rows=2000):
+    """So many rows made by one call, of which one is written so many times."""
+    form = '{"jsonrpc":"2.0","method":"call","params":{"service":"object","method":"execute_kw","args":["stock",2,"admin","demo.line","%s",%s]},"id":%d}'
+    lines = [form % ("create", '[[%s]]' % listed(['{"name":"bolt","qty":3,"price":25}'] * rows), 0)]
+    lines += [form % ("write", '[[%d],{"qty":%d}]' % (k % rows + 1, k % 97), k) for k in range(1, n + 1)]
+    return "\n".join(lines)
+
+
+def settles(n, rows=2000):
+    """The same of an engine alone."""
+    models = "name=line | name char required=yes | qty integer | price integer | subtotal integer store=yes compute=qty\\\\s*\\\\sprice depends=qty:price"
+    steps = ['["stage",["makes","line",1,%d,[["name","bolt"],["qty",3],["price",25]]]]' % rows]
+    steps += ['["stage",["set","line",%d,"qty",%d]]' % (k % rows + 1, k % 97) for k in range(1, n + 1)]
+    return 'engine {"definitions":"%s","fails":[],"parts":[["run",%s]]}' % (models, listed(step + ',["settle"],["flush"]' for step in steps))
+
+
 def searches(n, method, arguments):
     """The same search so many times."""
     return "\n".join('{"jsonrpc":"2.0","method":"call","params":{"service":"object","method":"execute_kw","args":["stock",2,"admin","demo.line","%s",%s]},"id":%d}' % (
@@ -199,7 +215,7 @@ CALLS = {"admissions": lambda n: four(n, '[2,[1,4],"m.a",1,"read","row"]'), "rig
          "pattern": lambda n: places(n, 1, '["name","ilike","PLACE %77"]'), "dotted": lambda n: places(n, 1, '["up.name","=","Place 3"]'),
          "child_of": lambda n: places(n, 1, '["id","child_of",3]'), "criteria": lambda n: places(0, n, '["up.up.name","not ilike","a%b"]'),
          "checked": checked, "chosen": chosen, "summed": summed, "small": small, "large": large, "modules": modules, "registry": registry,
-         "takes": takes, "move_lines": move_lines, "pull_chain": pull_chain, "requests": requests,
+         "takes": takes, "move_lines": move_lines, "pull_chain": pull_chain, "requests": requests, "writes": writes, "settles": settles,
          "chains": chains, "tree": tree, "fan": lambda n: priced(n, 1), "others": lambda n: priced(1000, n),
          "found": lambda n: searches(n, "search", '[[["qty",">=",990]],0,false,"id"]'),
          "ordered": lambda n: searches(n, "search", '[[],0,10,"price desc"]'),

@@ -9,12 +9,13 @@ top=$(cd "$(dirname "$0")/.." && pwd)
 
 # The size of what is asked, and how often (of codec the rows and the values, of http the small
 # requests and the bodies, of store the creates and the rows of a file that is opened, of search the
-# rows and the searches, of serve the requests and the runs).
+# rows and the searches, of write the writes and the runs, of serve the requests and the runs).
 table='
 name         program       size     times
 call         stockd        500      1
 store        stockd        500      100000
 search       stockd        100000   20
+write        stockd        200      3
 serve        stockd        50000    5
 codec        probe_values  5000000  1000000
 expr         probe_values  1        2000
@@ -118,6 +119,25 @@ bench_search() {
         awk -v what="$call" -v n="$size" -v m="$times" -v o="$opened" -v s="$(seconds "$work/searches" --store "$work/many")" -v p="$(python3 "$top/bench/rows.py" ask "$size" "$call" "$times")" 'BEGIN {
             printf "%s: %.1f ms of %d rows; SQLite %.1f ms; ratio %.1f\n", what, (s - o) / m * 1000, n, p * 1000, (s - o) / m / p }'
     done
+}
+
+# Seconds of a processor that one of so many changes takes: each CALL PROGRAM [WORD..].
+each() {
+    lines "$1" 0 >"$work/none"
+    lines "$1" "$size" >"$work/some"
+    local input run
+    for input in none some; do
+        for ((run = 0; run < times; run++)); do user "${@:2}" <"$work/$input"; done | sort -n | head -n 1
+    done | awk -v n="$size" 'NR == 1 { none = $1 } END { print ($1 - none) / n }'
+}
+
+# Writes of one row among 2,000, and the same changes staged, settled and flushed by an engine.
+bench_write() {
+    local written settled
+    written=$(each writes "$program" call --modules "$top/modules" --load demo)
+    settled=$(each settles "$("$top/tools/build.sh" proved probe_models)")
+    awk -v w="$written" -v s="$settled" 'BEGIN {
+        printf "a write of one row among 2,000: %.2f ms; the engine alone: %.2f ms; ratio %.2f\n", w * 1000, s * 1000, w / s }'
 }
 
 # A message over HTTP with this body.

@@ -1,15 +1,20 @@
 #!/usr/bin/env bash
 # Compares the programs with an independent machine of the same rules:
 #
-#   tools/compare.sh requests [SEEDS [COUNT]]   random streams of requests to stockd, so many in
-#       each (by default 1-8 and 60), on the models of the machine's own module demo, and what all
-#       rows hold behind them; tools/compare_requests.py says which kinds of streams there are and
-#       which requests are taken. Prints how many streams differ, for each kind.
+#   tools/compare.sh requests [SEEDS [COUNT [STORE]]]   random streams of requests to stockd, so many in
+#       each (by default 1-8 and 60), of three kinds (`mixed`, `hostile` and `orm`), on the models of
+#       the machine's own module demo by all callers that it has, and what all rows hold behind
+#       them; with a third word `--store` over files, and what these hold too. Where libfaketime is
+#       installed both have one clock; else moments aren't compared, requests that name one are
+#       left out, and no files are looked at. Prints what differs and how many streams do, for each
+#       kind.
+#   tools/compare.sh commands [SEEDS [COUNT]]   random creates and writes with commands on lists, so
+#       many in each stream (by default 1-20 and 100), on models that have lists of each kind;
+#       tools/compare_commands.py says which.
 #   tools/compare.sh http [SEEDS [CONNECTIONS]]   random connections to `stockd serve`, so many of
 #       each seed (by default 1-20 and 30): heads with something wrong in them, messages behind one
-#       another, ends and changed bytes at any place, in pieces of any length, each with a request
-#       that both answer alike; tools/compare_connections.py says which. Prints the first connection
-#       of a seed that differs, and how many seeds do.
+#       another, ends and changed bytes at any place, in pieces of any length, each with a request.
+#       Prints the first connection of a seed that differs, and how many seeds do.
 #   tools/compare.sh isolation [SEEDS]          reads of a caller behind a random stream, with a write
 #       before them that he can't see and without it (by default of seeds 1-50): both must be answered
 #       with the same bytes. Prints the first reply of a seed that differs, and how many streams do.
@@ -39,32 +44,56 @@ oracle=${ORACLE:-../shared/oracle}
 what=${1:-}
 [ "$#" -eq 0 ] || shift
 
+# The state of the machine that serves what the program does.
+stage=8
+
 # Ends the script where the machine lacks what the comparison needs of it.
 needs() {
     [ -f "$oracle/$1" ] || { echo "no machine to compare with in $oracle: skipped"; exit 0; }
 }
 
+# The streams of a kind without what names a moment, since the two have a clock each: timeless PROFILE.
+timeless() {
+    local seed failed=0 stream
+    stream=$(mktemp)
+    for ((seed = ${seeds%-*}; seed <= ${seeds#*-}; seed++)); do
+        python3 "$oracle/fuzz.py" --seed "$seed" --stage $stage --count "$count" --profile "$1" | grep -v -e create_date -e write_date >"$stream"
+        python3 "$oracle/compare.py" --mask --stage $stage --load demo --whole --stream "$stream" -- "$program" || failed=1
+    done
+    rm -f "$stream"
+    return $failed
+}
+
 case $what in
 requests)
     needs compare.py
-    seeds=${1:-1-8} count=${2:-60}
+    seeds=${1:-1-8} count=${2:-60} store=${3:-}
     program=$(tools/build.sh proved stockd) || exit 1
     status=0
     for profile in mixed hostile orm; do
         echo "$profile: seeds $seeds, $count requests each"
-        python3 tools/compare_requests.py "$oracle" "$program" "$seeds" "$count" "$profile" || status=1
+        if compgen -G '/usr/lib/*/faketime/libfaketime.so.1' >/dev/null; then
+            python3 "$oracle/compare.py" --stage $stage --seeds "$seeds" --count "$count" --profile "$profile" --whole $store -- "$program" || status=1
+        else
+            timeless "$profile" || status=1
+        fi
     done
     exit $status
+    ;;
+commands)
+    needs compare.py
+    program=$(tools/build.sh proved stockd) || exit 1
+    exec python3 tools/compare_commands.py "$oracle" "$program" "${1:-1-20}" "${2:-100}"
     ;;
 http)
     needs compare_http.py
     program=$(tools/build.sh proved stockd) || exit 1
-    exec python3 tools/compare_connections.py "$oracle" "$program" "${1:-1-20}" "${2:-30}"
+    exec python3 "$oracle/compare_http.py" --mask --stage $stage --seeds "${1:-1-20}" --connections "${2:-30}" -- "$(realpath "$program")"
     ;;
 isolation)
     needs isolation.py
     program=$(tools/build.sh proved stockd) || exit 1
-    exec python3 tools/compare_isolation.py "$oracle" "$program" "${1:-1-50}"
+    exec python3 "$oracle/isolation.py" --stage $stage --seeds "${1:-1-50}" -- "$program"
     ;;
 modules)
     needs fuzz_modules.py
@@ -76,7 +105,7 @@ probe)
     exec python3 tools/probe/ask.py "$oracle" "${1:-1}" "${2:-600}" ${3:+"$3"}
     ;;
 *)
-    echo 'usage: tools/compare.sh requests|http|isolation|modules|probe ..; its head says more' >&2
+    echo 'usage: tools/compare.sh requests|commands|http|isolation|modules|probe ..; its head says more' >&2
     exit 2
     ;;
 esac

@@ -4,7 +4,8 @@ ghost use Rattle.std.specs.Prelude.{◌≡◌, ℕ, ◌<◌, ◌≤◌, List, Op
 ghost use Rattle.ob_io.specs.Cause.{HasCause};
 
 use crate::store::{Change, KeptRow};
-use ob_base::{FieldNo, ModelNo, RecId, RefList, Refusal, Sequence};
+use ob_base::{FieldNo, ModelNo, NoMemory, RecId, RefList, Refusal, Sequence};
+use std::alloc::AllocFailed;
 use thiserror::Error;
 
 /// Why a call of a keeper gave no answer.
@@ -16,6 +17,28 @@ pub enum KeepFault {
     /// An allocation failed.
     #[error("no memory")]
     NoMemory,
+}
+
+impl From<NoMemory> for KeepFault {
+    ghost use Rattle.std.specs.Prelude.{◌≡◌};
+    ghost use Rattle.ob_io.specs.declared.keeper.KeepFault.{KeepFault};
+
+    ghost from_gives = { λ _ fault. fault ≡ KeepFault.NoMemory };
+
+    fn from(_error: NoMemory) -> KeepFault {
+        KeepFault::NoMemory
+    }
+}
+
+impl<T: Drop> From<AllocFailed<T>> for KeepFault {
+    ghost use Rattle.std.specs.Prelude.{◌≡◌};
+    ghost use Rattle.ob_io.specs.declared.keeper.KeepFault.{KeepFault};
+
+    ghost from_gives = { λ _ fault. fault ≡ KeepFault.NoMemory };
+
+    fn from(_error: AllocFailed<T>) -> KeepFault {
+        KeepFault::NoMemory
+    }
 }
 
 impl From<KeepFault> for Refusal {

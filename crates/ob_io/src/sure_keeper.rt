@@ -50,16 +50,6 @@ impl SureKeeper {
     }
 }
 
-impl From<NoMemory> for KeepFault {
-    ghost use Rattle.ob_io.specs.declared.keeper.KeepFault.{KeepFault};
-
-    ghost from_gives = { λ _ fault. fault ≡ KeepFault.NoMemory };
-
-    fn from(_error: NoMemory) -> KeepFault {
-        KeepFault::NoMemory
-    }
-}
-
 impl Keeper for SureKeeper {
     ghost use Rattle.std.specs.Prelude.{Some, map, take};
     ghost use Rattle.ob_io.specs.declared.keeper.KeepFault.{KeepFault};

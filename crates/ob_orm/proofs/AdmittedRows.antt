@@ -1,13 +1,13 @@
 -- What becomes of rows over an engine that settles them and asks rules of those that are changed and those that are made.
-use Rattle.std.proofs.Common.{◌≡◌, ◌≤◌, ℕ, List, Option, Some, None, Result, Ok, Err, inl, inr, refl, sym, ap, subst, ◌∙◌, arith}
-use Rattle.std.specs.Prelude.{IfErr, IsSomeAnd, OnOk}
+use Rattle.std.proofs.Common.{◌≡◌, ◌≤◌, ℕ, List, Option, Result, Ok, Err, inl, inr, refl, sym, subst}
+use Rattle.std.specs.Prelude.{IfErr, OnOk}
 use Rattle.ob_base.specs.declared.refusal.Op.TheVariants as op
 use Rattle.ob_base.specs.declared.refusal.Refusal.{Refusal}
 use Rattle.ob_base.specs.declared.refusal.Refusal.TheVariants as refusal
 use Rattle.ob_cache.proofs.CallerLemmas.{Refuses-weaker}
 use Rattle.ob_cache.specs.Calls.{Refuses, settled_over}
-use Rattle.ob_cache.specs.Stages.{StandsOver, forgotten}
-use Rattle.ob_cache.specs.Standing.{Holding, IsAtRest, OfStages, RestsAt, Stands, Stays, max_next_id}
+use Rattle.ob_cache.specs.Stages.{forgotten}
+use Rattle.ob_cache.specs.Standing.{Holding, OfStages, RestsAt, Stands, Stays}
 use Rattle.ob_cache.specs.Telling.{TellsFacts}
 use Rattle.ob_cache.specs.declared.stages.Phase.TheVariants as phase
 use Rattle.ob_io.specs.Cause.{Rose}
@@ -16,30 +16,16 @@ use Rattle.ob_orm.proofs.CreateAnswer.{sound_in}
 use Rattle.ob_orm.proofs.Questions.{refused_later}
 use Rattle.ob_orm.proofs.WriteMissing.{rests-tells, stays-rests}
 use Rattle.ob_orm.specs.AskingSteps.{AdmitsBy, DeniesBy}
-use Rattle.ob_orm.specs.CreateSteps.{AdmitsChanged, AdmitsMade, BreaksField, IsBrokenBy, MayStopSettling, StopsSettling}
+use Rattle.ob_orm.specs.CreateSteps.{AdmitsChanged, AdmitsMade, IsBrokenBy, StopsSettling}
 use Rattle.ob_orm.specs.NewRowSteps.{so_far}
-use Rattle.ob_orm.specs.Rights.{DeniesOne}
 use Rattle.ob_orm.specs.TouchSteps.{rows_known}
 use Rattle.ob_orm.specs.declared.asking.Caller.{Caller}
 use Rattle.ob_orm.specs.declared.making.next_ids.Making.{Making}
 use Rattle.ob_orm.specs.declared.touching.Touched.{Touched}
 use Rattle.ob_schema.specs.Broken.{Sound}
-use Rattle.ob_schema.specs.Facts.{OfAllTold, Told, told_by}
+use Rattle.ob_schema.specs.Facts.{OfAllTold, told_by}
 use Rattle.ob_schema.specs.Tables.{Tables}
 use Rattle.ob_schema.specs.declared.info.ModelInfo.{ModelInfo}
-
--- whatever the tables
-pub changed-cause : (models : List ModelInfo) (done : Touched) (w : Refusal) → DeniesOne op.Write done.changed.keys w → MayStopSettling models done w
-changed-cause models done (refusal.Rule m operation id rule) h = inl h
-changed-cause models done _ h = absurd h
-
-pub made-cause : (models : List ModelInfo) (done : Touched) (w : Refusal) → DeniesOne op.Create done.made.keys w → MayStopSettling models done w
-made-cause models done (refusal.Rule m operation id rule) h = inr h
-made-cause models done _ h = absurd h
-
-pub broken-cause : (models : List ModelInfo) (done : Touched) (w : Refusal) → BreaksField models w → MayStopSettling models done w
-broken-cause models done (refusal.Constraint b) h = h
-broken-cause models done _ h = absurd h
 
 module _ (models : List ModelInfo) (by : Caller) (done : Touched) (old new : Tables) where
   denies-changed : (w : Refusal) → DeniesBy by (told_by models old) op.Write (rows_known (told_by models old) done.changed.keys) w → StopsSettling models by done old new w

@@ -1,6 +1,6 @@
 -- What becomes of rows that are asked for, over an engine that is asked what they do and then settles them.
-use Rattle.std.proofs.Common.{◌≡◌, ◌≤◌, ◌||◌, ℕ, Bool, true, List, Option, Some, None, Result, Ok, Err, is_some, refl, sym, ap, subst, ◌∙◌, eq-eqb}
-use Rattle.std.specs.Prelude.{All, IfErr, IsSomeAnd}
+use Rattle.std.proofs.Common.{◌≡◌, ◌≤◌, ◌||◌, ℕ, Bool, true, List, Option, Ok, Err, is_some, refl, sym, ap, subst, eq-eqb}
+use Rattle.std.specs.Prelude.{All}
 use Rattle.std.proofs.lemmas.List.Elements.{All-weaker}
 use Rattle.serde_json.specs.Data.{Data}
 use Rattle.ob_base.specs.declared.id.ModelNo.{ModelNo}

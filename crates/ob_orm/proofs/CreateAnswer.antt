@@ -1,7 +1,7 @@
 -- What a create answers over an engine, from what its steps say.
 use Rattle.std.proofs.Common.{◌≡◌, ℕ, ℤ, ◌≤◌, ◌∷◌, [], List, Option, Some, None, option_map, Result, Ok, Err, inl, inr, refl, sym, ap, subst, ◌∙◌, arith, w64}
 use Rattle.std.specs.Int.{cast_signed, cast_unsigned}
-use Rattle.std.specs.Prelude.{FitsSigned, IfErr, IfOk, IfSome, IsSome, IsSomeAnd, MatchResult, false, true, ⊤}
+use Rattle.std.specs.Prelude.{FitsSigned, IfErr, IfOk, IfSome, IsSome, IsSomeAnd, false, true, ⊤}
 use Rattle.std.proofs.lemmas.Bool.{false≢true}
 use Rattle.std.proofs.lemmas.Int.{ints, to_z-of_z}
 use Rattle.serde_json.specs.Data.{Data}
@@ -35,16 +35,12 @@ use Rattle.ob_schema.specs.Models.{HasModel, model_at}
 use Rattle.ob_schema.specs.Tables.{Tables}
 use Rattle.ob_schema.specs.declared.info.ModelInfo.{ModelInfo}
 use Rattle.ob_orm.specs.Author.{author_by}
-use Rattle.ob_orm.specs.Create.{Asked, CreateCause, Creates, MayStopCreate, RefusesAsked, StopsCreate, asked_from, asked_in, asked_of, create_expects, with_rows}
+use Rattle.ob_orm.specs.Create.{Asked, CreateCause, Creates, MayStopCreate, StopsCreate, asked_from, asked_in, asked_of, create_expects, with_rows}
+use Rattle.ob_orm.specs.Refusing.{RefusesAsked}
 use Rattle.ob_orm.specs.CreateSteps.{CreatesBy, IsMadeBy, rows_view}
 use Rattle.ob_orm.specs.declared.asking.Caller.{Caller}
 use Rattle.ob_orm.specs.declared.author.Author.{Author}
 use Rattle.ob_orm.specs.declared.creating.rows.Rows.{Rows}
-
--- what is known of an answer, where it was handed on
-pub handed_on : {X E : Type 0} (F : Type 0) (r : Result X E) (x : X) (P : X → Type 0) → MatchResult r (λ y. ◌≡◌ {A = Result X F} (Ok x) (Ok y)) (λ _. ⊥) → IfOk r P → P x
-handed_on F (Ok y) x P same known = subst P (let e : y ≡ x = cc in e) known
-handed_on F (Err e) x P same known = absurd same
 
 -- what holds of each model holds of one that may be there
 pub everywhere : (o : Option ModelInfo) (P : ModelInfo → Type 0) → ((info : ModelInfo) → P info) → IfSome o P

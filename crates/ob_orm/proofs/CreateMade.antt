@@ -1,6 +1,6 @@
 -- What stands against rows that are asked for, by what the steps of a create found.
-use Rattle.std.proofs.Common.{◌≡◌, ◌⊎◌, ◌∷◌, [], ◌++◌, inl, inr, ℕ, Bool, true, false, cond, not, List, map, Option, Some, None, Result, Ok, Err, refl, sym, ap, subst, ◌∙◌}
-use Rattle.std.specs.Prelude.{All, Any, Contains, IfOk, IsSome, IsSomeAnd, filter, find, is_some}
+use Rattle.std.proofs.Common.{◌≡◌, ◌∷◌, [], inl, inr, ℕ, Bool, true, false, cond, not, List, map, Option, Some, None, Result, Ok, Err, refl, sym, ap, subst, ◌∙◌}
+use Rattle.std.specs.Prelude.{All, Any, Contains, IfOk, IsSomeAnd, filter, find}
 use Rattle.std.proofs.lemmas.Bool.{false≢true}
 use Rattle.std.proofs.lemmas.List.Elements.{All-contains, All-contains_itself, All-weaker, Contains-append_cases}
 use Rattle.std.proofs.lemmas.Option.{same_Some}
@@ -15,13 +15,12 @@ use Rattle.ob_base.specs.declared.id.FieldNo.{FieldNo}
 use Rattle.ob_base.specs.declared.id.ModelNo.{ModelNo}
 use Rattle.ob_base.specs.declared.id.RecId.{RecId}
 use Rattle.ob_base.specs.declared.id.RowKey.{RowKey}
-use Rattle.ob_base.specs.declared.place.PathStep.{PathStep}
 use Rattle.ob_base.specs.declared.refusal.Op.{Op}
 use Rattle.ob_base.specs.declared.refusal.Op.TheVariants as op
 use Rattle.ob_base.specs.declared.refusal.Refusal.{Refusal}
 use Rattle.ob_base.specs.declared.refusal.Refusal.TheVariants as refusal
 use Rattle.ob_codec.specs.CommandForms.{list_json, number_json}
-use Rattle.ob_orm.proofs.Contained.{affirmed, contains-filter, contains-kept, contains-map, denied}
+use Rattle.ob_orm.proofs.Contained.{contains-filter, contains-kept, contains-map, denied}
 use Rattle.ob_orm.proofs.PastLimits.{made-there}
 use Rattle.ob_orm.specs.AskingSteps.{AdmitsBy, DeniesBy, denied_rule, may_by}
 use Rattle.ob_orm.specs.Create.{Asked, IsAdmissible, IsAllowed, MayStopCreate, StopsCreate, ids_told, made, touched, unwritable, with_rows, withheld}
@@ -29,7 +28,7 @@ use Rattle.ob_orm.specs.CreateSteps.{AdmitsChanged, AdmitsMade, IsAllowedBy, IsM
 use Rattle.ob_orm.specs.NewRowSteps.{MakesRow, MayFit}
 use Rattle.ob_orm.specs.Rights.{AreAdmitted, Asking, DeniesLeast, DeniesOne, IsLeastDenied, first_unwritable}
 use Rattle.ob_orm.specs.Touches.{Touch, asking_of, is_create, is_write, may_touch, rows_changed, rows_made, touch_by, touches_of}
-use Rattle.ob_orm.specs.TouchSteps.{IsTouched, IsWithin, SameRows, first_withheld_by, knows_row, rows_known}
+use Rattle.ob_orm.specs.TouchSteps.{IsTouched, IsWithin, SameRows, first_withheld_by, rows_known}
 use Rattle.ob_orm.specs.declared.asking.Caller.{Caller}
 use Rattle.ob_orm.specs.declared.author.Author.{Author}
 use Rattle.ob_orm.specs.declared.touching.Touched.{Touched}

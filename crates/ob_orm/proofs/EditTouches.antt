@@ -18,14 +18,13 @@ use Rattle.ob_base.specs.declared.refusal.Op.{Op}
 use Rattle.ob_base.specs.declared.refusal.Op.TheVariants as op
 use Rattle.ob_base.specs.declared.value.Value.{Value}
 use Rattle.ob_orm.proofs.Contained.{contains-filter, fails}
-use Rattle.ob_orm.proofs.Emptied.{after-then, set-there}
-use Rattle.ob_orm.proofs.TakenRows.{no_row, row-among, row-one}
+use Rattle.ob_orm.proofs.EditedRows.{after-then, set-there}
+use Rattle.ob_orm.proofs.RowSets.{no_row, row-among, row-one}
 use Rattle.ob_orm.specs.AskingSteps.{AreKnown}
-use Rattle.ob_orm.specs.DeletionSteps.{has_key}
+use Rattle.ob_orm.specs.TouchSteps.{Adds, AsksSame, IsTouched, IsWithin, SameRows, has_key, is_there_by, knows_row}
 use Rattle.ob_orm.specs.NewRowSteps.{MayFit}
 use Rattle.ob_orm.specs.Rights.{Asking}
 use Rattle.ob_orm.specs.Touches.{Touch, asking_of, is_create, is_write, rows_changed, rows_made, touch_by, touch_there, touches_of}
-use Rattle.ob_orm.specs.TouchSteps.{Adds, AsksSame, IsTouched, IsWithin, MayDo, SameRows, is_there_by, knows_row}
 use Rattle.ob_orm.specs.declared.touching.Touched.{Touched}
 use Rattle.ob_schema.proofs.CallerLemmas.{contains-cases, contains-none}
 use Rattle.ob_schema.specs.Facts.{Told, told_by}
@@ -43,9 +42,6 @@ use Rattle.std.proofs.lemmas.Map.Views.{tells_apart}
 use Rattle.std.specs.Cmp.{tied_itself}
 
 -- ---- what is asked for
-
-pub same-asked : (xs : List Asking) → AsksSame xs xs
-same-asked xs test = refl
 
 pub asked-then : (xs ys zs : List Asking) → AsksSame xs ys → AsksSame ys zs → AsksSame xs zs
 asked-then xs ys zs one more test = one test ∙ more test
@@ -146,14 +142,6 @@ module _ (was_there : RowKey → Bool) (old new : Touched) (row : RowKey) where
     changed = subst (λ (b : Bool). SameRows new.changed.keys (old.changed.keys ++ cond b (row ∷ []) [])) (sym was)
         (subst (λ (s : sorted.BTreeSet RowKey). SameRows s.keys (old.changed.keys ++ [])) (sym same_changed) (rows-more old.changed.keys));
   })
-
-  -- and one that isn't there
-  pub adds-nothing : (is_there : RowKey → Bool) → is_there row ≡ false → new ≡ old → Adds was_there (touch_there is_there op.Write row) old new
-  adds-nothing is_there there same = subst (λ (b : Bool). Adds was_there (cond b (record { op = op.Write; row = row } ∷ []) []) old new) (sym there) (subst (λ (t : Touched). Adds was_there [] old t) (sym same) (record {
-    askings = λ test. ap (find test) (sym (append-nil old.askings.items));
-    made = rows-more old.made.keys;
-    changed = rows-more old.changed.keys;
-  }))
 
 -- ---- edits so far
 

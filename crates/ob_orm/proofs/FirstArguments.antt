@@ -48,9 +48,6 @@ first_is p q gs x two at = at ∙ ap (λ (hs : List (Option Given)). get_or hs 0
 pub second_is : (p q : Expected) (gs : List (Option Given)) (y : Option Given) (two : ArePair p q gs) → y ≡ get_or gs 1 y → y ≡ two.second
 second_is p q gs y two at = at ∙ ap (λ (hs : List (Option Given)). get_or hs 1 y) two.are
 
-pub first_fit : (p q : Expected) (gs : List (Option Given)) (x : Option Given) → AreFit (p ∷ q ∷ []) (all_given_of gs) → x ≡ get_or gs 0 x → IsFit p (option_map given_of x)
-first_fit p q gs x h at = let two = pair p q gs h in subst (λ (g : Option Given). IsFit p (option_map given_of g)) (sym (first_is p q gs x two at)) two.first_fits
-
 pub second_fit : (p q : Expected) (gs : List (Option Given)) (y : Option Given) → AreFit (p ∷ q ∷ []) (all_given_of gs) → y ≡ get_or gs 1 y → IsFit q (option_map given_of y)
 second_fit p q gs y h at = let two = pair p q gs h in subst (λ (g : Option Given). IsFit q (option_map given_of g)) (sym (second_is p q gs y two at)) two.second_fits
 

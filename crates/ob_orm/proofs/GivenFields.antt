@@ -24,7 +24,6 @@ use Rattle.ob_base.specs.declared.refusal.Refusal.TheVariants as refusal
 use Rattle.ob_base.specs.declared.value.Value.{Value}
 use Rattle.ob_base.specs.declared.value.Value.TheVariants as value
 use Rattle.ob_call.proofs.CallerLemmas.{slice_get-before}
-use Rattle.ob_call.specs.Arguments.{Given}
 use Rattle.ob_call.specs.Results.{IsResultOf}
 use Rattle.ob_codec.proofs.CallerLemmas.{HasType-from_IsValueOf}
 use Rattle.ob_codec.specs.JsonForm.{value_from}

@@ -1,5 +1,5 @@
 -- The fields that the keys of an object name, key by key.
-use Rattle.std.proofs.Common.{◌≡◌, ◌∙◌, ℕ, true, List, [], ◌∷◌, ◌++◌, Option, Some, None, is_some, string_bytes, String, Global, append_assoc, refl, sym, ap}
+use Rattle.std.proofs.Common.{◌≡◌, ◌∙◌, ℕ, true, List, [], ◌∷◌, ◌++◌, Option, Some, None, is_some, string_bytes, String, Global, refl, sym, ap}
 use Rattle.std.specs.Prelude.{IfSome}
 use Rattle.std.specs.List.{cons_option, filter_map}
 use Rattle.std.specs.Map.{keys_of}
@@ -30,13 +30,6 @@ field_found models model name r there found = by (model_at models model) there f
   by : (o : Option ModelInfo) → is_some o ≡ true → IfSome o (λ info. r ≡ field_named info.fields name) → r ≡ field_named (option_map_or (λ info. info.fields) o []) name
   by None there found = absurd cc
   by (Some info) there found = found
-
--- one key more
-pub keyed-pushed : (fields : List FieldInfo) (so_far new : List FieldNo) (key : String Global) (more : List (String Global)) (number : FieldNo) (all : List FieldNo) → field_named fields (string_bytes key) ≡ Some number
-    → new ≡ so_far ++ number ∷ [] → so_far ++ named_by fields (key ∷ more) ≡ all → new ++ named_by fields more ≡ all
-keyed-pushed fields so_far new key more number all named pushed are =
-    ap (λ (ns : List FieldNo). ns ++ named_by fields more) pushed ∙ append_assoc so_far (number ∷ []) (named_by fields more)
-    ∙ ap (λ (o : Option FieldNo). so_far ++ cons_option o (named_by fields more)) (sym named) ∙ are
 
 pub keyed-passed : (fields : List FieldInfo) (so_far : List FieldNo) (key : String Global) (more : List (String Global)) (all : List FieldNo) → field_named fields (string_bytes key) ≡ None
     → so_far ++ named_by fields (key ∷ more) ≡ all → so_far ++ named_by fields more ≡ all

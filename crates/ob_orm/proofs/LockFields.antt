@@ -1,5 +1,5 @@
 -- The condition that locks rows has a number among the fields of its model.
-use Rattle.std.proofs.Common.{◌≡◌, ◌+◌, ◌<◌, ◌≤◌, ℕ, zero, suc, Bool, true, false, List, [], ◌∷◌, ◌++◌, length, length-append, Option, Some, None, option_map, position, refl, sym, ap, subst, ◌∙◌, arith}
+use Rattle.std.proofs.Common.{◌≡◌, ◌+◌, ◌<◌, ℕ, zero, suc, Bool, List, [], ◌∷◌, length, length-append, Option, Some, None, option_map, position, refl, sym, ap, subst, ◌∙◌, arith}
 use Rattle.std.specs.Prelude.{IfSome, IsSome, bytes_eq, codes, option_and_then}
 use Rattle.std.specs.List.{slice_get}
 use Rattle.ob_base.specs.declared.id.FieldNo.{FieldNo}

@@ -1,18 +1,17 @@
 -- A row is locked as the value of its model's condition says.
-use Rattle.std.proofs.Common.{◌≡◌, ◌↔◌, Bool, true, false, List, Option, Some, None, Ok, refl, sym, ap, subst, ◌∙◌}
-use Rattle.std.specs.Prelude.{IfSome, IsSome, IsSomeAnd, option_and_then}
+use Rattle.std.proofs.Common.{◌≡◌, Bool, true, false, List, Option, Some, None, Ok, sym, ap, subst, ◌∙◌}
+use Rattle.std.specs.Prelude.{IfSome, IsSomeAnd, option_and_then}
 use Rattle.ob_base.specs.declared.id.Cell.{Cell}
 use Rattle.ob_base.specs.declared.id.FieldNo.{FieldNo}
 use Rattle.ob_base.specs.declared.id.RowKey.{RowKey}
 use Rattle.ob_base.specs.declared.value.Value.{Value}
 use Rattle.ob_base.specs.declared.value.Value.TheVariants as value
-use Rattle.ob_orm.specs.LockSteps.{IsSettledAt}
 use Rattle.ob_orm.specs.Locks.{IsLocked, locking_field}
 use Rattle.ob_schema.specs.Models.{HasModel, model_at}
-use Rattle.ob_schema.specs.Tables.{Tables, row_at}
+use Rattle.ob_schema.specs.Tables.{Tables}
 use Rattle.ob_schema.specs.Val.{val}
 use Rattle.ob_schema.specs.declared.info.ModelInfo.{ModelInfo}
-use Rattle.ob_tables.proofs.CallerLemmas.{is_there, known_at, known_if, not_there, tell_and}
+use Rattle.ob_tables.proofs.CallerLemmas.{is_there, known_if, tell_and}
 
 -- the value is true
 is_true : Option Value → Bool
@@ -44,7 +43,3 @@ module _ (models : List ModelInfo) (tables : Tables) (row : RowKey) (model : Has
     -- where its value is true the row is locked
     pub locked : val models tables cell ≡ Ok (value.Bool true) → IsLocked models tables row
     locked holds = tell_and numbered field (λ f. val models tables (record { model = row.model; id = row.id; field = f }) ≡ Ok (value.Bool true)) same holds
-
-    -- and only there
-    pub lock-holds : IsLocked models tables row → val models tables cell ≡ Ok (value.Bool true)
-    lock-holds is_locked = known_at numbered field (λ f. val models tables (record { model = row.model; id = row.id; field = f }) ≡ Ok (value.Bool true)) same is_locked

@@ -1,5 +1,5 @@
 -- Rows that are made one behind another: what the edits that make them leave of tables, and the next ids behind them.
-use Rattle.std.proofs.Common.{◌≡◌, ◌<◌, ◌≤◌, ◌+◌, ◌∷◌, [], ◌++◌, ℕ, Bool, true, false, cond, List, length, max, map, Option, Some, None, unwrap_or, is_some, length-append, append_assoc, refl, sym, ap, subst, ◌∙◌, arith}
+use Rattle.std.proofs.Common.{◌≡◌, ◌<◌, ◌≤◌, ◌+◌, ◌∷◌, [], ◌++◌, ℕ, Bool, true, false, cond, List, max, map, Option, Some, None, unwrap_or, is_some, append_assoc, refl, sym, ap, ◌∙◌, arith}
 use Rattle.std.specs.Prelude.{All, IsSome, IsSomeAnd, ⊤}
 use Rattle.std.specs.List.{flat_map}
 use Rattle.std.specs.BTreeMap as tree
@@ -9,16 +9,15 @@ use Rattle.std.specs.FinMap as finite
 use Rattle.std.specs.Option.{option_map_or}
 use Rattle.std.specs.Ordering.{eq_by_cmp, nat_cmp}
 use Rattle.std.proofs.lemmas.Bool.{false≢true}
-use Rattle.std.proofs.lemmas.List.{append-nil, length_push, map-append}
-use Rattle.std.proofs.lemmas.List.Elements.{All-append, All-head, All-map, All-nil, All-push, All-tail}
+use Rattle.std.proofs.lemmas.List.{append-nil, map-append}
+use Rattle.std.proofs.lemmas.List.Elements.{All-append, All-head, All-map, All-nil, All-tail}
 use Rattle.std.proofs.lemmas.Option.{same_Some}
 use Rattle.ob_base.specs.declared.id.ModelNo.{ModelNo}
 use Rattle.ob_base.specs.declared.id.RecId.{RecId}
-use Rattle.ob_cache.specs.Standing.{max_next_id}
-use Rattle.ob_orm.proofs.Emptied.{after-then, set-next}
+use Rattle.ob_orm.proofs.EditedRows.{after-then, set-next}
 use Rattle.ob_orm.proofs.WriteEdits.{one_edit}
 use Rattle.ob_orm.specs.NewRows.{Begun, MadeRow, MadeRows, Values, behind, changed_values, filled, linked, made_row, made_rows, making, parent_change, parents_of, row_edits, with_parent, with_parents}
-use Rattle.ob_orm.specs.NewRowSteps.{AddsEdits, HoldsNextIds, IsReady, MayFit, held_next, so_far}
+use Rattle.ob_orm.specs.NewRowSteps.{AddsEdits, HoldsNextIds, held_next, so_far}
 use Rattle.ob_orm.specs.declared.author.Author.{Author}
 use Rattle.ob_orm.specs.declared.making.next_ids.Making.{Making}
 use Rattle.ob_schema.specs.Models.{HasModel, model_at}
@@ -167,16 +166,6 @@ module _ (models : List ModelInfo) (model : ModelNo) (before now : Making) (id :
         holds-made old info at holds,
       )
 
-  -- they are few enough
-  pub ready-made : MayFit models (edit.Make model (record { 0 = id }) values) → id ≤ max_next_id + length before.edits.items → IsReady models before → IsReady models now
-  ready-made fit low ready =
-      let longer : length now.edits.items ≡ length before.edits.items + 1 = ap length pushed ∙ length_push before.edits.items (edit.Make model (record { 0 = id }) values) in record {
-        held = λ other there.
-            subst (λ (o : Option ℕ). IsSomeAnd o (λ n. n ≤ max_next_id + length now.edits.items)) (sym (raises other.0))
-            (bounded (eq_by_cmp nat_cmp model.0 other.0) id (max_next_id + length before.edits.items) (max_next_id + length now.edits.items) (held_next before other) (omega arith) (omega arith) (ready.held other there));
-        fit = subst (All (MayFit models)) (sym pushed) (All-push (MayFit models) before.edits.items (edit.Make model (record { 0 = id }) values) ready.fit fit);
-      }
-
 -- ---- and behind changes of other rows
 
 module _ (models : List ModelInfo) (before now : Making) (changes : List Edit) (same : now.next_ids ≡ before.next_ids) (appended : now.edits.items ≡ before.edits.items ++ changes) where
@@ -188,15 +177,6 @@ module _ (models : List ModelInfo) (before now : Making) (changes : List Edit) (
   holds-changed old sets holds other there =
       ap (λ (ids : BTreeMap ℕ ℕ). tree.get nat_cmp ids other.0) same ∙ holds other there
       ∙ sym (ap (λ (t : Tables). Some (next_of t other)) (so_far-changed old) ∙ ap Some (next-set models (so_far models old before) changes sets other))
-
-  pub ready-changed : All (MayFit models) changes → IsReady models before → IsReady models now
-  ready-changed fit ready =
-      let longer : length now.edits.items ≡ length before.edits.items + length changes = ap length appended ∙ length-append before.edits.items changes in record {
-        held = λ other there.
-            subst (λ (o : Option ℕ). IsSomeAnd o (λ n. n ≤ max_next_id + length now.edits.items)) (sym (ap (λ (ids : BTreeMap ℕ ℕ). tree.get nat_cmp ids other.0) same))
-            (bounded false 0 (max_next_id + length before.edits.items) (max_next_id + length now.edits.items) (held_next before other) (omega arith) (omega arith) (ready.held other there));
-        fit = subst (All (MayFit models)) (sym appended) (All-append (MayFit models) before.edits.items changes ready.fit fit);
-      }
 
 -- ---- what is changed of parents
 

@@ -1,5 +1,5 @@
 -- The next ids of models, as they are held one model after another.
-use Rattle.std.proofs.Common.{◌≡◌, ◌≢◌, ◌<◌, ◌≤◌, ◌+◌, ◌⊎◌, inl, inr, ℕ, zero, suc, List, [], length, Option, Some, None, refl, sym, ap, subst, ◌∙◌, arith}
+use Rattle.std.proofs.Common.{◌≡◌, ◌≢◌, ◌≤◌, ◌+◌, ◌⊎◌, inl, inr, ℕ, zero, suc, List, [], length, Option, Some, None, refl, sym, ap, subst, ◌∙◌, arith}
 use Rattle.std.specs.Prelude.{All, IsSome, IsSomeAnd, slice_get}
 use Rattle.std.specs.BTreeMap as tree
 use Rattle.std.specs.BTreeMap.{BTreeMap}
@@ -49,9 +49,6 @@ module _ (models : List ModelInfo) where
   pub held-none : (ids : BTreeMap ℕ ℕ) → AreHeld models ids 0
   held-none ids model there low = absurd (no_first models model there low)
 
-  pub theirs-none : (tables : Tables) (ids : BTreeMap ℕ ℕ) → AreTheirs models tables ids 0
-  theirs-none tables ids model there low = absurd (no_first models model there low)
-
   module _ (n : ℕ) (before now : BTreeMap ℕ ℕ) (others : (number : ℕ) → number ≢ n + 1 → tree.get nat_cmp now number ≡ tree.get nat_cmp before number) where
     -- a model up to the next number is that one or before it
     last : (model : ModelNo) → model.0 ≤ n + 1 → (model ≡ record { 0 = n + 1 }) ⊎ ((model.0 ≤ n) × (model.0 ≢ n + 1))
@@ -65,12 +62,6 @@ module _ (models : List ModelInfo) where
     held-more own far model there low = elim (last model low) [
       | inl same ↦ (let here = own (subst (HasModel models) same there) in subst (λ (m : ModelNo). IsSomeAnd (tree.get nat_cmp now m.0) (λ next. next ≤ max_next_id)) (sym same) here)
       | inr less ↦ subst (λ (o : Option ℕ). IsSomeAnd o (λ next. next ≤ max_next_id)) (sym (others model.0 less.1)) (far model there less.0)
-    ]
-
-    pub theirs-more : (tables : Tables) → (HasModel models (record { 0 = n + 1 }) → tree.get nat_cmp now (n + 1) ≡ Some (next_of tables (record { 0 = n + 1 }))) → AreTheirs models tables before n → AreTheirs models tables now (n + 1)
-    theirs-more tables own far model there low = elim (last model low) [
-      | inl same ↦ subst (λ (m : ModelNo). tree.get nat_cmp now m.0 ≡ Some (next_of tables m)) (sym same) (own (subst (HasModel models) same there))
-      | inr less ↦ others model.0 less.1 ∙ far model there less.0
     ]
 
 -- ---- all of them

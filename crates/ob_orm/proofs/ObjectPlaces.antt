@@ -1,8 +1,8 @@
 -- Where objects of values are wrong, and the items of a list one after another.
-use Rattle.std.proofs.Common.{◌≡◌, ◌≤◌, ◌<◌, ◌+◌, ◌∷◌, [], ◌++◌, ℕ, List, drop, get_or, length, map, Option, Some, None, append_assoc, refl, sym, ap, ◌∙◌}
+use Rattle.std.proofs.Common.{◌≡◌, ◌<◌, ◌+◌, ◌∷◌, [], ◌++◌, ℕ, List, drop, get_or, length, map, Option, Some, None, append_assoc, refl, sym, ap, ◌∙◌}
 use Rattle.std.specs.Option.{option_map_or}
 use Rattle.std.specs.Prelude.{All}
-use Rattle.std.proofs.lemmas.List.{drop_all, drop_more}
+use Rattle.std.proofs.lemmas.List.{drop_more}
 use Rattle.std.proofs.lemmas.List.Elements.{All-cons, All-nil}
 use Rattle.ob_base.specs.declared.place.PathStep.{PathStep}
 use Rattle.ob_base.specs.declared.place.PathStep.TheVariants.{Item}
@@ -46,14 +46,6 @@ module _ (fault : Data → Option (List PathStep)) where
   pub wrong-later : (items : List Json) (i : ℕ) (item : Json) → i < length items → item ≡ get_or items i item → fault (view item) ≡ None
       → first_wrong fault i (map view (drop i items)) ≡ first_wrong fault (i + 1) (map view (drop (i + 1) items))
   wrong-later items i item lt is right = wrong-next items i item lt is ∙ ap (λ (o : Option (List PathStep)). option_map_or (λ below. Some (Item i ∷ below)) o (first_wrong fault (i + 1) (map view (drop (i + 1) items)))) right
-
-  -- and one that is wrong
-  pub wrong-here : (items : List Json) (i : ℕ) (item : Json) (below : List PathStep) → i < length items → item ≡ get_or items i item → fault (view item) ≡ Some below → first_wrong fault i (map view (drop i items)) ≡ Some (Item i ∷ below)
-  wrong-here items i item below lt is wrong = wrong-next items i item lt is ∙ ap (λ (o : Option (List PathStep)). option_map_or (λ below. Some (Item i ∷ below)) o (first_wrong fault (i + 1) (map view (drop (i + 1) items)))) wrong
-
-  -- none is left
-  pub wrong-end : (items : List Json) (i : ℕ) → length items ≤ i → first_wrong fault i (map view (drop i items)) ≡ None
-  wrong-end items i past = ap (λ (vs : List Json). first_wrong fault i (map view vs)) (drop_all i items past)
 
   -- the first that is wrong, or one that follows it
   none-wrong : (o rest : Option (List PathStep)) (n : ℕ) → option_map_or (λ below. Some (Item n ∷ below)) o rest ≡ None → (o ≡ None) × (rest ≡ None)

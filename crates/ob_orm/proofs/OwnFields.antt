@@ -28,7 +28,7 @@ named_one info name number f named at =
     own ∙ sym (numbered-before info.fields info.hidden number.0 g own) ∙ at
 
 -- what is tested of a field that was found by its name
-tested_by_name : (test : FieldInfo → Bool) (models : List ModelInfo) (model : ModelNo) (name : List ℕ) (number : FieldNo) (f : FieldInfo) → IfSome (model_at models model) (λ info. Some number ≡ field_named info.fields name)
+pub tested_by_name : (test : FieldInfo → Bool) (models : List ModelInfo) (model : ModelNo) (name : List ℕ) (number : FieldNo) (f : FieldInfo) → IfSome (model_at models model) (λ info. Some number ≡ field_named info.fields name)
     → field_at models model number ≡ Some f → test f ≡ option_map_or test (field_of_name (fields_at models model) name) false
 tested_by_name test models model name number f named at = by (model_at models model) named at where
   by : (o : Option ModelInfo) → IfSome o (λ info. Some number ≡ field_named info.fields name) → option_and_then (λ info. numbered (fields_of info) number.0) o ≡ Some f

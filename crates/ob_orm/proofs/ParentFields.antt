@@ -1,11 +1,10 @@
 -- What is given to a row's parents: typed values, and the rows of parents that are made of them or changed.
-use Rattle.std.proofs.Common.{◌≡◌, ◌==◌, ◌<◌, ◌-◌, ◌^◌, ◌∷◌, [], ◌++◌, ◌+◌, ℕ, Bool, true, false, cond, List, append-nil, get_or, length, take, Option, Some, None, is_some, eqb-true, refl, sym, ap, subst, ◌∙◌}
+use Rattle.std.proofs.Common.{◌≡◌, ◌==◌, ◌<◌, ◌-◌, ◌∷◌, [], ◌++◌, ◌+◌, ℕ, Bool, true, false, cond, List, append-nil, get_or, length, take, Option, Some, None, eqb-true, refl, sym, ap, subst, ◌∙◌}
 use Rattle.std.specs.Prelude.{All, IsSomeAnd, OnOk, Result, Ok, Err, option_and_then, option_map}
 use Rattle.std.specs.List.{cons_option}
-use Rattle.std.specs.Map.{lookup}
 use Rattle.std.specs.Option.{option_map_or}
 use Rattle.std.proofs.lemmas.List.{take_more}
-use Rattle.std.proofs.lemmas.List.Elements.{filter_map-append, All-append, All-cons, All-contains, All-head, All-map, All-nil, All-tail, All-weaker}
+use Rattle.std.proofs.lemmas.List.Elements.{filter_map-append, All-append, All-contains, All-head, All-map, All-tail, All-weaker}
 use Rattle.std.proofs.lemmas.Option.{same_Some}
 use Rattle.ob_base.specs.declared.id.FieldNo.{FieldNo}
 use Rattle.ob_base.specs.declared.id.ModelNo.{ModelNo}
@@ -18,15 +17,14 @@ use Rattle.ob_definition.specs.declared.field_type.FieldType.{FieldType}
 use Rattle.ob_definition.specs.declared.field_type.FieldType.TheVariants as type
 use Rattle.ob_definition.specs.declared.field_type.OnDelete.TheVariants as ondelete
 use Rattle.ob_schema.specs.Fields.{HasFieldType, IsGivable}
-use Rattle.ob_schema.specs.Models.{HasKeysOf, IsField, IsModel, IsOriginIn, IsParentIn, IsPlainTo, IsRegistry, FieldHas, field_at, model_at}
-use Rattle.ob_schema.specs.Tables.{Tables, next_of}
+use Rattle.ob_schema.specs.Models.{HasKeysOf, IsModel, IsOriginIn, IsParentIn, IsPlainTo, IsRegistry, FieldHas, field_at}
 use Rattle.ob_schema.specs.declared.info.FieldInfo.{FieldInfo}
 use Rattle.ob_schema.specs.declared.info.ModelInfo.{ModelInfo}
 use Rattle.ob_schema.specs.declared.info.Origin.{Origin}
 use Rattle.ob_schema.specs.declared.info.Origin.TheVariants as origin
 use Rattle.ob_schema.specs.declared.info.ParentInfo.{ParentInfo}
 use Rattle.ob_tables.proofs.CallerLemmas.{Field-at}
-use Rattle.ob_tables.specs.Fitting.{AreFitIn, IsFitEdit, IsFitId, IsFitIn}
+use Rattle.ob_tables.specs.Fitting.{AreFitIn, IsFitId, IsFitIn}
 use Rattle.ob_tables.specs.declared.edit.Edit.{Edit}
 use Rattle.ob_orm.specs.NewRows.{Values, behind, changed_values, field_behind, field_behind_from, filled, linked, parent_change, row_edits, row_named, value_for}
 use Rattle.ob_orm.specs.NewRowSteps.{IsLowRef, IsTyped, MayFit}
@@ -137,10 +135,6 @@ module _ (models : List ModelInfo) (by : Author) (model : ModelNo) (parent : Par
   abbrev change_by : Option RecId → List Edit
   change_by o = option_map_or (λ id. row_edits parent.model (changed_values models by parent.model (behind models model parent.link given)) id.0) o []
 
-  -- a link that isn't given by an id changes nothing
-  pub change-none : linked given parent.link ≡ None → parent_change models by model given parent ≡ []
-  change-none is = ap change_by is
-
   -- nor does one behind which nothing is given
   pub change-empty : (values : Values) → values ≡ behind models model parent.link given → values ≡ [] → parent_change models by model given parent ≡ []
   change-empty values are none = ap (λ (vs : Values). option_map_or (λ id. row_edits parent.model (changed_values models by parent.model vs) id.0) (linked given parent.link) []) (sym are ∙ none) ∙ each (linked given parent.link) where
@@ -151,12 +145,6 @@ module _ (models : List ModelInfo) (by : Author) (model : ModelNo) (parent : Par
   some_values : (vs : Values) → (vs ≡ [] → ⊥) → changed_values models by parent.model vs ≡ filled models by false parent.model vs
   some_values [] some = absurd (some refl)
   some_values (v ∷ vs) some = refl
-
-  -- else the values are set
-  pub change-set : (id : RecId) (values changed : Values) → linked given parent.link ≡ Some id → values ≡ behind models model parent.link given → (values ≡ [] → ⊥) → changed ≡ filled models by false parent.model values
-      → parent_change models by model given parent ≡ row_edits parent.model changed id.0
-  change-set id values changed is are some filled_is =
-      ap change_by is ∙ ap (λ (vs : Values). row_edits parent.model (changed_values models by parent.model vs) id.0) (sym are) ∙ ap (λ (vs : Values). row_edits parent.model vs id.0) (some_values values some ∙ sym filled_is)
 
 -- edits that set fitting values may be asked for
 pub sets-fit : (models : List ModelInfo) (model : ModelNo) (values : Values) (id : RecId) → AreFitIn models model values → IsFitId id → All (MayFit models) (row_edits model values id.0)

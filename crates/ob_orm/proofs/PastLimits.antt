@@ -1,5 +1,5 @@
 -- Rows that edits make are there behind them, and edits within the limit of ids may be asked of an engine.
-use Rattle.std.proofs.Common.{◌≡◌, ◌≤◌, ◌<◌, ◌+◌, ◌∷◌, [], ℕ, Bool, true, false, cond, List, Option, Some, None, is_some, refl, sym, ap, subst, ◌∙◌, ◌⊎◌, inl, inr, arith}
+use Rattle.std.proofs.Common.{◌≡◌, ◌<◌, ◌∷◌, [], ℕ, Bool, true, false, cond, List, Option, Some, None, is_some, refl, sym, ap, subst, ◌∙◌, ◌⊎◌, inl, inr}
 use Rattle.std.specs.Prelude.{All, Any, IsSome, IsSomeAnd}
 use Rattle.std.specs.FinMap as finite
 use Rattle.std.specs.Option.{option_map_or}
@@ -8,24 +8,21 @@ use Rattle.std.proofs.lemmas.List.Elements.{All-head, All-nil, All-cons, All-tai
 use Rattle.ob_base.specs.Ids.{row_key_cmp}
 use Rattle.ob_base.specs.Limits.{max_id}
 use Rattle.ob_base.specs.declared.id.FieldNo.{FieldNo}
-use Rattle.ob_base.specs.declared.id.ModelNo.{ModelNo}
 use Rattle.ob_base.specs.declared.id.RowKey.{RowKey}
 use Rattle.ob_base.specs.declared.refusal.BrokenKind.TheVariants as broken
 use Rattle.ob_base.specs.declared.refusal.Refusal.{Refusal}
 use Rattle.ob_base.specs.declared.refusal.Refusal.TheVariants as refusal
 use Rattle.ob_cache.specs.Calls.{Refuses}
-use Rattle.ob_cache.specs.Standing.{max_next_id}
-use Rattle.ob_orm.proofs.Emptied.{set-there}
+use Rattle.ob_orm.proofs.EditedRows.{set-there}
 use Rattle.ob_orm.specs.CreateSteps.{BreaksField, IsBrokenBy}
 use Rattle.ob_orm.specs.NewRowSteps.{MakesRow, MakesWithin, MayFit}
 use Rattle.ob_schema.proofs.CallerLemmas.{Any-cases, Any-none}
-use Rattle.ob_schema.specs.Models.{HasModel, field_at, is_id_from, model_at}
+use Rattle.ob_schema.specs.Models.{field_at, is_id_from, model_at}
 use Rattle.ob_schema.specs.Tables.{Tables, key_of, row_at}
 use Rattle.ob_schema.specs.declared.info.FieldInfo.{FieldInfo}
 use Rattle.ob_schema.specs.declared.info.ModelInfo.{ModelInfo}
 use Rattle.ob_tables.proofs.CallerLemmas.{row-made, rows_total}
 use Rattle.ob_tables.specs.After.{after, edited, row_of, with_row}
-use Rattle.ob_tables.specs.Changes.{MakesBelow}
 use Rattle.ob_tables.specs.Fitting.{AreFitValues, IsFitEdit}
 use Rattle.ob_tables.specs.declared.edit.Edit.{Edit}
 use Rattle.ob_tables.specs.declared.edit.Edit.TheVariants as edit
@@ -69,24 +66,12 @@ module _ (models : List ModelInfo) where
   there_of None h = absurd cc
   there_of (Some info) h = (info, refl)
 
-  makes-model : (one : Edit) (row : RowKey) → MayFit models one → MakesRow row one → HasModel models row.model
-  makes-model (edit.Make m id values) row fit is = subst (λ (r : RowKey). HasModel models r.model) (sym is) (its_model (model_at models m) (λ info. AreFitValues info values) fit.1)
-  makes-model (edit.Set cell v) row fit is = absurd is
-  makes-model (edit.Gone m id) row fit is = absurd is
-
   makes-row : (tables : Tables) (one : Edit) (row : RowKey) → MayFit models one → MakesRow row one → IsSome (row_at (edited models tables one) row.model row.id)
   makes-row tables (edit.Make m id values) row fit is =
       let (info, at) = there_of (model_at models m) (its_model (model_at models m) (λ info. AreFitValues info values) fit.1) in
       subst (λ (r : RowKey). IsSome (row_at (edited models tables (edit.Make m id values)) r.model r.id)) (sym is) (ap is_some (row-made models tables m id values info at))
   makes-row tables (edit.Set cell v) row fit is = absurd is
   makes-row tables (edit.Gone m id) row fit is = absurd is
-
-  pub made-model : (edits : List Edit) (row : RowKey) → All (MayFit models) edits → Any (MakesRow row) edits → HasModel models row.model
-  made-model [] row fit among = absurd (Any-none (MakesRow row) among)
-  made-model (one ∷ edits) row fit among = elim (Any-cases (MakesRow row) one edits among) [
-    | inl is ↦ makes-model one row (All-head (MayFit models) one edits fit) is
-    | inr later ↦ made-model edits row (All-tail (MayFit models) one edits fit) later
-  ]
 
   -- each row that they make is there behind them
   pub made-there : (tables : Tables) (edits : List Edit) (row : RowKey) → All (MayFit models) edits → Any (MakesRow row) edits → IsSome (row_at (after models tables edits) row.model row.id)
@@ -103,20 +88,11 @@ module _ (models : List ModelInfo) where
   within-fit (edit.Set cell v) fit low = fit
   within-fit (edit.Gone m id) fit low = absurd fit
 
-  within-below : (of : ModelNo) (one : Edit) → MakesWithin one → MakesBelow of max_next_id one
-  within-below of (edit.Make m id values) low = λ same. omega arith
-  within-below of (edit.Set cell v) low = tt
-  within-below of (edit.Gone m id) low = tt
-
   pub all-fit : (edits : List Edit) → All (MayFit models) edits → All MakesWithin edits → All (IsFitEdit models) edits
   all-fit [] fit low = All-nil (IsFitEdit models)
   all-fit (one ∷ edits) fit low =
       All-cons (IsFitEdit models) one edits (within-fit one (All-head (MayFit models) one edits fit) (All-head MakesWithin one edits low))
       (all-fit edits (All-tail (MayFit models) one edits fit) (All-tail MakesWithin one edits low))
-
-  pub all-below : (of : ModelNo) (edits : List Edit) → All MakesWithin edits → All (MakesBelow of max_next_id) edits
-  all-below of [] low = All-nil (MakesBelow of max_next_id)
-  all-below of (one ∷ edits) low = All-cons (MakesBelow of max_next_id) one edits (within-below of one (All-head MakesWithin one edits low)) (all-below of edits (All-tail MakesWithin one edits low))
 
   -- ---- a row past the limit
 

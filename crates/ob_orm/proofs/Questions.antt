@@ -4,10 +4,18 @@ use Rattle.std.specs.Prelude.{IfErr, IfOk}
 use Rattle.ob_base.specs.declared.refusal.Refusal.{Refusal}
 use Rattle.ob_cache.proofs.CallerLemmas.{Refuses-weaker}
 use Rattle.ob_cache.specs.Calls.{Refuses}
-use Rattle.ob_cache.specs.Standing.{Holding, IsAtRest, Stays, max_next_id}
+use Rattle.ob_cache.specs.Stages.{StandsOver, resting}
+use Rattle.ob_cache.specs.Standing.{Holding, IsAtRest, RestsAt, Stays, max_next_id}
 use Rattle.ob_io.specs.Cause.{Rose}
 use Rattle.ob_io.specs.Store.{Store}
 use Rattle.ob_orm.proofs.CreateAnswer.{rose_from}
+use Rattle.ob_schema.specs.Broken.{AreSound}
+use Rattle.ob_schema.specs.Tables.{Tables}
+use Rattle.ob_tables.proofs.CallerLemmas.{told_and}
+
+-- the tables at which an engine rests are sound
+pub rests-sound : (kept : Option Store) (held : Holding) (tables : Tables) → RestsAt kept held tables → AreSound held.models tables
+rests-sound kept held tables rests = (told_and kept (StandsOver (resting held.models tables)) rests.over).2.sound
 
 -- nothing was asked
 pub stays-none : (kept : Option Store) (held : Holding) → Stays kept held kept held

@@ -1,13 +1,13 @@
 -- Relations among the first models, and among the first fields of one.
-use Rattle.std.proofs.Common.{◌≡◌, ◌⊎◌, ◌↔◌, ◌+◌, ◌≤◌, ◌<◌, inl, inr, ℕ, zero, suc, true, false, List, length, Option, Some, None, refl, sym, ap, subst, ◌∙◌, arith}
+use Rattle.std.proofs.Common.{◌≡◌, ◌⊎◌, ◌↔◌, ◌+◌, ◌≤◌, inl, inr, ℕ, zero, suc, true, false, List, length, Option, Some, None, refl, sym, ap, subst, ◌∙◌, arith}
 use Rattle.std.specs.Prelude.{Contains, IsSome, is_some, option_and_then}
 use Rattle.std.specs.List.{slice_get}
 use Rattle.std.proofs.lemmas.Bool.{cases_lt}
 use Rattle.std.proofs.lemmas.Option.{slice_get_within}
 use Rattle.ob_base.specs.declared.id.FieldNo.{FieldNo}
 use Rattle.ob_base.specs.declared.id.ModelNo.{ModelNo}
-use Rattle.ob_orm.specs.DeletionSteps.{IsRelation, relation_of}
-use Rattle.ob_orm.specs.declared.unlinking.relations.KeptRelation.{KeptRelation}
+use Rattle.ob_orm.specs.Relations.{IsRelation, relation_of}
+use Rattle.ob_orm.specs.declared.relations.KeptRelation.{KeptRelation}
 use Rattle.ob_schema.specs.Built.{numbered}
 use Rattle.ob_schema.specs.Models.{field_at, fields_of, model_at}
 use Rattle.ob_schema.specs.declared.info.FieldInfo.{FieldInfo}

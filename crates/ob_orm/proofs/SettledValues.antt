@@ -1,5 +1,5 @@
 -- Values that were settled, as the rows keep them.
-use Rattle.std.proofs.Common.{◌≡◌, ◌&&◌, ◌⊎◌, ◌+◌, ◌*◌, ℕ, zero, suc, Bool, true, false, not, List, Option, Some, None, Result, Ok, Err, refl, sym, ap, subst, ◌∙◌, arith}
+use Rattle.std.proofs.Common.{◌≡◌, ◌&&◌, ◌+◌, ◌*◌, ℕ, suc, Bool, true, false, not, List, Option, Some, None, Result, Ok, Err, refl, sym, ap, ◌∙◌, arith}
 use Rattle.std.specs.Prelude.{IsSome, is_none, is_some, option_and_then, unwrap_or}
 use Rattle.std.specs.FinMap as finite
 use Rattle.ob_base.specs.declared.id.Cell.{Cell}
@@ -21,7 +21,7 @@ use Rattle.ob_schema.specs.declared.info.FieldInfo.{FieldInfo}
 use Rattle.ob_schema.specs.declared.info.ModelInfo.{ModelInfo}
 use Rattle.ob_schema.specs.declared.info.Origin.{Origin}
 use Rattle.ob_schema.specs.declared.info.Origin.TheVariants as origin
-use Rattle.ob_tables.proofs.CallerLemmas.{Field-at, not_there, plain_is, value_absent, value_there}
+use Rattle.ob_tables.proofs.CallerLemmas.{Field-at, plain_is, value_absent, value_there}
 
 both_true : (a b : Bool) → (a && b) ≡ true → (a ≡ true) × (b ≡ true)
 both_true true b is = (refl, is)

@@ -1,5 +1,5 @@
 -- Which rows a create may come to make or change, whatever the tables: those of its model and of the model's parents.
-use Rattle.std.proofs.Common.{◌≡◌, ◌==◌, ◌||◌, ◌≤◌, ◌+◌, ◌∷◌, [], ◌++◌, ℕ, Bool, true, false, cond, List, length, Option, Some, None, is_some, unwrap_or, refl, sym, ap, subst, ◌∙◌, eq-eqb}
+use Rattle.std.proofs.Common.{◌≡◌, ◌==◌, ◌||◌, ◌≤◌, ◌+◌, ◌∷◌, [], ℕ, Bool, true, false, cond, List, length, Option, Some, None, is_some, unwrap_or, refl, sym, ap, ◌∙◌, eq-eqb}
 use Rattle.std.specs.Prelude.{All, IsSomeAnd}
 use Rattle.std.specs.BTreeMap as tree
 use Rattle.std.specs.FinMap as finite
@@ -21,13 +21,11 @@ use Rattle.ob_orm.specs.Touches.{is_parent, may_touch}
 use Rattle.ob_orm.specs.TouchSteps.{MayDo}
 use Rattle.ob_orm.specs.declared.author.Author.{Author}
 use Rattle.ob_orm.specs.declared.making.next_ids.Making.{Making}
-use Rattle.ob_schema.specs.Models.{HasModel}
 use Rattle.ob_schema.specs.Tables.{Tables, empty_tables, next_of}
 use Rattle.ob_schema.specs.declared.info.ModelInfo.{ModelInfo}
 use Rattle.ob_schema.specs.declared.info.ParentInfo.{ParentInfo}
 use Rattle.ob_tables.specs.After.{after}
 use Rattle.ob_tables.specs.declared.edit.Edit.{Edit}
-use Rattle.ob_tables.specs.declared.edit.Edit.TheVariants as edit
 
 -- ---- next ids are those of some tables
 

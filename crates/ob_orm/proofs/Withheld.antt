@@ -44,10 +44,6 @@ module _ (policy : PolicyData) (own : List RecId) (user : RecId) (model : ModelN
   abbrev pub asking_of : RowKey → Asking
   asking_of row = (op.Write, row.model)
 
-  -- he may not write rows of the model
-  pub withheld-own : (rows : List RowKey) → may policy own user (op.Write, model) ≡ false → Some (op.Write, model) ≡ withheld policy own user model rows
-  withheld-own rows lacks = sym (ap (λ (b : Bool). cond (not b) (Some (op.Write, model)) (first_withheld policy own user (map asking_of rows))) lacks)
-
   -- else it is one of the rows'
   pub withheld-row : (rows : List RowKey) → may policy own user (op.Write, model) ≡ true → first_withheld policy own user (map asking_of rows) ≡ withheld policy own user model rows
   withheld-row rows has = sym (ap (λ (b : Bool). cond (not b) (Some (op.Write, model)) (first_withheld policy own user (map asking_of rows))) has)

@@ -32,7 +32,8 @@ use Rattle.ob_schema.specs.declared.info.ModelInfo.{ModelInfo}
 use Rattle.ob_orm.specs.Author.{author_by}
 use Rattle.ob_orm.specs.GivenValues.{GivenObject, object_from}
 use Rattle.ob_orm.specs.ObjectSteps.{object_view}
-use Rattle.ob_orm.specs.Write.{IsAdmissible, MayStopWrite, RefusesAsked, StopsWrite, WriteCause, Writes, change_from, change_of, changed, edits_of, write_expects}
+use Rattle.ob_orm.specs.Write.{IsAdmissible, MayStopWrite, StopsWrite, WriteCause, Writes, change_from, change_of, changed, edits_of, write_expects}
+use Rattle.ob_orm.specs.Refusing.{RefusesAsked}
 use Rattle.ob_orm.specs.WriteSteps.{asked_change}
 use Rattle.ob_orm.specs.declared.writing.change.Change.{Change as Asked}
 use Rattle.ob_orm.proofs.CreateAnswer.{everywhere, known_of, nowhere, sound_in}

@@ -1,4 +1,4 @@
--- Private: what the code has of a caller, and what it finds of the rows that rules deny him.
+-- What the code has of a caller, and what it finds of the rows that rules deny him.
 use Rattle.std.specs.Prelude.{◌≡◌, ℕ, List, All, Bool, true, Option, Some, None, Result, Ok, Err, if◌then◌else◌}
 use Rattle.std.specs.Ordering.{is_lt}
 use Rattle.ob_access.specs.Rights.{field_right}

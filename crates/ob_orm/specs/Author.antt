@@ -1,5 +1,5 @@
 -- Who makes or changes rows, and at which moment: the author, and what it stamps in them.
-use Rattle.std.specs.Prelude.{ℕ, ℤ, List, [], ◌∷◌, codes, if◌then◌else◌, Bool, ◌||◌, ◌&&◌}
+use Rattle.std.specs.Prelude.{ℕ, List, [], ◌∷◌, codes, if◌then◌else◌, Bool, ◌||◌, ◌&&◌}
 use Rattle.ob_base.specs.declared.value.Value.{Value}
 use Rattle.ob_base.specs.declared.value.Value.TheVariants as value
 use Rattle.ob_call.specs.Called.{Called}
@@ -15,10 +15,6 @@ author_of called = record { user = called.caller; now = called.now }
 -- the same, of a call as the code has it
 abbrev pub author_by : Call → Author
 author_by call = record { user = call.caller; now = call.now }
-
--- the system at a moment: user 1
-abbrev pub system_at : ℤ → Author
-system_at now = record { user = record { 0 = 1 }; now = now }
 
 -- what tells of the making of a row: when, and by whom
 abbrev pub tells_making : List ℕ → Bool

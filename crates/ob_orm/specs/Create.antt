@@ -28,6 +28,7 @@ use Rattle.ob_orm.specs.Author.{author_of}
 use Rattle.ob_orm.specs.GivenValues.{GivenObject, object_from}
 use Rattle.ob_orm.specs.NewRows.{MadeRows, Values, made_rows}
 use Rattle.ob_orm.specs.Objects.{items_at, objects_expected}
+use Rattle.ob_orm.specs.Refusing.{RefusesAsked}
 use Rattle.ob_orm.specs.Rights.{AreAdmitted, Asking, ByGroups, DeniesLeast, IsUnwritable, IsWithheld, first_unwritable, first_withheld}
 use Rattle.ob_orm.specs.Touches.{Touch, asking_of, may_touch, rows_changed, rows_made, touches_of}
 use Rattle.ob_orm.specs.declared.author.Author.{Author}
@@ -126,12 +127,6 @@ module _ (models : List ModelInfo) (policy : PolicyData) (by : Author) (model : 
       × DeniesLeast policy (told_by models (with_rows models by model old asked)) own by.user op.Create (rows_made (touched models by model old asked)) (refusal.Rule m operation id rule))
   StopsCreate (refusal.Constraint b) = IsAdmissible × IsBroken models (with_rows models by model old asked) b
   StopsCreate _ = ⊥
-
--- what arguments ask for is refused so; or they are malformed, first at this place
-abbrev pub RefusesAsked : {A : Type 0} → (A → Refusal → Type 0) → Result A (List PathStep) → Refusal → Type 0
-RefusesAsked stops (Ok asked) why = stops asked why
-RefusesAsked stops (Err place) (refusal.Request told) = told ≡ place
-RefusesAsked stops (Err place) _ = ⊥
 
 -- a create that is carried out for a caller in these groups: nothing stands against it, nothing is broken, rules admit the rows that are made, which stand under the next ids, and these are the answer
 pub record IsCreated (models : List ModelInfo) (policy : PolicyData) (called : Called) (old : Tables) (json : Data) (new : Tables) (own : List RecId) : Type 0 where

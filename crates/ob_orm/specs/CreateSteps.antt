@@ -16,7 +16,8 @@ use Rattle.ob_codec.specs.declared.fault.CodecFault.TheVariants as codec
 use Rattle.ob_io.specs.Store.{Store}
 use Rattle.ob_orm.specs.AskingSteps.{AdmitsBy, DeniesBy}
 use Rattle.ob_orm.specs.Author.{author_of, is_stamp, stamp}
-use Rattle.ob_orm.specs.Create.{Asked, IsAdmissible, IsCreated, RefusesAsked, StopsCreate, asked_of, ids_told, made, touched, with_rows}
+use Rattle.ob_orm.specs.Create.{Asked, IsAdmissible, IsCreated, StopsCreate, asked_of, ids_told, made, touched, with_rows}
+use Rattle.ob_orm.specs.Refusing.{RefusesAsked}
 use Rattle.ob_orm.specs.NewRows.{Values, made_rows}
 use Rattle.ob_orm.specs.Rights.{AreAdmitted, Asking, DeniesOne, first_unwritable}
 use Rattle.ob_orm.specs.Touches.{rows_made}

@@ -1,5 +1,5 @@
 -- What an object of a call gives a row that is made or changed: to its own fields and to those of its parents.
-use Rattle.std.specs.Prelude.{List, [], ◌∷◌, ◌++◌, false, if◌then◌else◌, Option, Some, None, Result, Ok, Err}
+use Rattle.std.specs.Prelude.{List, [], ◌∷◌, ◌++◌, false, if◌then◌else◌, Option, None, Result, Ok, Err}
 use Rattle.std.specs.List.{filter_map, flat_map}
 use Rattle.std.specs.Option.{option_or}
 use Rattle.std.specs.Result.{result_err}

@@ -1,4 +1,4 @@
--- Private: what the steps of a test whether a row is locked say of their results.
+-- What the value of a cell is that was settled, where its row is there or not.
 use Rattle.std.specs.Prelude.{◌≡◌, List, Option, Some, None, Ok}
 use Rattle.ob_base.specs.declared.id.Cell.{Cell}
 use Rattle.ob_base.specs.declared.value.Value.{Value}

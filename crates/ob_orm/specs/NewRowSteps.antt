@@ -1,5 +1,5 @@
 -- What the steps that make rows say of their results.
-use Rattle.std.specs.Prelude.{◌≡◌, ◌+◌, ◌++◌, ◌≤◌, ◌<◌, ◌∷◌, [], ℕ, List, All, length, Option, Some, IsSomeAnd, ⊤}
+use Rattle.std.specs.Prelude.{◌≡◌, ◌+◌, ◌++◌, ◌≤◌, ℕ, List, All, length, Option, Some, IsSomeAnd, ⊤}
 use Rattle.std.specs.BTreeMap as tree
 use Rattle.std.specs.Ordering.{nat_cmp}
 use Rattle.ob_base.specs.Limits.{max_id}
@@ -18,7 +18,7 @@ use Rattle.ob_schema.specs.declared.info.ModelInfo.{ModelInfo}
 use Rattle.ob_schema.specs.declared.info.Origin.{Origin}
 use Rattle.ob_schema.specs.declared.info.Origin.TheVariants as origin
 use Rattle.ob_tables.specs.After.{after}
-use Rattle.ob_tables.specs.Fitting.{AreFitIn, IsFitEdit, IsFitId}
+use Rattle.ob_tables.specs.Fitting.{IsFitEdit, IsFitId}
 use Rattle.ob_tables.specs.declared.edit.Edit.{Edit}
 use Rattle.ob_tables.specs.declared.edit.Edit.TheVariants as edit
 

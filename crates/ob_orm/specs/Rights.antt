@@ -1,7 +1,7 @@
 -- Rights and rules of the calls that change rows: what a caller may do by his groups, and which rows rules deny him.
 use Rattle.std.specs.Prelude.{◌≡◌, ℕ, List, map, find, not, true, false, All, Bool, Contains, Option, Some, None, IsSome, IsSomeAnd}
 use Rattle.std.specs.declared.cmp.Ordering.TheVariants.{Less}
-use Rattle.ob_access.specs.Admission.{denier, rules_for}
+use Rattle.ob_access.specs.Admission.{denier}
 use Rattle.ob_access.specs.Policies.{PolicyData}
 use Rattle.ob_access.specs.Rights.{field_right, right}
 use Rattle.ob_access.specs.Users.{AreGroupsOf}
@@ -82,7 +82,3 @@ module _ (policy : PolicyData) (user : RecId) where
 abbrev pub DeniesOne : Op → List RowKey → Refusal → Type 0
 DeniesOne op rows (refusal.Rule model operation id name) = (operation ≡ op) × Contains rows (record { model = model; id = id }) × IsSome name
 DeniesOne op rows _ = ⊥
-
--- the model has a rule of this name for the operation
-abbrev pub HasRule : PolicyData → ModelNo → Op → List ℕ → Type 0
-HasRule policy model op name = Contains (map (λ rule. rule.name) (rules_for policy model op)) name

@@ -1,4 +1,4 @@
--- The form of an object of values for fields of a model.
+-- The form of an object of values for fields of a model, and to which fields calls never give values.
 use Rattle.std.specs.Prelude.{ℕ, ◌&&◌, ◌||◌, List, [], ◌∷◌, Bool, false, not, if◌then◌else◌, Option, Some, None, option_and_then}
 use Rattle.std.specs.Option.{option_map_or}
 use Rattle.ob_base.specs.declared.place.PathStep.{PathStep}
@@ -7,7 +7,7 @@ use Rattle.serde_json.specs.Data.{Data, object}
 use Rattle.ob_definition.specs.Types.{is_list}
 use Rattle.ob_schema.specs.Fields.{is_plain_kept}
 use Rattle.ob_schema.specs.Built.{numbered}
-use Rattle.ob_schema.specs.Models.{field_at, field_named}
+use Rattle.ob_schema.specs.Models.{field_at, field_named, is_computed_from, is_id_from}
 use Rattle.ob_schema.specs.declared.info.FieldInfo.{FieldInfo}
 use Rattle.ob_schema.specs.declared.info.ModelInfo.{ModelInfo}
 use Rattle.ob_schema.specs.declared.info.Origin.{Origin}
@@ -45,3 +45,12 @@ module _ (models : List ModelInfo) where
   abbrev pub new_values_fault : List FieldInfo → Data → Option (List PathStep)
   new_values_fault fields (object members) = first_key (is_settable_name fields) (entries members)
   new_values_fault fields _ = Some []
+
+  -- an expression gives the value; of a delegated field that of the parent's field
+  abbrev pub is_computed_at : Origin → Bool
+  is_computed_at (origin.Delegated at) = option_map_or (λ field. is_computed_from field.origin) (field_at models at.model at.field) false
+  is_computed_at own = is_computed_from own
+
+  -- calls never give the value
+  abbrev pub is_readonly : FieldInfo → Bool
+  is_readonly field = is_id_from field.origin || is_computed_at field.origin || field.managed

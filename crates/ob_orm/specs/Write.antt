@@ -28,6 +28,7 @@ use Rattle.ob_call.specs.Ids.{IsLeastMissing, named_ids}
 use Rattle.ob_orm.specs.Author.{author_of}
 use Rattle.ob_orm.specs.GivenValues.{GivenObject, object_from}
 use Rattle.ob_orm.specs.NewRows.{Values, behind, changed_values, filled, parents_of, row_edits}
+use Rattle.ob_orm.specs.Refusing.{RefusesAsked}
 use Rattle.ob_orm.specs.Rights.{AreAdmitted, ByGroups, DeniesLeast, IsUnwritable, IsWithheld}
 use Rattle.ob_orm.specs.Touched.{linked_in, touched, touched_models}
 use Rattle.ob_orm.specs.Values.{new_values_fault}
@@ -113,12 +114,6 @@ module _ (models : List ModelInfo) (policy : PolicyData) (user : RecId) (model :
 abbrev pub StopsWrite : List ModelInfo → PolicyData → Author → ModelNo → Tables → List RecId → Change → Refusal → Type 0
 StopsWrite models policy by model old own change (refusal.Constraint b) = IsAdmissible models policy by.user model old own change × IsBroken models (changed models by model old change) b
 StopsWrite models policy by model old own change why = BarsWrite models policy by.user model old own change why
-
--- what arguments ask for is refused so; or they are malformed, first at this place
-abbrev pub RefusesAsked : {A : Type 0} → (A → Refusal → Type 0) → Result A (List PathStep) → Refusal → Type 0
-RefusesAsked stops (Ok asked) why = stops asked why
-RefusesAsked stops (Err place) (refusal.Request told) = told ≡ place
-RefusesAsked stops (Err place) _ = ⊥
 
 -- a write that is carried out for a caller in these groups: nothing stands against it, nothing is broken, and the answer is true
 pub record IsWritten (models : List ModelInfo) (policy : PolicyData) (called : Called) (old : Tables) (json : Data) (new : Tables) (own : List RecId) : Type 0 where

@@ -23,34 +23,31 @@ use ob_domain::HoldFault;
 use ob_io::Keeper;
 use std::alloc::Global;
 
-/// Who calls: the policy, his groups, and his id.
+/// Who calls: the policy by which he is judged, his groups (`groups_of`), and his id.
 #[derive(Clone, Copy)]
-pub(crate) struct Caller<'c> {
-    pub(crate) policy: &'c Policy,
-    pub(crate) groups: &'c GroupSet,
-    pub(crate) user: RecId,
+pub struct Caller<'c> {
+    pub policy: &'c Policy,
+    pub groups: &'c GroupSet,
+    pub user: RecId,
 }
 
 /// A row that rules deny a caller, and the full name of the rule.
 #[derive(Drop)]
-pub(crate) struct Denied {
-    pub(crate) row: RowKey,
-    pub(crate) rule: Word,
+pub struct Denied {
+    pub row: RowKey,
+    pub rule: Word,
 }
 
-/// Whether he may do this to rows of a model.
-pub(crate) fn may(by: &Caller<'_>, op: Op, model: ModelNo) -> bool
+/// Whether a caller may do this to rows of a model, by the policy.
+pub fn may(by: &Caller<'_>, op: Op, model: ModelNo) -> bool
     ensures { result ≡ may_by by.now (op, model) }
 {
     by.policy.right(by.groups, by.user, model, op)
 }
 
-/// The first of some fields of a model that he may not give a value.
-pub(crate) fn first_unwritable(
-    by: &Caller<'_>,
-    model: ModelNo,
-    fields: &[FieldNo],
-) -> Option<FieldNo>
+/// The first of some fields of a model that a caller may not give a value, in the order in which they
+/// stand; none where he may give them all.
+pub fn first_unwritable(by: &Caller<'_>, model: ModelNo, fields: &[FieldNo]) -> Option<FieldNo>
     ensures { result ≡ find (λ field. not (may_give by.now model field)) fields.now }
 {
     for field in fields {
@@ -69,8 +66,10 @@ fn may_give(by: &Caller<'_>, model: ModelNo, field: FieldNo) -> bool
         .field_right(by.groups, by.user, model, field, true)
 }
 
-/// The groups of a user; none where the registry has no model of users.
-pub(crate) fn groups_of<K: Keeper>(
+/// The groups of a user, by the rows of users as the engine settled them last, whatever is staged;
+/// none where the registry has no model of users. Refused only where the keeper fails or memory is wanting. The
+/// engine stays as it was.
+pub fn groups_of<K: Keeper>(
     alloc: Global,
     engine: &mut Engine<'_, K>,
     policy: &Policy,
@@ -100,12 +99,9 @@ fn no_groups(alloc: Global, policy: &Policy) -> Result<GroupSet, NoMemory>
     policy.groups_of(alloc, &RefList::new(alloc))
 }
 
-/// The rows of a model that have these ids.
-pub(crate) fn rows_named(
-    alloc: Global,
-    model: ModelNo,
-    ids: &[u64],
-) -> Result<Vec<RowKey>, NoMemory>
+/// The rows of a model that have these ids, in the order of these. Each id is any number: whether a
+/// row has it isn't asked.
+pub fn rows_named(alloc: Global, model: ModelNo, ids: &[u64]) -> Result<Vec<RowKey>, NoMemory>
     ensures { IfOk result (λ rows. rows.items ≡ rows_named model ids.now) }
 {
     let rows = ids.iter().map(|id| RowKey {
@@ -115,8 +111,11 @@ pub(crate) fn rows_named(
     Ok(rows.collect(alloc)?)
 }
 
-/// Whether rules admit some rows that are there to him. Refused is the least that one denies.
-pub(crate) fn test_rules<K: Keeper>(
+/// Tests that rules admit some rows to a caller for an operation, by what the engine settled last.
+/// Refused is the least that one denies him, by model and id, with the full name of the rule; else a
+/// fault of the keeper or want of memory. The caller sees to it that the policy is one over the
+/// registry and that the rows are there. The engine stays as it was.
+pub fn test_rules<K: Keeper>(
     alloc: Global,
     engine: &mut Engine<'_, K>,
     by: &Caller<'_>,
@@ -139,8 +138,11 @@ pub(crate) fn test_rules<K: Keeper>(
     }
 }
 
-/// The least of some rows that are there which a rule denies him, by model and id, and the rule.
-pub(crate) fn least_denied<K: Keeper>(
+/// The least of some rows that a rule denies a caller for an operation, by model and id, and the
+/// rule; none where rules admit them all. Asked is what the engine settled last. Refused only where
+/// the keeper fails or memory is wanting. The caller sees to it that the policy is one over the
+/// registry and that the rows are there. The engine stays as it was.
+pub fn least_denied<K: Keeper>(
     alloc: Global,
     engine: &mut Engine<'_, K>,
     by: &Caller<'_>,

@@ -7,26 +7,23 @@ ghost use Rattle.ob_schema.specs.Models.{is_moment};
 
 use ob_base::{RecId, Value};
 
-/// Who makes or changes rows, and at which moment.
+/// Who makes or changes rows, and at which moment, in seconds from 1970-01-01 00:00:00 UTC.
 #[derive(Clone, Copy)]
-pub(crate) struct Author {
-    pub(crate) user: RecId,
-    pub(crate) now: i64,
+pub struct Author {
+    pub user: RecId,
+    pub now: i64,
 }
 
-/// The user as which the system itself makes rows.
-pub(crate) const SYSTEM: RecId = RecId(1);
-
-/// Whether an author stamps a field of a row that it changes, or makes: its last change, and of a
-/// row that is made its making too.
-pub(crate) fn is_stamp(made: bool, name: &str) -> bool
+/// Whether an author stamps a field of this name in a row that it changes, or makes (`made`): what
+/// tells of its last change, and of a row that is made what tells of its making too.
+pub fn is_stamp(made: bool, name: &str) -> bool
     ensures { result ≡ is_stamp made name.now }
 {
     (made && tells_making(name)) || tells_change(name)
 }
 
-/// The value of a stamp: the moment in a date, else the user.
-pub(crate) fn stamp(author: Author, name: &str) -> Value
+/// The value that an author stamps in a field of this name: the moment in a date, else the user.
+pub fn stamp(author: Author, name: &str) -> Value
     ensures { result ≡ stamp author name.now }
 {
     if is_date(name) {
@@ -36,15 +33,15 @@ pub(crate) fn stamp(author: Author, name: &str) -> Value
     }
 }
 
-/// Whether a stamp tells of the making of a row.
-fn tells_making(name: &str) -> bool
+/// Whether a field of this name tells of the making of a row: when, or by whom.
+pub fn tells_making(name: &str) -> bool
     ensures { result ≡ tells_making name.now }
 {
     name == "create_date" || name == "create_uid"
 }
 
-/// Whether a stamp tells of the last change of a row.
-fn tells_change(name: &str) -> bool
+/// Whether a field of this name tells of the last change of a row: when, or by whom.
+pub fn tells_change(name: &str) -> bool
     ensures { result ≡ tells_change name.now }
 {
     name == "write_date" || name == "write_uid"

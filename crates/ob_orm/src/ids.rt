@@ -6,8 +6,9 @@ ghost use Rattle.ob_schema.specs.Models.{HasModel, field_at, is_id_from};
 use ob_base::{Cell, ModelNo, RecId};
 use ob_schema::Schema;
 
-/// The cell of the field `id` of a row.
-pub(crate) fn id_cell(schema: &Schema, model: ModelNo, id: RecId) -> Cell
+/// The cell of the field `id` of a row, whether it is there or not. The caller sees to it that the
+/// registry has the model.
+pub fn id_cell(schema: &Schema, model: ModelNo, id: RecId) -> Cell
     requires model { HasModel schema.now model }
     ensures row { (result.model ≡ model) × (result.id ≡ id) }
     ensures field { IsSomeAnd (field_at schema.now model result.field) (λ info. is_id_from info.origin ≡ true) }

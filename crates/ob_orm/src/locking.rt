@@ -17,8 +17,10 @@ use ob_cache::Engine;
 use ob_io::Keeper;
 use ob_schema::{ModelInfo, Schema};
 
-/// Whether a row is locked.
-pub(crate) fn is_locked<K: Keeper>(engine: &mut Engine<'_, K>, row: RowKey) -> Result<bool, Refusal>
+/// Whether a row is locked, by what the engine settled last; of one that isn't there nothing is told.
+/// Refused only where the keeper fails or memory is wanting. The caller sees to it that the engine
+/// has settled and that the registry has the model. The engine stays as it was.
+pub fn is_locked<K: Keeper>(engine: &mut Engine<'_, K>, row: RowKey) -> Result<bool, Refusal>
     requires model { HasModel engine.old.held.models row.model }
     requires rest { engine.old.held.phase ≡ phase.Settled }
     ensures told { IfOk result (λ locked. (tables : Tables) → RestsAt (K.kept engine.old.keeper.now) engine.old.held tables
@@ -63,8 +65,9 @@ fn locking_place(info: &ModelInfo) -> Option<usize>
         .position(|field| field.name.as_str() == "locked")
 }
 
-/// The field by whose cell a locked row is told.
-pub(crate) fn told_field(schema: &Schema, model: ModelNo) -> FieldNo
+/// The field by whose cell a locked row of a model is told: the state of a picking or a move of stock,
+/// else the id. The caller sees to it that the registry has the model.
+pub fn told_field(schema: &Schema, model: ModelNo) -> FieldNo
     requires model { HasModel schema.now model }
     ensures number { IfSome (model_at schema.now model) (λ info. spec.told_field info ≡ Some result) }
     ensures there { HasField schema.now model result }

@@ -31,10 +31,10 @@ use std::alloc::Global;
 
 /// What rows are made with: the registry, who makes them and when, and memory.
 #[derive(Clone, Copy)]
-pub(crate) struct Maker<'s> {
-    pub(crate) alloc: Global,
-    pub(crate) schema: &'s Schema,
-    pub(crate) author: Author,
+pub struct Maker<'s> {
+    pub alloc: Global,
+    pub schema: &'s Schema,
+    pub author: Author,
 }
 
 /// Makes rows of given values one behind another, and answers their ids.
@@ -61,8 +61,12 @@ pub(crate) fn make_rows(
     Ok(ids)
 }
 
-/// Makes a row of given values, with rows of its parents, and answers its id.
-pub(crate) fn make_row(
+/// Makes a row of given values, by the numbers of the model's fields, behind those that were made so
+/// far, with rows of its parents, and answers its id, which is the model's next one: one past the
+/// limit is told where the rows are settled (`settle_rows`). The caller sees to it that the registry
+/// has the model, that each value is one of its field, and that the moment lies within the years 0001
+/// to 9999. Where memory is wanting the rows so far are of no use.
+pub fn make_row(
     maker: &Maker<'_>,
     making: &mut Making,
     model: ModelNo,

@@ -14,8 +14,10 @@ use ob_base::{Cell, Refusal, Value};
 use ob_cache::{Engine, ReadFault};
 use ob_io::Keeper;
 
-/// The value of a cell; none where its row isn't there.
-pub(crate) fn settled_value<K: Keeper>(
+/// The value of a cell as the engine settled it last, plain or computed; none where its row isn't
+/// there. Refused only where the keeper fails or memory is wanting. The caller sees to it that the
+/// engine has settled and that the registry has the field. The engine stays as it was.
+pub fn settled_value<K: Keeper>(
     engine: &mut Engine<'_, K>,
     cell: Cell,
 ) -> Result<Option<Value>, Refusal>

@@ -20,8 +20,12 @@ use ob_cache::Engine;
 use ob_io::Keeper;
 use ob_tables::Edit;
 
-/// Settles the engine with edits; else it rests as it did.
-pub(crate) fn settle_edits<K: Keeper, L: Ledger>(
+/// Settles the engine with all of these edits, one behind another; it isn't flushed. Where the tables
+/// with them break something the refusal names one thing that they break, by its cell; where the
+/// keeper fails or memory is wanting it says so; and the engine rests as it did. The caller sees to it
+/// that the engine rests, that each edit fits the registry, and that no row is made under an id past
+/// the greatest next id that can be kept.
+pub fn settle_edits<K: Keeper, L: Ledger>(
     engine: &mut Engine<'_, K>,
     edits: &[Edit],
     steps: &mut Steps<L>,

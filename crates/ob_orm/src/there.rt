@@ -18,8 +18,10 @@ use ob_cache::Engine;
 use ob_call::least;
 use ob_io::Keeper;
 
-/// The least of the ids that no row has.
-pub(crate) fn missing_id<K: Keeper>(
+/// The least of some ids that no row of a model has, by what the engine settled last; none where each
+/// has one. Refused only where the keeper fails or memory is wanting. The caller sees to it that the
+/// engine has settled and that the registry has the model. The engine stays as it was.
+pub fn missing_id<K: Keeper>(
     engine: &mut Engine<'_, K>,
     model: ModelNo,
     ids: &[u64],
@@ -44,8 +46,10 @@ pub(crate) fn missing_id<K: Keeper>(
     Ok(missing)
 }
 
-/// Whether a row is there.
-pub(crate) fn is_there<K: Keeper>(
+/// Whether a row of a model is there, by what the engine settled last. Refused only where the keeper
+/// fails or memory is wanting. The caller sees to it that the engine has settled and that the
+/// registry has the model. The engine stays as it was.
+pub fn is_there<K: Keeper>(
     engine: &mut Engine<'_, K>,
     model: ModelNo,
     id: RecId,

@@ -28,7 +28,7 @@ ghost use Rattle.ob_schema.specs.Tables.{Tables};
 
 mod barring;
 mod change;
-mod edits;
+pub(crate) mod edits;
 mod touched;
 
 use crate::asking::{Caller, groups_of};

@@ -162,7 +162,7 @@ module _ (models : List Gathered) where
   pub parents_of : (g : Gathered) (info : ModelInfo) → IsModelOf models g info → AllZip (IsParentOf g) (links_of models g) info.inherits
   parents_of g info is = parents_zip g (links_of models g) info.inherits is.inherits is.parents
 
-  back_given : (f : FieldDef) (key : Option (List ℕ)) → is_some (back_number models f key) ≡ true → is_some key ≡ true
+  pub back_given : (f : FieldDef) (key : Option (List ℕ)) → is_some (back_number models f key) ≡ true → is_some key ≡ true
   back_given f None back = absurd (false≢true back)
   back_given f (Some name) back = refl
 

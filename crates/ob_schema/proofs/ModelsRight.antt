@@ -1,5 +1,5 @@
 -- Each model of the registry is right among all, and so is the registry.
-use Rattle.std.proofs.Common.{◌≡◌, ◌≢◌, ℕ, zero, suc, ◌+◌, ◌<◌, ◌&&◌, ◌||◌, Bool, true, false, not, is_none, Option, Some, None, option_map, List, [], ◌∷◌, length}
+use Rattle.std.proofs.Common.{◌≡◌, ◌≢◌, ℕ, zero, suc, ◌+◌, ◌<◌, ◌&&◌, ◌||◌, Bool, true, false, not, is_none, is_some, Option, Some, None, option_map, List, [], ◌∷◌, length}
 use Rattle.std.proofs.Common.{get_or, map, inl, inr, refl, sym, ap, subst, ◌∙◌, arith}
 use Rattle.std.specs.Prelude.{All, Contains, IfSome, IsSome, IsSomeAnd, codes, slice_get, unwrap_or}
 use Rattle.std.specs.List.{AllPairs, AllZip, list_all, list_any}
@@ -20,7 +20,7 @@ use Rattle.ob_definition.specs.declared.wrong.Wrong.TheVariants as wrong
 use Rattle.ob_definition.specs.Definitions.{is_computed, is_set}
 use Rattle.ob_definition.specs.Findings.{IsFaultAt, fault_at}
 use Rattle.ob_definition.specs.Gathered.{DeclaredOrder, DeclaredSet, Gathered}
-use Rattle.ob_definition.specs.Keys.{is_many2one}
+use Rattle.ob_definition.specs.Keys.{is_many2many, is_many2one}
 use Rattle.ob_definition.specs.Members.{Member, given_members, link_def, links_from, links_of}
 use Rattle.ob_definition.specs.Members.{members_of, model_at, named, names_of, path_name}
 use Rattle.ob_definition.specs.Members.{number_of, own_member, own_members}
@@ -36,16 +36,16 @@ use Rattle.ob_schema.specs.declared.info.Origin.TheVariants as origin
 use Rattle.ob_schema.specs.declared.info.ParentInfo.{ParentInfo}
 use Rattle.ob_schema.specs.Built.{IsFieldOf, IsFormula, IsModelOf, IsOrigin, given_terms}
 use Rattle.ob_schema.specs.Formulas.{Place}
-use Rattle.ob_schema.specs.Faults.{HasRefused, HasUnknown, IsParentField, is_plain, is_plain_kept as is_kept_member, is_unknown, names_of_terms, orders_rows}
+use Rattle.ob_schema.specs.Faults.{HasRefused, HasUnknown, IsParentField, is_mirror, is_plain, is_plain_kept as is_kept_member, is_unknown, names_of_terms, orders_rows}
 use Rattle.ob_schema.specs.Fields.{is_plain_from, is_plain_kept}
 use Rattle.ob_schema.specs.Finds.{relation_of}
-use Rattle.ob_schema.specs.Models.{FieldHas, HasTreePath, IsFormulaIn, IsModel, IsParentIn, IsPlainTo, IsRegistry, IsTreePath, Orders, field_at, fields_of, is_id_from, model_at as info_at}
+use Rattle.ob_schema.specs.Models.{FieldHas, HasTreePath, IsField, IsFormulaIn, IsModel, IsParentIn, IsPlainTo, IsRegistry, IsTreePath, Orders, field_at, fields_of, is_id_from, model_at as info_at}
 use Rattle.ob_schema.specs.Paths.{step_at}
 use Rattle.ob_schema.specs.RegistryOf.{HasFieldInfo, IsInfoFrom, IsRegistryOf}
 use Rattle.ob_schema.specs.Strata.IsMember.{by_name}
 use Rattle.ob_schema.specs.Telling.{IsOrderWrong, IsParentWrong}
 use Rattle.ob_schema.proofs.Delegated.{link_inherits, link_member, link_model, own_among}
-use Rattle.ob_schema.proofs.FieldsRight.{IsParentOf, computed_info, field_right, has, is_id_info, named_info, number_there, parents_of, plain_info}
+use Rattle.ob_schema.proofs.FieldsRight.{IsParentOf, back_given, computed_info, field_right, has, is_id_info, named_info, number_there, parents_of, plain_info}
 use Rattle.ob_schema.proofs.ModelNames.{IfSome-found}
 use Rattle.ob_schema.proofs.ModelPlaces.{zip_some}
 use Rattle.ob_schema.proofs.NumbersRise.{field_no}
@@ -93,10 +93,6 @@ many2one : (t : FieldType) → is_many2one t ≡ true → t ≡ type.Many2one
 many2one type.Many2one e = refl
 many2one _ e = absurd (false≢true e)
 
-none_of : {X : Type 0} (o : Option X) → is_none o ≡ true → o ≡ None
-none_of None e = refl
-none_of (Some x) e = absurd (false≢true e)
-
 first_none : {X : Type 0} (xs : List X) → is_none (slice_get xs 0) ≡ true → xs ≡ []
 first_none [] e = refl
 first_none (x ∷ xs) e = absurd (false≢true e)
@@ -104,6 +100,15 @@ first_none (x ∷ xs) e = absurd (false≢true e)
 map_none : {X Y : Type 0} (f : X → Y) (xs : List X) → map f xs ≡ [] → xs ≡ []
 map_none f [] e = refl
 map_none f (x ∷ xs) e = absurd (cc)
+
+both_true : (a b : Bool) → a ≡ true → b ≡ true → (a && b) ≡ true
+both_true true true p q = refl
+both_true false b p q = absurd (false≢true p)
+both_true true false p q = absurd (false≢true q)
+
+not_true : (b : Bool) → not b ≡ true → b ≡ false
+not_true true e = absurd (false≢true e)
+not_true false e = refl
 
 all_true : (a b c : Bool) → a ≡ true → b ≡ true → c ≡ true → (a && (b && c)) ≡ true
 all_true true true true p q r = refl
@@ -300,22 +305,35 @@ module _ (models : List Gathered) (infos : List ModelInfo) (registry : IsRegistr
         (ap (λ (m : Member). m.def.name) one ∙ names ∙ sym (ap (λ (m : Member). m.def.name) two))
 
     -- what is known of the field of a name is known of the registry's field
-    named_has : (test : Member → Bool) (P : FieldInfo → Type 0) → ((field : FieldNo) (m : Member) (own : FieldInfo) → test m ≡ true → IsFieldOf (record { models = models; number = number; member = m }) g field own → P own)
+    named_has : (test : Member → Bool) (P : FieldInfo → Type 0)
+        → ((field : FieldNo) (m : Member) (own : FieldInfo) → test m ≡ true → field_at infos number field ≡ Some own → IsFieldOf (record { models = models; number = number; member = m }) g field own → P own)
         → (name : List ℕ) → IsNamedBy members test name → FieldHas infos P number (number_of models g name)
     named_has test P implies name by =
         let found = value_there (λ m. test m ≡ true) (named members name) by in
         let own = named_info models infos registry number g there name found.0 found.1 in
-        has models infos registry number (number_of models g name) g found.0 own P (implies (number_of models g name) found.0 own.info found.2 own.is)
+        has models infos registry number (number_of models g name) g found.0 own P (implies (number_of models g name) found.0 own.info found.2 own.at own.is)
 
-    kept_info : (field : FieldNo) (m : Member) (own : FieldInfo) → is_kept_member m ≡ true → IsFieldOf (record { models = models; number = number; member = m }) g field own → is_plain_kept own ≡ true
-    kept_info field m own kept of =
-        let last = and_parts (is_plain m && not (is_one2many m.def.field_type)) (is_none m.def.mirror) kept in
+    -- of what isn't a mirror the registry names no field back
+    unmirrored : (field : FieldNo) (m : Member) (own : FieldInfo) → is_mirror m.def ≡ false → field_at infos number field ≡ Some own → IsFieldOf (record { models = models; number = number; member = m }) g field own → own.mirror ≡ None
+    unmirrored field m own unmarked there of = by own.mirror refl
+      where
+        by : (o : Option FieldNo) → own.mirror ≡ o → own.mirror ≡ None
+        by None e = e
+        by (Some back) e =
+            let given : is_some own.mirror ≡ true = ap (λ (o : Option FieldNo). is_some o) e in
+            let right : IsField infos number info own = field_right models infos registry formulas_in number info at field own there (numbers_alike models infos zip) in
+            let many : is_many2many m.def.field_type ≡ true = sym (ap is_many2many of.field_type) ∙ right.mirror given in
+            let key : is_some m.def.mirror ≡ true = back_given models m.def m.def.mirror (sym (ap (λ (o : Option FieldNo). is_some o) of.mirror) ∙ given) in
+            absurd (false≢true (sym unmarked ∙ both_true (is_many2many m.def.field_type) (is_some m.def.mirror) many key))
+
+    kept_info : (field : FieldNo) (m : Member) (own : FieldInfo) → is_kept_member m ≡ true → field_at infos number field ≡ Some own → IsFieldOf (record { models = models; number = number; member = m }) g field own → is_plain_kept own ≡ true
+    kept_info field m own kept there of =
+        let last = and_parts (is_plain m && not (is_one2many m.def.field_type)) (not (is_mirror m.def)) kept in
         let first = and_parts (is_plain m) (not (is_one2many m.def.field_type)) last.0 in
-        let back : own.mirror ≡ None = of.mirror ∙ ap (Rattle.ob_schema.specs.Built.back_number models m.def) (none_of m.def.mirror last.1) in
         all_true (is_plain_from own.origin) (not (is_one2many own.field_type)) (is_none own.mirror)
         (plain_info (record { models = models; number = number; member = m }) g field own.origin first.0 of.origin)
         (ap (λ (t : FieldType). not (is_one2many t)) of.field_type ∙ first.1)
-        (ap is_none back)
+        (ap is_none (unmirrored field m own (not_true (is_mirror m.def) last.1) there of))
 
     unique_right : All (All (FieldHas infos (λ field. is_plain_kept field ≡ true) number)) info.unique
     unique_right =
@@ -339,14 +357,10 @@ module _ (models : List Gathered) (infos : List ModelInfo) (registry : IsRegistr
         right_key models registry.resolved number g there why
         (inr (inr (inl (k, u, within, read_within g.unique k u d within, (wrong.Kind, inl (map_none (number_of models g) u.names none), refl))))))))
 
-    orders_info : (field : FieldNo) (m : Member) (own : FieldInfo) → orders_rows m.def ≡ true → IsFieldOf (record { models = models; number = number; member = m }) g field own → Orders own
-    orders_info field m own orders of =
+    orders_info : (field : FieldNo) (m : Member) (own : FieldInfo) → orders_rows m.def ≡ true → field_at infos number field ≡ Some own → IsFieldOf (record { models = models; number = number; member = m }) g field own → Orders own
+    orders_info field m own orders there of =
         let both = and_parts (not (is_list m.def.field_type)) (not (is_computed m.def) || is_set m.def.store) orders in
-        (ap is_list of.field_type ∙ not_list (is_list m.def.field_type) both.0, of.store ∙ both.1)
-      where
-        not_list : (b : Bool) → not b ≡ true → b ≡ false
-        not_list true e = absurd (false≢true e)
-        not_list false e = refl
+        (ap is_list of.field_type ∙ not_true (is_list m.def.field_type) both.0, of.store ∙ both.1)
 
     order_right : All (λ term. FieldHas infos Orders number term.field) info.order
     order_right =

@@ -29,7 +29,7 @@ use Rattle.ob_schema.specs.Formulas.{Declares, DependsAlong, HasFormula, HasTree
 use Rattle.ob_definition.specs.EntryFaults.{HasNoParent, HasTakenLink, IsGatheringFault, MayNotInherit}
 use Rattle.ob_definition.specs.Ranking.{rank, rank_order}
 use Rattle.ob_definition.specs.Gathered.{Gathered, gathered}
-use Rattle.ob_definition.specs.Keys.{fits, is_many2one}
+use Rattle.ob_definition.specs.Keys.{fits, is_many2many, is_many2one}
 use Rattle.ob_definition.specs.Types.{is_one2many, is_list, is_relation}
 use Rattle.ob_definition.specs.Members.{Member, hidden_members, members_of, model_at, model_number, named, own_members, path_name, is_own, is_own_computed}
 use Rattle.ob_definition.specs.Names.{is_field_name}
@@ -47,9 +47,13 @@ AtModel defs spot P = (g : Gathered) × Contains (gathered defs) g × (spot.fiel
 abbrev pub is_plain : Member → Bool
 is_plain m = is_own m.role && not (is_computed m.def) && not (bytes_eq m.def.name (codes "id"))
 
+-- the rows of a mirror stand in another field: a many2many that names it
+abbrev pub is_mirror : FieldDef → Bool
+is_mirror f = is_many2many f.field_type && is_some f.mirror
+
 -- and the row keeps it
 abbrev pub is_plain_kept : Member → Bool
-is_plain_kept m = is_plain m && not (is_one2many m.def.field_type) && is_none m.def.mirror
+is_plain_kept m = is_plain m && not (is_one2many m.def.field_type) && not (is_mirror m.def)
 
 -- rows can be ordered by the field: it is no list, and a computed one is kept; a delegated one goes by its parent's
 abbrev pub orders_rows : FieldDef → Bool

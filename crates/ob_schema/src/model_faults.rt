@@ -2,7 +2,7 @@
 //! its order, and the number of its fields.
 
 ghost use Rattle.std.specs.Prelude.{◌≡◌, ◌≢◌, ◌≤◌, ◌↔◌, [], All, Any, IfOk, IsSome, IsSomeAnd, IsTrue, Some};
-ghost use Rattle.ob_schema.specs.Faults.{IsParentField, is_plain, is_plain_kept, names_of_terms, orders_rows};
+ghost use Rattle.ob_schema.specs.Faults.{IsParentField, is_mirror, is_plain, is_plain_kept, names_of_terms, orders_rows};
 ghost use Rattle.ob_definition.specs.Findings.{Adds, Tells};
 ghost use Rattle.ob_definition.specs.Members.{members_of, model_at, named};
 ghost use Rattle.ob_schema.specs.ModelFields.{member_of, named_in};
@@ -123,7 +123,14 @@ pub(crate) fn is_plain(member: &Member<'_>) -> bool
 fn is_plain_kept(member: &Member<'_>) -> bool
     ensures { result ≡ is_plain_kept (member_of member.now) }
 {
-    is_plain(member) && !member.def.field_type.is_one2many() && member.def.mirror.is_none()
+    is_plain(member) && !member.def.field_type.is_one2many() && !is_mirror(member.def)
+}
+
+/// Whether a field repeats the rows of another. Without that type the key is a fault of the field.
+fn is_mirror(def: &FieldDef) -> bool
+    ensures { result ≡ is_mirror def.now }
+{
+    def.field_type.is_many2many() && def.mirror.is_some()
 }
 
 /// What is wrong with a set of fields that no two rows share.

@@ -1,6 +1,6 @@
 -- The call that six elements or more make, where each is as it has to be.
 use Rattle.std.proofs.Common.{◌≡◌, ◌<◌, ◌≢◌, arith, length, Err, ℕ, suc, Bool, true, false, List, [], ◌∷◌, Option, Some, None, Ok, Result, option_map, refl, sym, Bor, slice_get}
-use Rattle.std.specs.Prelude.{IfSome, IsSome, option_and_then, unwrap_or}
+use Rattle.std.specs.Prelude.{option_and_then, unwrap_or}
 use Rattle.serde_json.specs.Data.{Data, object, no_members, Items, item}
 use Rattle.serde_json.specs.View.{view, items_view}
 use Rattle.serde_json.specs.declared.value.Value.{Value}
@@ -8,12 +8,11 @@ use Rattle.ob_base.specs.Chain.{◌>>=◌}
 use Rattle.ob_base.specs.declared.id.ModelNo.{ModelNo}
 use Rattle.ob_base.specs.declared.id.RecId.{RecId}
 use Rattle.ob_rpc.specs.Envelope.{is_text}
-use Rattle.ob_schema.specs.declared.info.ModelInfo.{ModelInfo}
 use Rattle.serde_json.specs.Find.{as_str}
-use Rattle.ob_schema.specs.Models.{HasModel, model_at, model_named}
+use Rattle.ob_schema.specs.Models.{model_named}
 use Rattle.stockd.specs.Directory.{Directory}
 use Rattle.stockd.specs.MethodCall.{LooksUpCaller}
-use Rattle.stockd.specs.Request.{Call, call_in, call_of, caller_of, element, method_named, method_of, named_args, whole_number}
+use Rattle.stockd.specs.Request.{Call, call_in, call_of, caller_of, element, method_named, named_args, whole_number}
 use Rattle.stockd.specs.Setup.{Setup}
 use Rattle.stockd.specs.declared.request.Layout.{Layout}
 use Rattle.stockd.specs.declared.request.Method.{Method}
@@ -28,13 +27,6 @@ named_first (v ∷ rest) (Some kw) is = let same : kw.now ≡ v = cc in rw same 
 -- the answer that a call with these arguments by name is found
 abbrev pub with_kw : RecId → Layout → ModelNo → Method → (args kw : Data) → Result Call ℕ
 with_kw caller layout m meth args kw = Ok (record { caller = caller; model = m; method = meth; args = args; kw = kw; layout = layout })
-
--- the method of a model that is there
-pub method_there : (models : List ModelInfo) (m : ModelNo) (d : Data) (r : Option Method) → HasModel models m → IfSome (model_at models m) (λ info. r ≡ method_named models info d) → method_of models m d ≡ r
-method_there models m d r there named = by (model_at models m) there named where
-  by : (o : Option ModelInfo) → IsSome o → IfSome o (λ info. r ≡ method_named models info d) → option_and_then (λ info. method_named models info d) o ≡ r
-  by None there named = absurd cc
-  by (Some info) there named = sym named
 
 -- what is wrong behind the first element isn't wrong there
 past_first : {A B : Type 0} (n : ℕ) (o : Option A) (next : A → Result B ℕ) → ((a : A) → next a ≢ Err 0) → (element (suc n) o >>= next) ≢ Err 0
@@ -54,7 +46,7 @@ module _ (setup : Setup) (directory : Directory) (layout : Layout) (db user key 
     pub looks_up : LooksUpCaller (call_of setup directory layout elements)
     looks_up = rw is_db
         (past_first 0 (caller_of directory user key) (call_in setup.models layout model method args rest)
-        (λ caller. past_first 2 (option_and_then (model_named setup.models) (as_str model)) _ (λ number. past_first 3 (method_of setup.models number method) _ (λ named none. absurd cc))))
+        (λ caller. past_first 2 (option_and_then (model_named setup.models) (as_str model)) _ (λ number. past_first 3 (method_named method) _ (λ named none. absurd cc))))
 
     -- those of no caller are wrong at the user
     pub no_caller : caller_of directory user key ≡ None → call_of setup directory layout elements ≡ Err 1
@@ -67,11 +59,11 @@ module _ (setup : Setup) (directory : Directory) (layout : Layout) (db user key 
 
       module _ (m : ModelNo) (found : option_and_then (model_named setup.models) (as_str model) ≡ Some m) where
         -- without a method of it at that of the method
-        pub no_method : method_of setup.models m method ≡ None → call_of setup directory layout elements ≡ Err 4
+        pub no_method : method_named method ≡ None → call_of setup directory layout elements ≡ Err 4
         no_method named = rw (is_db, is_caller, found, named) refl
 
         -- else they make a call
-        pub call_found : (meth : Method) → method_of setup.models m method ≡ Some meth → call_of setup directory layout elements ≡ with_kw caller layout m meth args (named_args rest)
+        pub call_found : (meth : Method) → method_named method ≡ Some meth → call_of setup directory layout elements ≡ with_kw caller layout m meth args (named_args rest)
         call_found meth named = rw (is_db, is_caller, found, named) refl
 
 -- ---- the caller

@@ -8,9 +8,9 @@ use Rattle.ob_cache.specs.Stages.{resting}
 use Rattle.ob_cache.specs.Standing.{Holding, RestsAt, Stands, Stays}
 use Rattle.ob_io.specs.Moments.{later}
 use Rattle.ob_io.specs.Store.{Store}
-use Rattle.ob_orm.specs.Install.{IsInstalled, IsRefused, RefusesRows, course}
-use Rattle.ob_orm.specs.declared.installing.InstallFault.{InstallFault}
-use Rattle.ob_orm.specs.declared.installing.InstallFault.TheVariants as install
+use Rattle.ob_install.specs.Install.{IsInstalled, IsRefused, RefusesRows, course}
+use Rattle.ob_install.specs.declared.installing.InstallFault.{InstallFault}
+use Rattle.ob_install.specs.declared.installing.InstallFault.TheVariants as install
 use Rattle.ob_schema.specs.Tables.{Tables, empty_tables}
 use Rattle.ob_schema.specs.declared.info.ModelInfo.{ModelInfo}
 use Rattle.ob_schema.specs.declared.preset.PresetRow.{PresetRow}

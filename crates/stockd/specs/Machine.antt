@@ -4,12 +4,11 @@ use Rattle.serde_json.specs.Data.{Data}
 use Rattle.ob_access.specs.Policies.{PolicyData}
 use Rattle.ob_base.specs.declared.refusal.Refusal.{Refusal}
 use Rattle.ob_call.specs.Called.{Called}
+use Rattle.ob_commands.specs.Told.{CreatesRows, CreatesRowsCause, WritesRows, WritesRowsCause}
 use Rattle.ob_io.specs.Cause.{Rose}
 use Rattle.ob_io.specs.Moments.{later}
-use Rattle.ob_orm.specs.Create.{CreateCause, Creates}
-use Rattle.ob_orm.specs.FieldsGet.{GetsFields, GetsFieldsCause}
-use Rattle.ob_orm.specs.Unlink.{UnlinkCause, Unlinks}
-use Rattle.ob_orm.specs.Write.{WriteCause, Writes}
+use Rattle.ob_fields.specs.FieldsGet.{GetsFields, GetsFieldsCause}
+use Rattle.ob_unlink.specs.Unlink.{UnlinkCause, Unlinks}
 use Rattle.ob_query.specs.Groups.{Groups, GroupsCause}
 use Rattle.ob_query.specs.Read.{ReadCause, Reads}
 use Rattle.ob_query.specs.Search.{SearchCause, SearchCountCause, SearchCounts, SearchReadCause, SearchReads, Searches}
@@ -44,8 +43,8 @@ Tells reading.FieldsGet models policy = GetsFields models policy
 
 -- what a method that writes makes of tables
 abbrev pub Makes : WriteMethod → List ModelInfo → PolicyData → Called → Tables → Result Data Refusal → Tables → Type 0
-Makes writing.Create models policy = Creates models policy
-Makes writing.Write models policy = Writes models policy
+Makes writing.Create models policy = CreatesRows models policy
+Makes writing.Write models policy = WritesRows models policy
 Makes writing.Unlink models policy = Unlinks models policy
 
 -- when a method that reads may be refused, whatever the keeper tells
@@ -59,8 +58,8 @@ TellsCause reading.FieldsGet models policy = GetsFieldsCause
 
 -- when a method that writes may
 abbrev pub MakesCause : WriteMethod → List ModelInfo → PolicyData → Called → Refusal → Type 0
-MakesCause writing.Create models policy = CreateCause models policy
-MakesCause writing.Write models policy = WriteCause models policy
+MakesCause writing.Create models policy = CreatesRowsCause models policy
+MakesCause writing.Write models policy = WritesRowsCause models policy
 MakesCause writing.Unlink models policy = UnlinkCause models policy
 
 -- when a method may

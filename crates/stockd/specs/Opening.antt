@@ -5,7 +5,7 @@ use Rattle.ob_cache.specs.Kept.{OthersStay}
 use Rattle.ob_io.specs.Cause.{Rose}
 use Rattle.ob_io.specs.Moments.{later}
 use Rattle.ob_io.specs.Store.{Store}
-use Rattle.ob_orm.specs.Install.{IsInstalled, IsRefused, course}
+use Rattle.ob_install.specs.Install.{IsInstalled, IsRefused, course}
 use Rattle.ob_schema.specs.Tables.{Tables, empty_tables}
 use Rattle.ob_schema.specs.declared.info.ModelInfo.{ModelInfo}
 use Rattle.ob_schema.specs.declared.preset.PresetRow.{PresetRow}

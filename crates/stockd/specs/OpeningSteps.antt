@@ -2,8 +2,8 @@
 use Rattle.std.specs.Prelude.{◌≡◌, ◌<◌, List, length, slice_get, IsSomeAnd, ⊤}
 use Rattle.ob_io.specs.declared.keeper.KeepFault.{KeepFault}
 use Rattle.ob_io.specs.declared.keeper.KeepFault.TheVariants as keep
-use Rattle.ob_orm.specs.declared.installing.InstallFault.{InstallFault}
-use Rattle.ob_orm.specs.declared.installing.InstallFault.TheVariants as install
+use Rattle.ob_install.specs.declared.installing.InstallFault.{InstallFault}
+use Rattle.ob_install.specs.declared.installing.InstallFault.TheVariants as install
 use Rattle.ob_schema.specs.declared.preset.PresetRow.{PresetRow}
 use Rattle.stockd.specs.Opening.{row_text}
 use Rattle.stockd.specs.declared.ending.Ending.{Ending}

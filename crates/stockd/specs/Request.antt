@@ -5,8 +5,7 @@ use Rattle.ob_base.specs.declared.id.ModelNo.{ModelNo}
 use Rattle.ob_base.specs.declared.id.RecId.{RecId}
 use Rattle.ob_base.specs.declared.place.PathStep.{PathStep}
 use Rattle.ob_rpc.specs.Envelope.{Envelope, Fault, element_place, is_text}
-use Rattle.ob_orm.specs.Creatable.{is_creatable, is_writable}
-use Rattle.ob_schema.specs.Models.{model_at, model_named}
+use Rattle.ob_schema.specs.Models.{model_named}
 use Rattle.ob_schema.specs.declared.info.ModelInfo.{ModelInfo}
 use Rattle.serde_json.specs.Data.{Data, array, boolean, number, object, string, no_members, put, unsigned, Items, no_items, item}
 use Rattle.serde_json.specs.Events.{items_len}
@@ -50,23 +49,19 @@ caller_with directory id key = if directory.may_call (record { 0 = id }) key the
 abbrev pub caller_of : Directory → (user key : Data) → Option RecId
 caller_of directory user key = option_and_then (λ id. option_and_then (caller_with directory id) (as_str key)) (whole_number user)
 
--- the method of a name that a model has: each can be read, searched and counted, has its fields told, and has rows deleted; rows are made of those of which a create makes any, and changed of those of which a write changes any
-abbrev pub method_named : List ModelInfo → ModelInfo → Data → Option Method
-method_named models info d =
+-- the method of a name: each model can be read, searched and counted, has its fields told, and has rows made, changed and deleted
+abbrev pub method_named : Data → Option Method
+method_named d =
     if is_text (codes "read") d then Some (method.Reads reading.Read)
     else if is_text (codes "search") d then Some (method.Reads reading.Search)
     else if is_text (codes "search_count") d then Some (method.Reads reading.SearchCount)
     else if is_text (codes "search_read") d then Some (method.Reads reading.SearchRead)
     else if is_text (codes "read_group") d then Some (method.Reads reading.ReadGroup)
     else if is_text (codes "fields_get") d then Some (method.Reads reading.FieldsGet)
-    else if is_text (codes "create") d && is_creatable models info then Some (method.Writes writing.Create)
-    else if is_text (codes "write") d && is_writable models info then Some (method.Writes writing.Write)
+    else if is_text (codes "create") d then Some (method.Writes writing.Create)
+    else if is_text (codes "write") d then Some (method.Writes writing.Write)
     else if is_text (codes "unlink") d then Some (method.Writes writing.Unlink)
     else None
-
--- of the model of a number
-abbrev pub method_of : List ModelInfo → ModelNo → Data → Option Method
-method_of models model d = option_and_then (λ info. method_named models info d) (model_at models model)
 
 -- the arguments by name, which may be absent
 abbrev pub named_args : Items → Data
@@ -81,7 +76,7 @@ element n (Some x) = Ok x
 -- the call of a caller's model and method, with the rest of the elements; the first that is wrong is told
 abbrev pub call_in : List ModelInfo → Layout → (model method args : Data) → Items → RecId → Result Call ℕ
 call_in models layout model method args rest caller =
-    element 3 (option_and_then (model_named models) (as_str model)) >>= λ number. element 4 (method_of models number method)
+    element 3 (option_and_then (model_named models) (as_str model)) >>= λ number. element 4 (method_named method)
     >>= λ named. Ok (record { caller = caller; model = number; method = named; args = args; kw = named_args rest; layout = layout })
 
 -- The call that the elements of an envelope make, or the number of the first that is wrong;

@@ -33,10 +33,12 @@ use ob_access::Policy;
 use ob_base::{Ledger, NoMemory, Refusal, Sequence, Steps};
 use ob_cache::Engine;
 use ob_call::Call;
+use ob_commands::{create, write};
+use ob_fields::fields_get;
 use ob_io::{Clock, KeepFault, Keeper};
-use ob_orm::{create, fields_get, unlink, write};
 use ob_query::{read, read_group, search, search_count, search_read};
 use ob_rpc::{EnvFault, Envelope, Json, Outcome, Served, envelope, reply_text};
+use ob_unlink::unlink;
 use serde_json::Map;
 use std::alloc::Global;
 

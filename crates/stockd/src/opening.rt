@@ -8,7 +8,7 @@ ghost use Rattle.ob_cache.specs.Calls.{HasTables, IsResting, KeeperRose, models_
 ghost use Rattle.ob_cache.specs.Kept.{OthersStay};
 ghost use Rattle.ob_cache.specs.Standing.{IsAtRest, RestsAt};
 ghost use Rattle.ob_io.specs.Cause.{Rose};
-ghost use Rattle.ob_orm.specs.Install.{IsInstalled, IsNew};
+ghost use Rattle.ob_install.specs.Install.{IsInstalled, IsNew};
 ghost use Rattle.ob_schema.specs.Presets.{IsPreset};
 ghost use Rattle.ob_schema.specs.Tables.{Tables};
 ghost use Rattle.stockd.specs.Ending.{HasReason};
@@ -23,8 +23,8 @@ use crate::session::serve_lines;
 use crate::terms::Terms;
 use ob_base::{Silent, Steps, Word};
 use ob_cache::Engine;
+use ob_install::{InstallFault, install, is_new};
 use ob_io::{Clock, Door, KeepFault, Keeper, Sink, Source};
-use ob_orm::{InstallFault, install, is_new};
 use ob_schema::{Preset, PresetRow};
 use std::alloc::Global;
 

@@ -1,11 +1,11 @@
-//! What the elements of an envelope ask for: a call of a method of a model. Which methods a model
-//! has so far stands here; the first element that is wrong is told by its number.
+//! What the elements of an envelope ask for: a call of a method of a model. Which methods models
+//! have so far stands here; the first element that is wrong is told by its number.
 
 ghost use Rattle.std.specs.Prelude.{◌≡◌, option_and_then, IfErr, IfOk, IfSome};
 ghost use Rattle.ob_cache.specs.Calls.{IsResting, models_at, standpoint};
 ghost use Rattle.ob_query.specs.SearchQuestions.{IsUnanswered, OnlyAsked};
 ghost use Rattle.ob_rpc.specs.Envelope.{is_text};
-ghost use Rattle.ob_schema.specs.Models.{HasModel, model_at, model_named};
+ghost use Rattle.ob_schema.specs.Models.{HasModel, model_named};
 ghost use Rattle.serde_json.specs.Find.{as_str};
 ghost use Rattle.serde_json.specs.View.{view, items_view};
 ghost use Rattle.stockd.specs.Directory.{OfDirectory};
@@ -18,7 +18,6 @@ use crate::terms::Terms;
 use ob_base::{ModelNo, RecId};
 use ob_cache::Engine;
 use ob_io::{KeepFault, Keeper};
-use ob_orm::{is_creatable, is_writable};
 use ob_rpc::Json;
 use ob_schema::Schema;
 
@@ -107,7 +106,7 @@ pub(crate) fn call_of<'a, K: Keeper>(
     let Some(model) = model_named(schema, model) else {
         return Err(ElementFault::Wrong(3));
     };
-    let Some(method) = method_named(schema, model, method) else {
+    let Some(method) = method_named(method) else {
         return Err(ElementFault::Wrong(4));
     };
     Ok(MethodCall {
@@ -128,10 +127,9 @@ fn model_named(schema: &Schema, model: &Json) -> Option<ModelNo>
     schema.model(model.as_str()?)
 }
 
-/// The method of a name that a model has.
-fn method_named(schema: &Schema, model: ModelNo, method: &Json) -> Option<Method>
-    requires model { HasModel schema.now model }
-    ensures { IfSome (model_at schema.now model) (λ info. result ≡ method_named schema.now info (view method.now)) }
+/// The method of a name. Each model has those that stand here.
+fn method_named(method: &Json) -> Option<Method>
+    ensures { result ≡ method_named (view method.now) }
 {
     if is_text(method, "read") {
         Some(Method::Reads(ReadMethod::Read))
@@ -145,9 +143,9 @@ fn method_named(schema: &Schema, model: ModelNo, method: &Json) -> Option<Method
         Some(Method::Reads(ReadMethod::ReadGroup))
     } else if is_text(method, "fields_get") {
         Some(Method::Reads(ReadMethod::FieldsGet))
-    } else if is_text(method, "create") && is_creatable(schema, model) {
+    } else if is_text(method, "create") {
         Some(Method::Writes(WriteMethod::Create))
-    } else if is_text(method, "write") && is_writable(schema, model) {
+    } else if is_text(method, "write") {
         Some(Method::Writes(WriteMethod::Write))
     } else if is_text(method, "unlink") {
         Some(Method::Writes(WriteMethod::Unlink))

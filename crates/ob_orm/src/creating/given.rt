@@ -80,9 +80,9 @@ fn is_given(schema: &Schema, model: ModelNo, name: &str) -> bool
     }
 }
 
-/// Whether calls give values to a field of a row: it is free, or delegated to a parent's free field
-/// that isn't fixed.
-fn is_settable(schema: &Schema, field: &FieldInfo) -> bool
+/// Whether `create` and `write` give values to a field of a row: it is free, which is plain, no list
+/// of rows and not managed, or delegated to a parent's free field that isn't fixed.
+pub fn is_settable(schema: &Schema, field: &FieldInfo) -> bool
     ensures { result ≡ spec.is_settable schema.now field.now }
 {
     match &field.origin {

@@ -16,8 +16,11 @@ use crate::making::Maker;
 use crate::row_values::{default_value, push_valued};
 use ob_base::{FieldNo, ModelNo, NoMemory, Sequence, Value};
 
-/// The values of the plain fields of a row, made or changed by the author, that get one.
-pub(crate) fn filled(
+/// The values of the plain fields of a row, made (`made`) or changed by the author, that get one:
+/// what the author stamps, else what is given, else in a row that is made the default. `given` has
+/// values by the numbers of the model's fields. The caller sees to it that the registry has the model,
+/// that each value is one of its field, and that the moment lies within the years 0001 to 9999.
+pub fn filled(
     maker: &Maker<'_>,
     made: bool,
     model: ModelNo,
@@ -68,8 +71,8 @@ fn filled_value(
     }
 }
 
-/// The value that is given for a field, by its number.
-pub(crate) fn value_for(given: &[(FieldNo, Value)], number: FieldNo) -> Option<&Value>
+/// The value that is given for a field, by its number: the first, where several are.
+pub fn value_for(given: &[(FieldNo, Value)], number: FieldNo) -> Option<&Value>
     ensures { option_map (λ value. value.now) result ≡ value_for given.now number.0 }
 {
     for one in given {

@@ -21,9 +21,10 @@ use ob_io::Keeper;
 use ob_schema::Schema;
 use ob_tables::Edit;
 
-/// Settles the engine with rows that were made; else it rests as it did. One that has an id past
-/// the limit is told before anything is staged.
-pub(crate) fn settle_rows<K: Keeper, L: Ledger>(
+/// Settles the engine with rows that were made; it isn't flushed. Refused is a row that has an id past
+/// the limit of ids, the first of the edits, before anything is staged; else as edits are
+/// (`settle_edits`); and the engine rests as it did. The caller sees to it that the engine rests.
+pub fn settle_rows<K: Keeper, L: Ledger>(
     engine: &mut Engine<'_, K>,
     making: &Making,
     steps: &mut Steps<L>,

@@ -22,13 +22,14 @@ use std::collections::BTreeMap;
 /// Rows that are made so far: the edits that make them, and by models' numbers the ids that the
 /// next rows take.
 #[derive(Drop)]
-pub(crate) struct Making {
-    pub(crate) next_ids: BTreeMap<u16, u64>,
-    pub(crate) edits: Vec<Edit>,
+pub struct Making {
+    pub next_ids: BTreeMap<u16, u64>,
+    pub edits: Vec<Edit>,
 }
 
-/// No rows so far, over an engine that rests.
-pub(crate) fn begun<K: Keeper>(alloc: Global, engine: &mut Engine<'_, K>) -> Result<Making, Refusal>
+/// No rows so far, with the next ids of an engine that rests. Refused only where the keeper fails or
+/// memory is wanting. The engine stays as it was.
+pub fn begun<K: Keeper>(alloc: Global, engine: &mut Engine<'_, K>) -> Result<Making, Refusal>
     requires rest { IsAtRest engine.old.held.models engine.old.held }
     ensures none { IfOk result (λ making. making.edits.items ≡ []) }
     ensures ready { IfOk result (IsReady engine.old.held.models) }

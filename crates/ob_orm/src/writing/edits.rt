@@ -157,8 +157,12 @@ fn push_parent<K: Keeper>(
     }
 }
 
-/// The row that a row's link to a parent names behind the change.
-pub(crate) fn linked_row<K: Keeper>(
+/// The row that a row's link to a parent names behind a change of what is given: the given one, else
+/// that which the engine settled last; none where neither names one, or the row isn't there. `given`
+/// has values by the numbers of the model's fields. Refused only where the keeper fails or memory is
+/// wanting. The caller sees to it that the engine has settled, that the parent is one of the model,
+/// and that each value is one of its field. The engine stays as it was.
+pub fn linked_row<K: Keeper>(
     engine: &mut Engine<'_, K>,
     model: ModelNo,
     id: u64,

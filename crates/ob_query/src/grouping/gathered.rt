@@ -137,9 +137,7 @@ fn group_values<K: Keeper>(
     let mut values = Vec::new(alloc);
     for grouping in groupings {
         let value = value_in(alloc, engine, by, model, field_of(grouping), id)?;
-        values
-            .push(grouped(grouping, value))
-            .map_err(|_| KeepFault::NoMemory)?;
+        values.push(grouped(grouping, value))?;
     }
     Ok(values)
 }
@@ -180,7 +178,7 @@ fn row_values<K: Keeper>(
     let mut values = Vec::new(alloc);
     for aggregate in aggregates {
         let value = value_in(alloc, engine, by, model, told_field(aggregate), id)?;
-        values.push(value).map_err(|_| KeepFault::NoMemory)?;
+        values.push(value)?;
     }
     Ok(values)
 }

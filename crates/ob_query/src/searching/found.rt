@@ -85,7 +85,7 @@ fn first_found<K: Keeper>(
 {
     let mut ids = Vec::new(alloc);
     while let Some(id) = next_found(alloc, engine, sought, walk)? {
-        ids.push(id).map_err(|_| KeepFault::NoMemory)?;
+        ids.push(id)?;
         if ids.len() as u64 == sought.limit {
             return Ok(ids);
         }
@@ -143,8 +143,7 @@ fn ranked_found<K: Keeper>(
     let mut rows = Vec::new(alloc);
     while let Some(id) = next_found(alloc, engine, sought, walk)? {
         let keys = keys_of(alloc, engine, sought, id)?;
-        rows.push(Ranked { keys, id })
-            .map_err(|_| KeepFault::NoMemory)?;
+        rows.push(Ranked { keys, id })?;
     }
     Ok(rows)
 }
@@ -167,8 +166,7 @@ fn keys_of<K: Keeper>(
     for term in sought.order.as_slice() {
         let value = value_in(alloc, engine, &sought.by, sought.model, term.field, id)?;
         let descending = term.descending;
-        keys.push(Key { descending, value })
-            .map_err(|_| KeepFault::NoMemory)?;
+        keys.push(Key { descending, value })?;
     }
     Ok(keys)
 }

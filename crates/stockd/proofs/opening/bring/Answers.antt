@@ -2,7 +2,7 @@
 use Rattle.std.proofs.Common.{ℤ, subst}
 use Rattle.std.proofs.lemmas.Int.{to_z-of_z}
 use Rattle.ob_cache.specs.Calls.{HasTables, KeeperRose, models_at, standpoint}
-use Rattle.ob_orm.specs.Install.{IsInstalled}
+use Rattle.ob_install.specs.Install.{IsInstalled}
 use Rattle.ob_schema.specs.Tables.{Tables}
 use Rattle.stockd.specs.Opening.{StopsFilling}
 use Rattle.stockd.proofs.Filling.{filling_told}

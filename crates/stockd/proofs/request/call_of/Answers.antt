@@ -7,9 +7,9 @@ use Rattle.serde_json.specs.Find.{as_str}
 use Rattle.serde_json.specs.View.{view, items_view}
 use Rattle.serde_json.specs.declared.value.Value.{Value}
 use Rattle.stockd.specs.MethodCall.{LooksUpCaller}
-use Rattle.stockd.specs.Request.{call_of, method_of}
+use Rattle.stockd.specs.Request.{call_of, method_named}
 use Rattle.stockd.specs.Setup.{over}
-use Rattle.stockd.proofs.CallFound.{call_found, few_elements, looks_up, method_there, named_first, no_caller, no_database, no_method, no_model, with_kw}
+use Rattle.stockd.proofs.CallFound.{call_found, few_elements, looks_up, named_first, no_caller, no_database, no_method, no_model, with_kw}
 use Rattle.stockd.proofs.Directories.{of_each, then_of}
 use Rattle.stockd.proofs.SixElements.{rest_after_six, six_and_rest}
 use Rattle.stockd.proofs.request.call_of.Goals as goal
@@ -79,8 +79,7 @@ returns-in_default-method_named-clause-found g c =
     let schema = c.schema-schema.ensures ∙ c.in-Ok-Some.ensures.asked.same.models in
     let caller = rw c.in-Ok-Some.field-0-is at c.in-Ok-Some.ensures.found in
     let found : option_and_then (model_named models) (as_str (view c.model-item.result)) ≡ Some c.in-Some.model = rw schema at (sym c.in-Some.ensures.found) in
-    let named : method_of models c.in-Some.model (view c.method-item.result) ≡ None =
-    method_there models c.in-Some.model (view c.method-item.result) c.method_named.result (rw schema at c.in-Some.ensures.there) (rw schema at c.method_named.ensures) ∙ c.in_default-method_named.is in
+    let named : method_named (view c.method-item.result) ≡ None = sym c.method_named.ensures ∙ c.in_default-method_named.is in
     then_of (standpoint g.K.Keeper engine) _ _
     (λ directory is. ap (λ (xs : List Value). call_of setup directory c.args.layout (items_view xs)) whole ∙ no_method setup directory c.args.layout (view c.db-item.result) (view c.user-item.result) (view c.key-item.result) (view c.model-item.result) (view c.method-item.result) (view c.args-item.result) (items_view (drop 6 c.args.elements.now)) is_db c.in-Ok-Some.caller (sym is) c.in-Some.model found named)
     caller
@@ -96,8 +95,7 @@ returns-clause-found g c =
     let schema = c.schema-schema.ensures ∙ c.in-Ok-Some.ensures.asked.same.models in
     let caller = rw c.in-Ok-Some.field-0-is at c.in-Ok-Some.ensures.found in
     let found : option_and_then (model_named models) (as_str (view c.model-item.result)) ≡ Some c.in-Some.model = rw schema at (sym c.in-Some.ensures.found) in
-    let named : method_of models c.in-Some.model (view c.method-item.result) ≡ Some c.in-Some-method_named.method =
-    method_there models c.in-Some.model (view c.method-item.result) (Some c.in-Some-method_named.method) (rw schema at c.in-Some.ensures.there) (rw schema at c.in-Some-method_named.ensures) in
+    let named : method_named (view c.method-item.result) ≡ Some c.in-Some-method_named.method = sym c.in-Some-method_named.ensures in
     then_of (standpoint g.K.Keeper engine) _ _
     (λ directory is. ap (λ (xs : List Value). call_of setup directory c.args.layout (items_view xs)) whole
     ∙ call_found setup directory c.args.layout (view c.db-item.result) (view c.user-item.result) (view c.key-item.result) (view c.model-item.result) (view c.method-item.result) (view c.args-item.result) (items_view (drop 6 c.args.elements.now)) is_db c.in-Ok-Some.caller (sym is) c.in-Some.model found c.in-Some-method_named.method named

@@ -1,6 +1,6 @@
 use Rattle.std.specs.Prelude.{IfSome}
 use Rattle.ob_schema.specs.Models.{model_at}
-use Rattle.ob_orm.proofs.Filled.{FilledSoFar}
+use Rattle.ob_orm.proofs.FilledRows.{FilledSoFar}
 use Rattle.ob_orm.proofs.making.filling.filled.Given as goal
 
 -- the values of the fields so far

@@ -22,8 +22,8 @@ value_in-requires-clause-known g c =
 pub returns-in_err-value-clause-asked : goal.returns-in_err-value-clause-asked
 returns-in_err-value-clause-asked g c = asked_then g.K.Keeper c.args.engine.now c.loop-grouping.engine c.value_in.new.engine c.loop-grouping.invariant.asked c.value_in.ensures.asked
 
-pub returns-in_err-map_err-clause-asked : goal.returns-in_err-map_err-clause-asked
-returns-in_err-map_err-clause-asked g c = asked_then g.K.Keeper c.args.engine.now c.loop-grouping.engine c.value_in.new.engine c.loop-grouping.invariant.asked c.value_in.ensures.asked
+pub returns-in_err-push-clause-asked : goal.returns-in_err-push-clause-asked
+returns-in_err-push-clause-asked g c = asked_then g.K.Keeper c.args.engine.now c.loop-grouping.engine c.value_in.new.engine c.loop-grouping.invariant.asked c.value_in.ensures.asked
 
 pub loop-grouping-preserved : goal.loop-grouping-preserved
 loop-grouping-preserved g c =

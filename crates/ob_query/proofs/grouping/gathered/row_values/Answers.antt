@@ -17,8 +17,8 @@ value_in-requires-clause-known g c =
 pub returns-in_err-value-clause-asked : goal.returns-in_err-value-clause-asked
 returns-in_err-value-clause-asked g c = asked_then g.K.Keeper c.args.engine.now c.loop-aggregate.engine c.value_in.new.engine c.loop-aggregate.invariant.asked c.value_in.ensures.asked
 
-pub returns-in_err-map_err-clause-asked : goal.returns-in_err-map_err-clause-asked
-returns-in_err-map_err-clause-asked g c = asked_then g.K.Keeper c.args.engine.now c.loop-aggregate.engine c.value_in.new.engine c.loop-aggregate.invariant.asked c.value_in.ensures.asked
+pub returns-in_err-push-clause-asked : goal.returns-in_err-push-clause-asked
+returns-in_err-push-clause-asked g c = asked_then g.K.Keeper c.args.engine.now c.loop-aggregate.engine c.value_in.new.engine c.loop-aggregate.invariant.asked c.value_in.ensures.asked
 
 pub loop-aggregate-preserved : goal.loop-aggregate-preserved
 loop-aggregate-preserved g c =

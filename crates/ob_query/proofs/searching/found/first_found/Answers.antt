@@ -11,8 +11,8 @@ use Rattle.ob_query.proofs.searching.found.first_found.Goals as goal
 pub returns-in_err-id-clause-asked : goal.returns-in_err-id-clause-asked
 returns-in_err-id-clause-asked g c = asked_then g.K.Keeper c.args.engine.now c.loop-ids.engine c.next_found.new.engine c.loop-ids.invariant.asked c.next_found.ensures.asked
 
-pub returns-in_err-map_err-clause-asked : goal.returns-in_err-map_err-clause-asked
-returns-in_err-map_err-clause-asked g c = asked_then g.K.Keeper c.args.engine.now c.loop-ids.engine c.next_found.new.engine c.loop-ids.invariant.asked c.next_found.ensures.asked
+pub returns-in_err-push-clause-asked : goal.returns-in_err-push-clause-asked
+returns-in_err-push-clause-asked g c = asked_then g.K.Keeper c.args.engine.now c.loop-ids.engine c.next_found.new.engine c.loop-ids.invariant.asked c.next_found.ensures.asked
 
 pub returns-then-len-sought-clause-asked : goal.returns-then-len-sought-clause-asked
 returns-then-len-sought-clause-asked g c = asked_then g.K.Keeper c.args.engine.now c.loop-ids.engine c.next_found.new.engine c.loop-ids.invariant.asked c.next_found.ensures.asked

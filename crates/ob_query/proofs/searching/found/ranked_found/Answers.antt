@@ -21,8 +21,8 @@ returns-in_err-id-clause-asked g c = asked_then g.K.Keeper c.args.engine.now c.l
 pub returns-in_err-keys-clause-asked : goal.returns-in_err-keys-clause-asked
 returns-in_err-keys-clause-asked g c = asked_then g.K.Keeper c.args.engine.now c.next_found.new.engine c.keys_of.new.engine (asked_then g.K.Keeper c.args.engine.now c.loop-rows.engine c.next_found.new.engine c.loop-rows.invariant.asked c.next_found.ensures.asked) c.keys_of.ensures.asked
 
-pub returns-in_err-map_err-clause-asked : goal.returns-in_err-map_err-clause-asked
-returns-in_err-map_err-clause-asked g c = asked_then g.K.Keeper c.args.engine.now c.next_found.new.engine c.keys_of.new.engine (asked_then g.K.Keeper c.args.engine.now c.loop-rows.engine c.next_found.new.engine c.loop-rows.invariant.asked c.next_found.ensures.asked) c.keys_of.ensures.asked
+pub returns-in_err-push-clause-asked : goal.returns-in_err-push-clause-asked
+returns-in_err-push-clause-asked g c = asked_then g.K.Keeper c.args.engine.now c.next_found.new.engine c.keys_of.new.engine (asked_then g.K.Keeper c.args.engine.now c.loop-rows.engine c.next_found.new.engine c.loop-rows.invariant.asked c.next_found.ensures.asked) c.keys_of.ensures.asked
 
 pub returns-clause-asked : goal.returns-clause-asked
 returns-clause-asked g c = asked_then g.K.Keeper c.args.engine.now c.loop-rows.engine c.next_found.new.engine c.loop-rows.invariant.asked c.next_found.ensures.asked

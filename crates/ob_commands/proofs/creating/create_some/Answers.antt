@@ -1,0 +1,16 @@
+use Rattle.ob_cache.specs.Calls.{models_at, standpoint}
+use Rattle.ob_call.specs.Called.{called_by, result_view}
+use Rattle.ob_call.proofs.CallerLemmas.{IfErr-result_view}
+use Rattle.ob_commands.proofs.CallAnswers.{called-found}
+use Rattle.ob_commands.specs.Changes.{CreateMayCome, CreatesSome}
+use Rattle.ob_commands.proofs.creating.create_some.Goals as goal
+use Rattle.ob_schema.specs.Models.{model_at}
+
+pub returns-clause-call : goal.returns-clause-call
+returns-clause-call g c =
+    let call = c.args.call.now in
+    let before = standpoint g.K.Keeper c.args.engine.now in
+    let says = c.create_asked.ensures in
+    called-found (model_at (models_at before) call.model) (λ info. CreatesSome (models_at before) c.args.policy.now (called_by call info))
+    (λ info. CreateMayCome (models_at before) c.args.policy.now (called_by call info)) before
+    (standpoint g.K.Keeper c.create_asked.new.engine) (result_view c.create_asked.result) says.answer (IfErr-result_view _ c.create_asked.result says.causes) says.rests says.same says.count

@@ -1,0 +1,5 @@
+pub mod FieldsTold
+pub mod FieldsAsked
+pub mod FieldsObject
+pub mod ReadableFields
+pub mod FieldsAnswer

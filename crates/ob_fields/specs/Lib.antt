@@ -1,0 +1,2 @@
+pub mod FieldsGet
+pub mod FieldsGetSteps

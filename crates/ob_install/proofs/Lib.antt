@@ -1,0 +1,9 @@
+pub mod BroughtIds
+pub mod PlacedRows
+pub mod PresetRows
+pub mod RowOwners
+pub mod ForbiddenRows
+pub mod ForbiddenValues
+pub mod GivenCells
+pub mod NewStores
+pub mod InstalledRows

@@ -1,7 +1,0 @@
-use Rattle.std.proofs.Common.{◌≡◌, map, take}
-use Rattle.serde_json.specs.View.{view}
-use Rattle.ob_orm.specs.FieldsGet.{choice_data}
-use Rattle.ob_orm.proofs.fields.attributes.choices_json.Given as goal
-
-abbrev pub invariant-loop-choice : goal.invariant-loop-choice
-invariant-loop-choice l = map view l.items.items ≡ map choice_data (take l.choice-index l.choices)

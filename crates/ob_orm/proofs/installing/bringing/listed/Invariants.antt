@@ -1,7 +1,0 @@
--- The ids so far and those that are left are all.
-use Rattle.std.proofs.Common.{◌≡◌, ◌++◌}
-use Rattle.ob_orm.proofs.BroughtIds.{numbers}
-use Rattle.ob_orm.proofs.installing.bringing.listed.Given as goal
-
-abbrev pub invariant-loop-id : goal.invariant-loop-id
-invariant-loop-id l = numbers l.list ++ l.id-iterator ≡ l.fn.found.keys

@@ -1,8 +1,0 @@
--- None of the cells so far restricts.
-use Rattle.std.proofs.Common.{take}
-use Rattle.std.specs.Prelude.{All}
-use Rattle.ob_orm.specs.DeletionSteps.{IsRestricting, has_key}
-use Rattle.ob_orm.proofs.unlinking.barring.test_cells.Given as goal
-
-abbrev pub invariant-loop-cell : goal.invariant-loop-cell
-invariant-loop-cell l = All (λ cell. IsRestricting l.schema (has_key l.rows) cell → ⊥) (take l.cell-index l.cells)

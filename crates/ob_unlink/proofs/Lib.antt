@@ -1,0 +1,13 @@
+pub mod TakenRows
+pub mod TakenMore
+pub mod Searched
+pub mod NamingRows
+pub mod LeftTargets
+pub mod Emptied
+pub mod OnePage
+pub mod UnlinkAnswer
+pub mod FoundRows
+pub mod Deleted
+pub mod LeftEdits
+pub mod Barred
+pub mod Stopped
