@@ -86,7 +86,7 @@ def made(oracle, seed, count):
 
         def orm_call(self):
             model = self.any_model()
-            # (an unlink asks no rights yet: rows are deleted by commands alone)
+            # (rows are deleted by commands alone: the machine's own streams have unlinks)
             method = self.rng.choices(["create", "write", "read"], [26, 30, 2])[0]
             if method == "create":
                 n = self.pick([1, 1, 1, 2])
