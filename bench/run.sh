@@ -17,15 +17,15 @@ store        stockd        500      100000
 search       stockd        100000   20
 write        stockd        200      3
 serve        stockd        50000    5
-codec        probe_values  5000000  1000000
-expr         probe_values  1        2000
-schema       probe_models  256      6
-load         probe_models  31       40
-trigger      probe_models  1000     200
-domain       probe_access  1000     300
-access       probe_access  100      2000
-stock_parts  probe_stock   10000    300
-http         probe_stock   200000   100
+codec        probe         5000000  1000000
+expr         probe         1        2000
+schema       probe         256      6
+load         probe         31       40
+trigger      probe         1000     200
+domain       probe         1000     300
+access       probe         100      2000
+stock_parts  probe         10000    300
+http         probe         200000   100
 '
 work=$(mktemp -d)
 trap 'rm -rf "$work"' EXIT
@@ -135,7 +135,7 @@ each() {
 bench_write() {
     local written settled
     written=$(each writes "$program" call --modules "$top/modules" --load demo)
-    settled=$(each settles "$("$top/tools/build.sh" proved probe_models)")
+    settled=$(each settles "$("$top/tools/build.sh" proved probe)")
     awk -v w="$written" -v s="$settled" 'BEGIN {
         printf "a write of one row among 2,000: %.2f ms; the engine alone: %.2f ms; ratio %.2f\n", w * 1000, s * 1000, w / s }'
 }

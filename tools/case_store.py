@@ -11,7 +11,7 @@ TABLES = """CREATE TABLE IF NOT EXISTS kept(model INTEGER, id INTEGER, body BLOB
 CREATE TABLE IF NOT EXISTS link(model INTEGER, field INTEGER, target INTEGER, id INTEGER, PRIMARY KEY(model, field, target, id)) STRICT;
 CREATE TABLE IF NOT EXISTS counter(model INTEGER PRIMARY KEY, next INTEGER) STRICT;
 CREATE INDEX IF NOT EXISTS link_row ON link(model, id);"""
-INSIDE = f"{TOP}/crates/ob_load/src/inside"
+INSIDE = f"{TOP}/crates/ob_module/src/inside"
 
 
 class Unplayed(Exception):

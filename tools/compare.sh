@@ -24,8 +24,8 @@
 #       `inherit` that has a wrong key behind `name` (DECISIONS.md), and a file's name that is
 #       longer than the host takes.
 #   tools/compare.sh probe [SEED [COUNT [WORD]]]   random values to the libraries (by default 1
-#       and 600), by the programs probe_values, probe_models, probe_access and probe_stock; a word
-#       is one of theirs for which tools/probe makes lines, and without it all are asked. `body` is
+#       and 600), by the program probe; a word is one of those for which tools/probe makes lines,
+#       and without it all are asked. `body` is
 #       asked under `row`. `http_cuts` asks, whatever the seed and the count, the request of a
 #       login and those near it, ended at every place and cut into pieces of every length;
 #       `tables_deep` trees about as deep as they may be and rows of about as many targets. Each

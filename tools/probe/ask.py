@@ -1,4 +1,4 @@
-"""Asks the probes and the libraries of an independent machine the same, over random values.
+"""Asks the probe and the libraries of an independent machine the same, over random values.
 
 usage: ask.py ORACLE SEED COUNT [WORD]. Without the word all words are asked, by turns at
 random. Of a word whose lines are always the same all are asked, whatever the count. Ends
@@ -19,12 +19,6 @@ FAULTS = {"Shape": "wrong shape", "Range": "out of range", "Unknown": "unknown k
 NAMES = ("create", "update", "delete", "unlink", "link", "clear", "set")
 TEXTS = ("", "bolt", "a b", "é", "\u0000", '"', "\\", "\n", "\U0001f529", "draft", "done", "2024-02-29",
          "2023-02-29", "0001-01-01", "9999-12-31", "10000-01-01", "2023-11-14 22:13:20", "2023-11-14 22:13:60")
-# The words that each program answers.
-PROGRAMS = {"probe_values": "row body value order day moment expression kinds evaluate",
-            "probe_models": "schema load tables engine closes",
-            "probe_access": "domain access declared preset",
-            "probe_stock": "takes lines state split chain push http envelope reply"}
-PROGRAM_OF = {word: program for program, words in PROGRAMS.items() for word in words.split()}
 # The files that make lines of further words, where the machine has their functions.
 PARTS = (("expression_lines", "expression, kinds and evaluate"),
          ("schema_lines", "schema"),
@@ -229,28 +223,25 @@ def portions(pairs):
         yield portion
 
 
-def answered(program, pairs):
-    """The program's answers to such lines, or None where it doesn't answer each."""
+def answered(pairs):
+    """The probe's answers to such lines, or None where it doesn't answer each."""
     asked = "".join(line + "\n" for line, _ in pairs)
-    ran = subprocess.run(["tools/build.sh", "run", program], input=asked.encode(), stdout=subprocess.PIPE)
+    ran = subprocess.run(["tools/build.sh", "run", "probe"], input=asked.encode(), stdout=subprocess.PIPE)
     answers = ran.stdout.decode().split("\n")[:-1]
     if ran.returncode or len(answers) != len(pairs):
-        print("%s ended with status %d after %d of %d answers" % (program, ran.returncode, len(answers), len(pairs)))
+        print("the probe ended with status %d after %d of %d answers" % (ran.returncode, len(answers), len(pairs)))
         return None
     return answers
 
 
 def main():
-    wrong, count, by_program = [], 0, {}
-    for line, want in asked_and_wanted():
-        by_program.setdefault(PROGRAM_OF[line.split(" ", 1)[0]], []).append((line, want))
-    for program, asked in by_program.items():
-        for pairs in portions(asked):
-            answers = answered(program, pairs)
-            if answers is None:
-                return 1
-            wrong += [(line, want, got) for (line, want), got in zip(pairs, answers) if got != want]
-            count += len(pairs)
+    wrong, count = [], 0
+    for pairs in portions(asked_and_wanted()):
+        answers = answered(pairs)
+        if answers is None:
+            return 1
+        wrong += [(line, want, got) for (line, want), got in zip(pairs, answers) if got != want]
+        count += len(pairs)
     for line, want, got in wrong[:5]:
         print("asked: %s\n  wanted: %s\n  answered: %s" % (line, want, got))
     if count:

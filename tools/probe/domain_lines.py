@@ -19,7 +19,7 @@ NUMBERS = (0, 1, -1, 2, 3, 5, 2 ** 63 - 1, -2 ** 63, 2 ** 63, 2 ** 64 - 1, 2 ** 
 
 
 def models():
-    """The models of the probe, as the program probe_access declares them."""
+    """The models of the probe, as probe_access declares them."""
     field = schema.FieldDef
     to_row, to_place = {"relation": "probe.row"}, {"relation": "probe.place"}
     row = {"at": field(type="datetime"), "day": field(type="date"), "done": field(type="boolean"), "name": field(type="char"),

@@ -17,7 +17,7 @@ FUNCTIONS = {"sum", "if", "count", "cat", "text", "unset", "any", "not", "true",
 
 
 def with_users(entries):
-    """Definitions with the model of the users behind them, where none makes it, as the probes read a line."""
+    """Definitions with the model of the users behind them, where none makes it, as the probe reads a line."""
     return entries if any(entry.name == USERS for entry in entries) else [*entries, ModelDef(name=USERS)]
 
 

@@ -1,11 +1,11 @@
 //! Doors in memory, and the real one over loopback.
 
 use crate::odd_host::Slow;
-use crate::told::{tell, tell_bytes, tell_count, tell_value};
+use crate::told::{agree, tell, tell_bytes, tell_count, tell_value};
 use ob_base::NoMemory;
 use ob_io::{Door, MemDoor, SureDoor, TcpDoor};
 use std::alloc::Global;
-use std::io::{Read, Write};
+use std::io::{self, Read, Write};
 use std::net::{Ipv4Addr, Shutdown, SocketAddr, TcpListener, TcpStream};
 use std::test::Fail;
 
@@ -26,12 +26,11 @@ fn tell_calls<D: Door>(text: &mut String, door: &mut D, room: &mut [u8], calls: 
     }
 }
 
-/// What one connection sends, and where there is more, another behind it.
-fn streams(alloc: Global, first: &str, second: &str) -> Result<Vec<Vec<u8>>, NoMemory> {
+/// What connections send, one after another, with a bar between two.
+fn streams(alloc: Global, all: &str) -> Result<Vec<Vec<u8>>, NoMemory> {
     let mut streams = Vec::new(alloc);
-    streams.push(first.as_bytes().to_vec(alloc)?)?;
-    if !second.is_empty() {
-        streams.push(second.as_bytes().to_vec(alloc)?)?;
+    for text in all.split('|') {
+        streams.push(text.as_bytes().to_vec(alloc)?)?;
     }
     Ok(streams)
 }
@@ -57,22 +56,16 @@ fn tell_written(text: &mut String, written: Option<&[u8]>) {
 }
 
 /// Adds how many bytes the peer read or wrote.
-fn tell_peer(text: &mut String, answer: Option<usize>) {
+fn tell_peer(text: &mut String, answer: io::Result<usize>) {
     match answer {
-        Some(count) => tell_value(text, &count),
-        None => tell(text, "failed"),
+        Ok(count) => tell_value(text, &count),
+        Err(_) => tell(text, "failed"),
     }
 }
 
 /// A sure door with these connections; none where memory is wanting.
-fn sure_door(
-    alloc: Global,
-    first: &str,
-    second: &str,
-    cut: usize,
-    room: usize,
-) -> Option<SureDoor> {
-    match SureDoor::new(alloc, streams(alloc, first, second).ok()?, cut, room) {
+fn sure_door(alloc: Global, all: &str, cut: usize, room: usize) -> Option<SureDoor> {
+    match SureDoor::new(alloc, streams(alloc, all).ok()?, cut, room) {
         Ok(door) => Some(door),
         Err(_) => None,
     }
@@ -81,7 +74,7 @@ fn sure_door(
 /// Connections one after another, of which a read gives two bytes and which take three.
 fn tell_sure(alloc: Global, text: &mut String) {
     let mut room = [b'.'; 4];
-    if let Some(mut door) = sure_door(alloc, "abc", "d", 2, 3) {
+    if let Some(mut door) = sure_door(alloc, "abc|d", 2, 3) {
         tell_calls(text, &mut door, &mut room, "nrwnrWwsn");
         tell_written(text, door.written(0));
         tell_written(text, door.written(1));
@@ -110,7 +103,7 @@ fn tell_failing(alloc: Global, text: &mut String) {
 /// A door of one connection whose first, third and fifth call fail.
 fn failing_door(alloc: Global) -> Result<MemDoor, NoMemory> {
     let fail = [1, 3, 5].to_vec(alloc)?;
-    MemDoor::new(alloc, streams(alloc, "ab", "")?, 1, 4, fail)
+    MemDoor::new(alloc, streams(alloc, "ab")?, 1, 4, fail)
 }
 
 #[test]
@@ -121,68 +114,88 @@ fn doors_in_memory(rt: HostRuntime) -> Result<(), Fail> {
     tell_none(rt.alloc(), &mut text);
     tell(&mut text, "fails at 1, 3 and 5:");
     tell_failing(rt.alloc(), &mut text);
-    assert_eq!(rt;
+    agree(
+        &rt,
         text.as_str(),
         "came 2 ab.. 1 came 1 db.. 2 failed ended x xy none \
          without connections: ended 0 .. 3 \
-         fails at 1, 3 and 5: failed came failed .. 1 a. failed 1 x 0 a. "
+         fails at 1, 3 and 5: failed came failed .. 1 a. failed 1 x 0 a. ",
     );
     Ok(())
 }
 
-/// Bytes both ways over loopback, and either side's end.
-fn tell_tcp(rt: &HostRuntime, text: &mut String) -> Result<(), Fail> {
-    let mut room = [b'.'; 4];
-    let listener = TcpListener::bind(rt, SocketAddr::from((Ipv4Addr::LOCALHOST, 0)))?;
-    let mut peer = TcpStream::connect(rt, listener.local_addr()?)?;
+/// A listener of loopback, at a port that is free.
+fn listener(rt: &HostRuntime) -> io::Result<TcpListener> {
+    TcpListener::bind(rt, SocketAddr::from((Ipv4Addr::LOCALHOST, 0)))
+}
+
+/// The two ends of a connection over loopback, first that which asked for it.
+fn ends(rt: &HostRuntime) -> io::Result<(TcpStream, TcpStream)> {
+    let listener = listener(rt)?;
+    let peer = TcpStream::connect(rt, listener.local_addr()?)?;
     let (stream, _) = listener.accept()?;
+    Ok((peer, stream))
+}
+
+/// Bytes both ways over loopback, and either side's end.
+fn tell_tcp(text: &mut String, mut peer: TcpStream, stream: TcpStream) {
+    let mut room = [b'.'; 4];
     let mut door: TcpDoor<&HostRuntime> = TcpDoor::over(stream);
-    tell_peer(text, peer.write(b"abc").ok());
+    tell_peer(text, peer.write(b"abc"));
     tell_calls(text, &mut door, &mut room, "nrW");
-    tell_peer(text, peer.read(&mut room).ok());
+    tell_peer(text, peer.read(&mut room));
     tell_bytes(text, &room);
-    peer.shutdown(Shutdown::Write)?;
+    let _ = peer.shutdown(Shutdown::Write);
     tell_calls(text, &mut door, &mut room, "rs");
-    tell_peer(text, peer.read(&mut room).ok());
+    tell_peer(text, peer.read(&mut room));
     tell_calls(text, &mut door, &mut room, "n");
-    Ok(())
 }
 
 /// A port that is taken, which fails at the first next.
-fn tell_taken(rt: &HostRuntime, text: &mut String) -> Result<(), Fail> {
-    let listener = TcpListener::bind(rt, SocketAddr::from((Ipv4Addr::LOCALHOST, 0)))?;
+fn tell_taken(rt: &HostRuntime, text: &mut String) -> io::Result<()> {
+    let listener = listener(rt)?;
     let mut door = TcpDoor::new(rt, listener.local_addr()?.port());
     tell_next(text, &mut door);
-    Ok(())
-}
-
-/// Each read takes ten seconds by the clock: the first three give enough, the next don't.
-#[test]
-fn a_slow_peer_is_ended(rt: HostRuntime) -> Result<(), Fail> {
-    let mut text = String::new(rt.alloc());
-    let mut room = [b'.'; 100];
-    let listener = TcpListener::bind(&rt, SocketAddr::from((Ipv4Addr::LOCALHOST, 0)))?;
-    let mut peer = TcpStream::connect(&rt, listener.local_addr()?)?;
-    let (stream, _) = listener.accept()?;
-    let mut door = TcpDoor::timed(Slow::new(), stream);
-    tell_peer(&mut text, peer.write(&[b'x'; 306]).ok());
-    tell_next(&mut text, &mut door);
-    for size in [100, 100, 100, 2, 2, 2, 2] {
-        tell_count(&mut text, door.read(&mut room[..size]));
-    }
-    assert_eq!(rt; text.as_str(), "306 came 100 100 100 2 2 failed 0 ");
     Ok(())
 }
 
 #[test]
 fn doors_of_the_host(rt: HostRuntime) -> Result<(), Fail> {
     let mut text = String::new(rt.alloc());
-    tell_tcp(&rt, &mut text)?;
+    let (peer, stream) = ends(&rt)?;
+    tell_tcp(&mut text, peer, stream);
     tell(&mut text, "a taken port:");
     tell_taken(&rt, &mut text)?;
-    assert_eq!(rt;
+    agree(
+        &rt,
         text.as_str(),
-        "3 came 3 abc. 3 3 xyz. 0 xyz. 0 ended a taken port: failed "
+        "3 came 3 abc. 3 3 xyz. 0 xyz. 0 ended a taken port: failed ",
     );
+    Ok(())
+}
+
+/// A read for each letter, and how many bytes each gave: `l` into a large room, `s` into a
+/// small one.
+fn tell_sizes<D: Door>(text: &mut String, door: &mut D, sizes: &str) {
+    let mut large = [b'.'; 100];
+    let mut small = [b'.'; 2];
+    for size in sizes.bytes() {
+        match size {
+            b'l' => tell_count(text, door.read(&mut large)),
+            _ => tell_count(text, door.read(&mut small)),
+        }
+    }
+}
+
+/// Each read takes ten seconds by the clock: the first three give enough, the next don't.
+#[test]
+fn a_slow_peer_is_ended(rt: HostRuntime) -> Result<(), Fail> {
+    let mut text = String::new(rt.alloc());
+    let (mut peer, stream) = ends(&rt)?;
+    tell_peer(&mut text, peer.write(&[b'x'; 306]));
+    let mut door = TcpDoor::timed(Slow::new(), stream);
+    tell_next(&mut text, &mut door);
+    tell_sizes(&mut text, &mut door, "lllssss");
+    agree(&rt, text.as_str(), "306 came 100 100 100 2 2 failed 0 ");
     Ok(())
 }

@@ -1,7 +1,7 @@
 //! The clock and the standard streams of the host, and of one that is odd.
 
 use crate::odd_host::Odd;
-use crate::told::{tell, tell_reads, tell_value, tell_writes};
+use crate::told::{agree, tell, tell_reads, tell_value, tell_writes};
 use ob_base::NoMemory;
 use ob_base::limits::MAX_MOMENT;
 use ob_io::{Clock, HostClock, StdSink, StdSource};
@@ -32,15 +32,21 @@ fn tell_odd(text: &mut String) -> Result<(), NoMemory> {
     Ok(())
 }
 
+/// Both, one behind the other.
+fn tell_both(rt: &HostRuntime, text: &mut String) -> Result<(), NoMemory> {
+    tell_host(rt, text)?;
+    tell(text, "odd:");
+    tell_odd(text)
+}
+
 #[test]
 fn hosts_have_a_clock_and_streams(rt: HostRuntime) -> Result<(), Fail> {
     let mut text = String::new(rt.alloc());
-    tell_host(&rt, &mut text)?;
-    tell(&mut text, "odd:");
-    tell_odd(&mut text)?;
-    assert_eq!(rt;
+    tell_both(&rt, &mut text)?;
+    agree(
+        &rt,
         text.as_str(),
-        "true true 2 0  odd: 0 failed 0 2 ab 1 cb 0 cb "
+        "true true 2 0  odd: 0 failed 0 2 ab 1 cb 0 cb ",
     );
     Ok(())
 }

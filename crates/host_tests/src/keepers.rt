@@ -5,11 +5,11 @@
 ghost use Rattle.std.specs.Prelude.{◌≢◌, All, AllPairs, IfOk};
 ghost use Rattle.ob_io.specs.Store.{Fits63, IsChangeFit, IsRowFit};
 
-use crate::told::tell;
+use crate::told::{agree, tell};
 use ob_base::{FieldNo, ModelNo, NoMemory, RecId, Sequence};
 use ob_io::{Change, Keeper, KeptRow, Link, SureKeeper};
 use ob_sqlite::{SqliteKeeper, keeper_at};
-use sqlite::{Connection, FileStore, Files, MemStore, Options};
+use sqlite::{Connection, Files, MemStore, Options};
 use sqlite_disk::Memory;
 use std::alloc::Global;
 use std::fmt::Debug;
@@ -146,67 +146,62 @@ fn ask<K: Keeper>(text: &mut String, keeper: &mut K, mut draw: Draw) {
     }
 }
 
+/// Draws so many changes; none where one finds no memory.
+fn changes_of(alloc: Global, draw: &mut Draw, count: u8) -> Sequence<Change>
+    ensures { All IsChangeFit result }
+{
+    let mut changes = Sequence::new(alloc);
+    for _ in 0..count {
+        let change = change_of(alloc, draw);
+        if changes.push(change).is_err() {
+            return Sequence::new(alloc);
+        }
+    }
+    changes
+}
+
+/// Draws a list of no, one, three or six changes.
+fn list_of(alloc: Global, draw: &mut Draw) -> Sequence<Change>
+    ensures { All IsChangeFit result }
+{
+    let count = match draw.byte() & 3 {
+        0 => 0,
+        1 => 1,
+        2 => 3,
+        _ => 6,
+    };
+    changes_of(alloc, draw, count)
+}
+
+/// What a keeper tells that is given changes, and is asked behind them.
+fn told_by<K: Keeper>(alloc: Global, keeper: &mut K, changes: &[Change], draw: Draw) -> String
+    requires { All IsChangeFit changes.now }
+{
+    let mut text = String::new(alloc);
+    note(&mut text, &keeper.commit(changes));
+    ask(&mut text, keeper, draw);
+    text
+}
+
 /// Gives both keepers these changes, asks both the same, and adds what they tell where that differs.
 fn give_both<K: Keeper>(
     alloc: Global,
     report: &mut String,
     keeper: &mut K,
     sure: &mut SureKeeper,
-    draw: Draw,
     changes: &[Change],
+    draw: Draw,
 )
     requires { All IsChangeFit changes.now }
 {
-    let mut found = String::new(alloc);
-    note(&mut found, &keeper.commit(changes));
-    ask(&mut found, keeper, draw);
-    let mut wanted = String::new(alloc);
-    note(&mut wanted, &sure.commit(changes));
-    ask(&mut wanted, sure, draw);
+    let found = told_by(alloc, keeper, changes, draw);
+    let wanted = told_by(alloc, sure, changes, draw);
     if found.is_empty() || found.as_str() != wanted.as_str() {
         tell(report, "found:");
         tell(report, found.as_str());
         tell(report, "wanted:");
         tell(report, wanted.as_str());
     }
-}
-
-/// Draws a list of no, one, three or six changes, and gives it to both.
-fn give_list<K: Keeper>(
-    alloc: Global,
-    report: &mut String,
-    keeper: &mut K,
-    sure: &mut SureKeeper,
-    draw: &mut Draw,
-) {
-    match draw.byte() & 3 {
-        0 => give_both(alloc, report, keeper, sure, *draw, &[]),
-        1 => {
-            let changes = [change_of(alloc, draw)];
-            give_both(alloc, report, keeper, sure, *draw, &changes);
-        }
-        2 => {
-            let (one, two) = (change_of(alloc, draw), change_of(alloc, draw));
-            let changes = [one, two, change_of(alloc, draw)];
-            give_both(alloc, report, keeper, sure, *draw, &changes);
-        }
-        _ => give_six(alloc, report, keeper, sure, draw),
-    }
-}
-
-/// Draws six changes, and gives them to both as one list.
-fn give_six<K: Keeper>(
-    alloc: Global,
-    report: &mut String,
-    keeper: &mut K,
-    sure: &mut SureKeeper,
-    draw: &mut Draw,
-) {
-    let (one, two) = (change_of(alloc, draw), change_of(alloc, draw));
-    let (three, four) = (change_of(alloc, draw), change_of(alloc, draw));
-    let (five, six) = (change_of(alloc, draw), change_of(alloc, draw));
-    let changes = [one, two, three, four, five, six];
-    give_both(alloc, report, keeper, sure, *draw, &changes);
 }
 
 /// Gives this keeper, which is empty, and one in memory so many lists.
@@ -218,28 +213,32 @@ fn give_lists<K: Keeper>(
     let mut sure = SureKeeper::new(alloc, Vec::new(alloc), Vec::new(alloc))?;
     let mut draw = Draw(SEED);
     for _ in 0..LISTS {
-        give_list(alloc, report, keeper, &mut sure, &mut draw);
+        let changes = list_of(alloc, &mut draw);
+        give_both(alloc, report, keeper, &mut sure, changes.as_slice(), draw);
     }
     Ok(())
 }
 
 /// A keeper over a database in memory.
-fn in_memory(alloc: Global) -> SqliteKeeper<MemStore> {
+pub(crate) fn in_memory(alloc: Global) -> SqliteKeeper<MemStore> {
     match Connection::open_in_memory(alloc) {
         Ok(connection) => SqliteKeeper::adopt(connection),
         Err(_) => SqliteKeeper::closed(true),
     }
 }
 
-/// A keeper over files in memory.
-fn over_files(alloc: Global) -> SqliteKeeper<FileStore<Memory>> {
+/// Gives lists to a keeper over files in memory.
+fn give_files(alloc: Global, report: &mut String) -> Result<(), NoMemory> {
     let files = Files {
         log: Memory::new(alloc),
         db: Memory::new(alloc),
     };
     match Connection::open_files(alloc, files, Options::new(SEED)) {
-        Ok(connection) => SqliteKeeper::adopt(connection),
-        Err(_) => SqliteKeeper::closed(false),
+        Ok(connection) => give_lists(alloc, report, &mut SqliteKeeper::adopt(connection)),
+        Err(_) => {
+            tell(report, "shut");
+            Ok(())
+        }
     }
 }
 
@@ -251,13 +250,18 @@ fn give_host(rt: &HostRuntime, report: &mut String) -> Result<(), NoMemory> {
     given
 }
 
+/// Gives lists to each of the three.
+fn give_all(rt: &HostRuntime, report: &mut String) -> Result<(), NoMemory> {
+    let alloc = rt.alloc();
+    give_lists(alloc, report, &mut in_memory(alloc))?;
+    give_files(alloc, report)?;
+    give_host(rt, report)
+}
+
 #[test]
 fn keepers_agree(rt: HostRuntime) -> Result<(), Fail> {
-    let alloc = rt.alloc();
-    let mut report = String::new(alloc);
-    give_lists(alloc, &mut report, &mut in_memory(alloc))?;
-    give_lists(alloc, &mut report, &mut over_files(alloc))?;
-    give_host(&rt, &mut report)?;
-    assert_eq!(rt; report.as_str(), "");
+    let mut report = String::new(rt.alloc());
+    give_all(&rt, &mut report)?;
+    agree(&rt, report.as_str(), "");
     Ok(())
 }

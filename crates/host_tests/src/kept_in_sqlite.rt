@@ -2,17 +2,17 @@
 //! memory does, and what it answers without a connection or behind one that can't be asked.
 
 ghost use Rattle.std.specs.Prelude.{IfOk};
-ghost use Rattle.ob_io.specs.Store.{Fits63, IsRowFit};
+ghost use Rattle.ob_io.specs.Store.{IsChangeFit, IsRowFit};
 
-use crate::told::{tell, tell_bytes, tell_value};
-use ob_base::{FieldNo, ModelNo, NoMemory, RecId, Sequence};
+use crate::keepers::in_memory;
+use crate::rows::{CITY, tell_change, tell_holders, tell_kept, tell_next, tell_page, tell_row};
+use crate::told::{agree, tell};
+use ob_base::{FieldNo, NoMemory, RecId, Sequence};
 use ob_io::{Change, KeepFault, Keeper, KeptRow, Link, SureKeeper};
 use ob_sqlite::SqliteKeeper;
 use sqlite::{Connection, MemStore};
 use std::alloc::Global;
 use std::test::Fail;
-
-const CITY: ModelNo = ModelNo(1);
 
 const TO_FIVE: Link = Link {
     field: FieldNo(2),
@@ -45,137 +45,111 @@ fn row_of(alloc: Global, id: u32, byte: u8, has_all: bool) -> Result<KeptRow, No
     Ok(KeptRow { id, body, links })
 }
 
-/// Adds the body and the links of a city.
-fn tell_row<K: Keeper>(text: &mut String, keeper: &mut K, id: u32) -> Result<(), KeepFault> {
-    let Some(row) = keeper.fetch(CITY, RecId(u64::from(id)))? else {
-        tell(text, "none");
-        return Ok(());
-    };
-    tell_bytes(text, row.body.as_slice());
-    for link in row.links.as_slice() {
-        tell_value(text, &link.field.0);
-        tell_value(text, &link.target.0);
-    }
-    Ok(())
-}
-
-/// Adds the ids of a page of cities, and a comma.
-fn tell_page<K: Keeper>(
-    text: &mut String,
-    keeper: &mut K,
-    after: u32,
-    most: u32,
-) -> Result<(), KeepFault> {
-    for row in keeper.page(CITY, RecId(u64::from(after)), most)?.as_slice() {
-        tell_value(text, &row.id.0);
-    }
-    tell(text, ",");
-    Ok(())
-}
-
-/// Adds the ids of the cities with this link, and a comma.
-fn tell_holders<K: Keeper>(
-    text: &mut String,
-    keeper: &mut K,
-    link: &Link,
-    after: u32,
-) -> Result<(), KeepFault>
-    requires { Fits63 link.now.target.0 }
-{
-    let after = RecId(u64::from(after));
-    for id in keeper
-        .holders(CITY, link.field, link.target, after, 5)?
-        .as_slice()
-    {
-        tell_value(text, &id.0);
-    }
-    tell(text, ",");
-    Ok(())
-}
-
 /// Adds what each reading call tells, and a bar.
-fn tell_all<K: Keeper>(text: &mut String, keeper: &mut K) -> Result<(), KeepFault> {
-    tell_value(text, &keeper.next_id(CITY)?);
-    tell_row(text, keeper, 7)?;
-    tell_page(text, keeper, 0, 5)?;
-    tell_page(text, keeper, 0, 1)?;
-    tell_holders(text, keeper, &TO_FOUR, 0)?;
-    tell_holders(text, keeper, &TO_FOUR, 7)?;
-    tell_holders(text, keeper, &TO_FIVE, 0)?;
+fn tell_all<K: Keeper>(text: &mut String, keeper: &mut K) {
+    tell_next(text, keeper, CITY);
+    tell_row(text, keeper, CITY, 7);
+    tell_page(text, keeper, 0, 5);
+    tell_page(text, keeper, 0, 1);
+    tell_holders(text, keeper, CITY, TO_FOUR, 0);
+    tell_holders(text, keeper, CITY, TO_FOUR, 7);
+    tell_holders(text, keeper, CITY, TO_FIVE, 0);
     tell(text, "|");
-    Ok(())
 }
 
-/// Keeps two cities with links and a next id, gives one of them other links, and lets the other go.
-fn keep_and_tell<K: Keeper>(
-    alloc: Global,
-    text: &mut String,
-    keeper: &mut K,
-) -> Result<(), KeepFault> {
+/// The change that puts such a row; short of memory one that lets it go.
+fn put_of(alloc: Global, id: u32, byte: u8, has_all: bool) -> Change
+    ensures { IsChangeFit result }
+{
     let model = CITY;
-    tell_all(text, keeper)?;
-    let row = row_of(alloc, 7, b'a', true)?;
-    let other = row_of(alloc, 9, b'b', false)?;
-    keeper.commit(&[
-        Change::Put { model, row },
-        Change::Put { model, row: other },
-        Change::Next { model, next: 12 },
-    ])?;
-    tell_all(text, keeper)?;
-    let row = row_of(alloc, 7, b'c', false)?;
-    keeper.commit(&[Change::Put { model, row }])?;
-    tell_all(text, keeper)?;
-    let id = RecId(7);
-    keeper.commit(&[Change::Gone { model, id }])?;
-    tell_all(text, keeper)
+    match row_of(alloc, id, byte, has_all) {
+        Ok(row) => Change::Put { model, row },
+        Err(NoMemory) => {
+            let id = RecId(u64::from(id));
+            Change::Gone { model, id }
+        }
+    }
+}
+
+/// Keeps two cities with links and a next id, by one list.
+fn keep_two<K: Keeper>(alloc: Global, keeper: &mut K) -> Result<(), KeepFault> {
+    let mut changes = Sequence::new(alloc);
+    changes.push(put_of(alloc, 7, b'a', true))?;
+    changes.push(put_of(alloc, 9, b'b', false))?;
+    let (model, next) = (CITY, 12);
+    changes.push(Change::Next { model, next })?;
+    keeper.commit(changes.as_slice())
+}
+
+/// What a keeper tells that keeps nothing at first: it is given two cities, gives one of them
+/// other links, and lets it go.
+fn told_by<K: Keeper>(alloc: Global, keeper: &mut K) -> String {
+    let mut text = String::new(alloc);
+    tell_all(&mut text, keeper);
+    tell_kept(&mut text, keep_two(alloc, keeper));
+    tell_all(&mut text, keeper);
+    tell_change(&mut text, keeper, &put_of(alloc, 7, b'c', false));
+    tell_all(&mut text, keeper);
+    let (model, id) = (CITY, RecId(7));
+    tell_change(&mut text, keeper, &Change::Gone { model, id });
+    tell_all(&mut text, keeper);
+    text
 }
 
 #[test]
 fn sqlite_keeps_what_it_is_given(rt: HostRuntime) -> Result<(), Fail> {
     let alloc = rt.alloc();
-    let mut text = String::new(alloc);
-    let mut keeper = SqliteKeeper::adopt(Connection::open_in_memory(alloc)?);
-    keep_and_tell(alloc, &mut text, &mut keeper)?;
-    let mut wanted = String::new(alloc);
     let mut sure = SureKeeper::new(alloc, Vec::new(alloc), Vec::new(alloc))?;
-    keep_and_tell(alloc, &mut wanted, &mut sure)?;
-    assert_eq!(rt; text.as_str(), wanted.as_str());
-    assert_eq!(rt;
+    let wanted = told_by(alloc, &mut sure);
+    let text = told_by(alloc, &mut in_memory(alloc));
+    agree(&rt, text.as_str(), wanted.as_str());
+    agree(
+        &rt,
         text.as_str(),
-        "1 none , , , , , | 12 a 2 5 3 1 3 4 7 9 , 7 , 7 9 , 9 , 7 , | 12 c 3 4 7 9 , 7 , 7 9 , 9 , , | 12 none 9 , 9 , 9 , 9 , , | "
+        "1 gone , , , , , | kept 12 a 2 5 3 1 3 4 7 9 , 7 , 7 9 , 9 , 7 , | \
+         kept 12 c 3 4 7 9 , 7 , 7 9 , 9 , , | kept 12 gone 9 , 9 , 9 , 9 , , | ",
     );
     Ok(())
 }
 
-/// Adds the next id of cities, or why there is none.
-fn tell_next<K: Keeper>(text: &mut String, keeper: &mut K) {
-    match keeper.next_id(CITY) {
-        Ok(next) => tell_value(text, &next),
-        Err(fault) => tell_value(text, &fault),
-    }
+/// Without a connection.
+fn tell_closed(text: &mut String, lacks_memory: bool) {
+    let mut keeper: SqliteKeeper<MemStore> = SqliteKeeper::closed(lacks_memory);
+    tell_next(text, &mut keeper, CITY);
+}
+
+/// Over a connection that is in a transaction.
+fn tell_begun(alloc: Global, text: &mut String) -> Result<(), Fail> {
+    let mut connection = Connection::open_in_memory(alloc)?;
+    connection.execute("BEGIN", &[])?;
+    let mut keeper = SqliteKeeper::adopt(connection);
+    tell_next(text, &mut keeper, CITY);
+    tell_next(text, &mut keeper, CITY);
+    Ok(())
+}
+
+/// Over a next id that doesn't fit.
+fn tell_unfit(alloc: Global, text: &mut String) -> Result<(), Fail> {
+    let mut connection = Connection::open_in_memory(alloc)?;
+    connection.execute_batch(
+        "CREATE TABLE counter(model INTEGER PRIMARY KEY, next INTEGER) STRICT; INSERT INTO counter VALUES(1, -12)",
+    )?;
+    tell_next(text, &mut SqliteKeeper::adopt(connection), CITY);
+    Ok(())
 }
 
 #[test]
 fn sqlite_that_cannot_be_asked(rt: HostRuntime) -> Result<(), Fail> {
     let alloc = rt.alloc();
     let mut text = String::new(alloc);
-    let mut shut: SqliteKeeper<MemStore> = SqliteKeeper::closed(true);
-    tell_next(&mut text, &mut shut);
-    let mut shut: SqliteKeeper<MemStore> = SqliteKeeper::closed(false);
-    tell_next(&mut text, &mut shut);
-    let mut open = Connection::open_in_memory(alloc)?;
-    open.execute("BEGIN", &[])?;
-    let mut keeper = SqliteKeeper::adopt(open);
-    tell_next(&mut text, &mut keeper);
-    tell_next(&mut text, &mut keeper);
-    let mut odd = Connection::open_in_memory(alloc)?;
-    odd.execute_batch(
-        "CREATE TABLE counter(model INTEGER PRIMARY KEY, next INTEGER) STRICT; INSERT INTO counter VALUES(1, -12)",
-    )?;
-    tell_next(&mut text, &mut SqliteKeeper::adopt(odd));
-    assert_eq!(rt;
+    tell_closed(&mut text, true);
+    tell_closed(&mut text, false);
+    tell_begun(alloc, &mut text)?;
+    tell_unfit(alloc, &mut text)?;
+    agree(
+        &rt,
         text.as_str(),
-        "no memory the keeper failed the keeper failed the keeper failed the keeper failed "
+        "no memory the keeper failed the keeper failed the keeper failed the keeper failed ",
     );
     Ok(())
 }

@@ -1,6 +1,6 @@
 //! Streams and a clock in memory.
 
-use crate::told::{tell, tell_bytes, tell_reads, tell_value, tell_writes};
+use crate::told::{agree, tell, tell_bytes, tell_reads, tell_value, tell_writes};
 use ob_base::NoMemory;
 use ob_base::limits::{MAX_MOMENT, MIN_MOMENT};
 use ob_io::{Clock, MemClock, MemSink, MemSource, SureSink, SureSource};
@@ -60,24 +60,30 @@ fn tell_clocks(text: &mut String) {
     tell_moments(text, 1, i64::MAX);
 }
 
+/// All of them.
+fn tell_all(alloc: Global, text: &mut String) -> Result<(), NoMemory> {
+    tell_sources(alloc, text)?;
+    tell(text, "fails at 2 and 4:");
+    tell_failing_source(alloc, text)?;
+    tell(text, "sinks:");
+    tell_sinks(alloc, text)?;
+    tell(text, "clocks:");
+    tell_clocks(text);
+    Ok(())
+}
+
 #[test]
 fn streams_and_clocks(rt: HostRuntime) -> Result<(), Fail> {
-    let alloc = rt.alloc();
-    let mut text = String::new(alloc);
-    tell_sources(alloc, &mut text)?;
-    tell(&mut text, "fails at 2 and 4:");
-    tell_failing_source(alloc, &mut text)?;
-    tell(&mut text, "sinks:");
-    tell_sinks(alloc, &mut text)?;
-    tell(&mut text, "clocks:");
-    tell_clocks(&mut text);
-    assert_eq!(rt;
+    let mut text = String::new(rt.alloc());
+    tell_all(rt.alloc(), &mut text)?;
+    agree(
+        &rt,
         text.as_str(),
         "2 ab. 2 cd. 1 ed. 0 ed. cut of zero: 0  1 fd. \
          fails at 2 and 4: 2 xy failed xy 1 zy failed zy 0 zy \
          sinks: 2 1 failed 0 yzy fails at 1 and 3: failed 1 failed 1 failed xy \
          clocks: 0 60 120 10 -10 -30 253402300796 253402300798 253402300798 \
-         -62135596799 -62135596800 -62135596800 1 1 1 "
+         -62135596799 -62135596800 -62135596800 1 1 1 ",
     );
     Ok(())
 }

@@ -3,10 +3,12 @@
 
 ghost use Rattle.std.specs.Prelude.{IsSome};
 
+use ob_base::NoMemory;
 use ob_io::{
     Clock, Door, Files, Keeper, MemClock, MemDoor, MemFiles, MemKeeper, MemSink, MemSource, Sink,
     Source, SureDoor, SureFiles, SureKeeper, SureSink, SureSource,
 };
+use std::alloc::Global;
 use std::test::Fail;
 
 /// Takes a source that tells its bytes.
@@ -53,19 +55,30 @@ fn door_tells<D: Door>(door: &D)
     let _ = door;
 }
 
-#[test]
-fn forms_in_memory_tell(rt: HostRuntime) -> Result<(), Fail> {
-    let alloc = rt.alloc();
+/// Hands out the sources, the sinks and the clock.
+fn streams_tell(alloc: Global) -> Result<(), NoMemory> {
     source_tells(&SureSource::new(Vec::new(alloc), 1)?);
     source_tells(&MemSource::new(Vec::new(alloc), 1, Vec::new(alloc))?);
     sink_tells(&SureSink::new(alloc, 0)?);
     sink_tells(&MemSink::new(alloc, 0, Vec::new(alloc))?);
     clock_tells(&MemClock::new(0, 1)?);
+    Ok(())
+}
+
+/// Hands out the keepers, the files and the doors.
+fn rooms_tell(alloc: Global) -> Result<(), NoMemory> {
     keeper_tells(&SureKeeper::new(alloc, Vec::new(alloc), Vec::new(alloc))?);
     keeper_tells(&MemKeeper::new(alloc, Vec::new(alloc), Vec::new(alloc), Vec::new(alloc))?);
     files_tell(&SureFiles::new(alloc, Vec::new(alloc))?);
     files_tell(&MemFiles::new(alloc, Vec::new(alloc), Vec::new(alloc))?);
     door_tells(&SureDoor::new(alloc, Vec::new(alloc), 1, 0)?);
     door_tells(&MemDoor::new(alloc, Vec::new(alloc), 1, 0, Vec::new(alloc))?);
+    Ok(())
+}
+
+#[test]
+fn forms_in_memory_tell(rt: HostRuntime) -> Result<(), Fail> {
+    streams_tell(rt.alloc())?;
+    rooms_tell(rt.alloc())?;
     Ok(())
 }

@@ -3,6 +3,7 @@
 
 use ob_io::{Failed, Files, Sink, Source};
 use std::fmt::Display;
+use std::process::Abort;
 
 /// Adds a word.
 pub(crate) fn tell(text: &mut String, word: &str) {
@@ -54,4 +55,9 @@ pub(crate) fn tell_file<F: Files>(text: &mut String, files: &mut F, name: &str) 
         Ok(bytes) => tell_value(text, &bytes.len()),
         Err(fault) => tell_value(text, &fault),
     }
+}
+
+/// Ends the test where what was told isn't what is wanted.
+pub(crate) fn agree(rt: &impl Abort, text: &str, wanted: &str) {
+    assert_eq!(rt; text, wanted);
 }

@@ -198,10 +198,7 @@ impl<'k, K: Keeper> Engine<'k, K> {
                 next_ids_after();
                 Ok(())
             }
-            Err(NoMemory) => {
-                self.held.spoil();
-                Err(KeepFault::NoMemory)
-            }
+            Err(NoMemory) => Err(KeepFault::NoMemory),
         }
     }
 

@@ -14,6 +14,7 @@ ghost use Rattle.ob_schema.specs.Links.{Leads, leading_to, led_to, tables_on};
 ghost use Rattle.ob_schema.specs.Models.{FieldHas, HasModel, field_at, is_given_from};
 ghost use Rattle.ob_schema.specs.Tables.{Fits, next_of, row_at};
 ghost use Rattle.ob_schema.specs.Val.{val};
+ghost use Rattle.ob_tables.specs.After.{after};
 ghost use Rattle.ob_tables.specs.Fitting.{IsFitEdit, IsFitId};
 
 use crate::fault::{ReadFault, SettleFault};
@@ -278,16 +279,41 @@ impl<'k> Held<'k> {
         Ok(ids)
     }
 
-    /// Stages edits. After a fault these tables are of no use until they are spoiled.
+    /// Stages edits. After a fault only what was kept last is of use.
     pub(crate) fn stage(&mut self, edits: &[Edit]) -> Result<(), NoMemory>
         requires fit { All (IsFitEdit self.old.models) edits.now }
         ensures staged { OnOk result (self.new ≡ with_edits self.old edits.now) }
-        ensures unstaged { OnErr result (self.new ≡ self.old) }
+        ensures spoiled { OnErr result (AreOfSpoiled self.old self.new) }
     {
-        let staged = self.staged().after(edits)?;
-        self.staged = Some(staged);
-        self.phase = Phase::Staged;
-        Ok(())
+        match self.edited(edits) {
+            Ok(staged) => {
+                self.staged = Some(staged);
+                self.phase = Phase::Staged;
+                Ok(())
+            }
+            Err(NoMemory) => {
+                self.spoil();
+                Err(NoMemory)
+            }
+        }
+    }
+
+    /// What edits make of the tables that are staged, which are taken out: tables of edits since
+    /// the last settling are changed in place, and no others are copied.
+    fn edited(&mut self, edits: &[Edit]) -> Result<Tables<'k>, NoMemory>
+        requires fit { All (IsFitEdit self.old.models) edits.now }
+        ensures edited { IfOk result (λ tables. tables ≡ record { models = self.old.models; tables = after self.old.models self.old.staged edits.now }) }
+        ensures models { self.new.models ≡ self.old.models }
+        ensures flushed { self.new.flushed ≡ self.old.flushed }
+        ensures settled { self.new.settled ≡ self.old.settled }
+    {
+        match self.staged.take() {
+            Some(mut staged) => {
+                staged.edit(edits)?;
+                Ok(staged)
+            }
+            None => self.settled().tables().after(edits),
+        }
     }
 
     /// Settles what is staged.

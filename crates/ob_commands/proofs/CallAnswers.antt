@@ -29,15 +29,15 @@ use Rattle.ob_call.specs.declared.call.Call.{Call}
 use Rattle.ob_commands.proofs.CallTruths.{create-may, create-true, write-may, write-true}
 use Rattle.ob_commands.proofs.GivenArguments.{GivesCreate, GivesWrite, everywhere, known_of}
 use Rattle.ob_commands.proofs.SettledCalls.{asks-rests, back-rests, goes-on, rests-tells}
-use Rattle.ob_commands.proofs.Questions.{rose_later}
+use Rattle.ob_effect.proofs.CallerLemmas.{rose_later}
 use Rattle.ob_commands.specs.Asked.{create_expects, write_expects}
 use Rattle.ob_commands.specs.AskedSteps.{IsAskedWrite, IsGivenCreate}
 use Rattle.ob_commands.specs.Changes.{Changes, CreateMayCome, CreatesSome, IsMalformedCreate, IsMalformedWrite, IsTrue, MayBeTrue, Names, TellsFor, TellsIds, TellsTrue, WriteMayCome, WritesSome, first_of, second_of}
-use Rattle.ob_commands.specs.Effect.{Asks}
+use Rattle.ob_effect.specs.Effect.{Asks}
 use Rattle.ob_commands.specs.Making.{ComesBack, SettlesTo, StopsCreate, StopsWrite}
-use Rattle.ob_commands.specs.Rights.{may}
+use Rattle.ob_effect.specs.Rights.{may}
 use Rattle.ob_commands.specs.declared.asked.Change.{Change}
-use Rattle.ob_commands.specs.declared.asking.Caller.{Caller}
+use Rattle.ob_effect.specs.declared.asking.Caller.{Caller}
 use Rattle.ob_io.specs.declared.keeper.Keeper.{Ghosts}
 use Rattle.ob_schema.specs.Broken.{AreSound}
 use Rattle.ob_schema.specs.Facts.{OfAllTold, told_by}

@@ -9,12 +9,12 @@ use Rattle.ob_cache.proofs.CallerLemmas.{Refuses-weaker}
 use Rattle.ob_cache.specs.Calls.{Refuses}
 use Rattle.ob_cache.specs.declared.engine.Engine.{Engine}
 use Rattle.ob_commands.proofs.JudgedEdits.{judges-before}
-use Rattle.ob_commands.proofs.Questions.{rose_later}
-use Rattle.ob_commands.specs.Effect.{Edits, LacksRight}
+use Rattle.ob_effect.proofs.CallerLemmas.{rose_later}
+use Rattle.ob_effect.specs.Effect.{Edits, LacksRight}
 use Rattle.ob_commands.specs.Finding.{TellsFindings}
 use Rattle.ob_commands.specs.Judging.{Judges}
 use Rattle.ob_commands.specs.Making.{StopsCreate, StopsWrite}
-use Rattle.ob_commands.specs.declared.asking.Caller.{Caller}
+use Rattle.ob_effect.specs.declared.asking.Caller.{Caller}
 use Rattle.ob_io.specs.Cause.{Rose}
 use Rattle.ob_io.specs.declared.keeper.Keeper.{Ghosts}
 

@@ -17,7 +17,7 @@ use Rattle.ob_call.specs.Called.{Called}
 use Rattle.ob_commands.proofs.SettledCalls.{rests-tells}
 use Rattle.ob_commands.specs.Changes.{IsTrue, MayBeTrue, Names}
 use Rattle.ob_commands.specs.Making.{StopsCreate, StopsWrite}
-use Rattle.ob_commands.specs.declared.asking.Caller.{Caller}
+use Rattle.ob_effect.specs.declared.asking.Caller.{Caller}
 use Rattle.ob_expr.specs.Meaning.{row_at}
 use Rattle.ob_io.specs.declared.keeper.Keeper.{Ghosts}
 use Rattle.ob_schema.specs.Facts.{told_by}

@@ -5,8 +5,8 @@ use Rattle.std.proofs.lemmas.Bool.{false≢true}
 use Rattle.ob_base.specs.declared.id.FieldNo.{FieldNo}
 use Rattle.ob_base.specs.declared.id.ModelNo.{ModelNo}
 use Rattle.ob_commands.specs.Finding.{IsFound}
-use Rattle.ob_commands.specs.Rights.{may_give}
-use Rattle.ob_commands.specs.declared.asking.Caller.{Caller}
+use Rattle.ob_effect.specs.Rights.{may_give}
+use Rattle.ob_effect.specs.declared.asking.Caller.{Caller}
 use Rattle.ob_commands.specs.declared.findings.Findings.{Findings}
 use Rattle.ob_definition.specs.Types.{is_list, is_relation}
 use Rattle.ob_definition.specs.declared.field_type.FieldType.{FieldType}

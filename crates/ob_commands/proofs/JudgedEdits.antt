@@ -17,11 +17,11 @@ use Rattle.ob_cache.specs.Standing.{NextIdsUpTo, OfStages, Stands, max_next_id}
 use Rattle.ob_cache.specs.Telling.{TellsFacts}
 use Rattle.ob_cache.specs.declared.engine.Engine.{Engine}
 use Rattle.ob_cache.specs.declared.stages.Phase.TheVariants as phase
-use Rattle.ob_commands.proofs.Questions.{asks_edits, asks_keeps, keeps_then, rose_later}
-use Rattle.ob_commands.specs.Effect.{Asks, Edits}
+use Rattle.ob_effect.proofs.CallerLemmas.{asks_edits, asks_keeps, keeps_then, rose_later}
+use Rattle.ob_effect.specs.Effect.{Asks, Edits}
 use Rattle.ob_commands.specs.Judging.{DeniesBy, DeniesMade, Judges, Settles}
-use Rattle.ob_commands.specs.Rights.{IsDeniedBy}
-use Rattle.ob_commands.specs.declared.asking.Caller.{Caller}
+use Rattle.ob_effect.specs.Rights.{IsDeniedBy}
+use Rattle.ob_effect.specs.declared.asking.Caller.{Caller}
 use Rattle.ob_expr.specs.Meaning.{row_at}
 use Rattle.ob_io.specs.Cause.{Rose}
 use Rattle.ob_io.specs.Store.{Store}

@@ -1,11 +1,4 @@
 mod ToldCalls
-mod FieldLaws
-mod NotesKept
-mod Questions
-mod IdFields
-mod OwnFields
-mod CommandDepths
-mod TakenObjects
 mod WrongObjects
 mod GivenArguments
 mod OtherNames
@@ -18,13 +11,3 @@ mod CallAnswers
 mod TakenIds
 mod WriterPassed
 mod FoundLists
-mod CallSteps
-mod Deepest
-mod FilledRows
-mod FitTakings
-mod GivenValues
-mod GroupsTold
-mod MadeRows
-mod ParentLists
-mod RisingSets
-mod ChangesBehind

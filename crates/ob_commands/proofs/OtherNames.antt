@@ -13,8 +13,8 @@ use Rattle.ob_call.specs.Arguments.{entries}
 use Rattle.ob_call.specs.Forms.{fields_at}
 use Rattle.ob_codec.specs.Commands.{listed}
 use Rattle.ob_commands.specs.Holding.{is_other_name, names_other}
-use Rattle.ob_orm.proofs.CallerLemmas.{tested_by_name}
-use Rattle.ob_orm.specs.Values.{is_settable}
+use Rattle.ob_rows.proofs.CallerLemmas.{tested_by_name}
+use Rattle.ob_rows.specs.Values.{is_settable}
 use Rattle.ob_schema.specs.Built.{numbered}
 use Rattle.ob_schema.specs.Models.{field_at, field_named, model_at}
 use Rattle.ob_schema.specs.declared.info.FieldInfo.{FieldInfo}

@@ -8,10 +8,10 @@ use Rattle.ob_cache.specs.Standing.{Holding, IsAtRest, OfStages, RestsAt, Stands
 use Rattle.ob_cache.specs.Telling.{TellsFacts}
 use Rattle.ob_cache.specs.declared.engine.Engine.{Engine}
 use Rattle.ob_cache.specs.declared.stages.Phase.TheVariants as phase
-use Rattle.ob_commands.proofs.Questions.{keeps_then}
+use Rattle.ob_effect.proofs.CallerLemmas.{keeps_then}
 use Rattle.ob_commands.proofs.JudgedEdits.{settled-sound, settled-usable}
-use Rattle.ob_commands.specs.Changes.{NextIdsRise}
-use Rattle.ob_commands.specs.Effect.{Asks, ComesOf, Edits, Keeps}
+use Rattle.ob_effect.specs.NextIds.{NextIdsRise}
+use Rattle.ob_effect.specs.Effect.{Asks, ComesOf, Edits, Keeps}
 use Rattle.ob_commands.specs.Judging.{Settles}
 use Rattle.ob_commands.specs.Making.{ComesBack, SettlesTo}
 use Rattle.ob_io.specs.Store.{Store}

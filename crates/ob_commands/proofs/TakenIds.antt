@@ -17,8 +17,9 @@ use Rattle.ob_base.specs.declared.id.RecId.{RecId}
 use Rattle.ob_cache.specs.Standing.{OfStages}
 use Rattle.ob_cache.specs.declared.engine.Engine.{Engine}
 use Rattle.ob_codec.specs.CommandForms.{list_json, number_json}
-use Rattle.ob_commands.specs.Changes.{IsTaken, NextIdsRise, TellsFor}
-use Rattle.ob_commands.specs.Effect.{Asks, Takes}
+use Rattle.ob_effect.specs.NextIds.{IsTaken, NextIdsRise}
+use Rattle.ob_commands.specs.Changes.{TellsFor}
+use Rattle.ob_effect.specs.Effect.{Asks, Takes}
 use Rattle.ob_commands.specs.Making.{MissesSome, TakeAll, TellsTaken}
 use Rattle.ob_io.specs.declared.keeper.Keeper.{Ghosts}
 use Rattle.ob_schema.specs.Tables.{PlainRow, Tables, next_of, row_at}

@@ -2,9 +2,9 @@
 use Rattle.std.proofs.Common.{◌≡◌, List, sym, subst}
 use Rattle.ob_cache.specs.Standing.{Holding}
 use Rattle.ob_cache.specs.declared.engine.Engine.{Engine}
-use Rattle.ob_commands.proofs.Questions.{noted_on}
-use Rattle.ob_commands.specs.Effect.{Asks, IsNoted}
-use Rattle.ob_commands.specs.declared.notes.Notes.{Notes}
+use Rattle.ob_effect.proofs.CallerLemmas.{noted_on}
+use Rattle.ob_effect.specs.Effect.{Asks, IsNoted}
+use Rattle.ob_effect.specs.declared.notes.Notes.{Notes}
 use Rattle.ob_io.specs.declared.keeper.Keeper.{Ghosts}
 use Rattle.ob_schema.specs.declared.info.ModelInfo.{ModelInfo}
 

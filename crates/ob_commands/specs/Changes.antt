@@ -1,5 +1,5 @@
 -- What a create or a write with commands promises, until its edits are told row by row: it goes on to sound tables, or changes nothing and says something true.
-use Rattle.std.specs.Prelude.{◌≡◌, ◌≤◌, ◌++◌, ◌⊎◌, ◌<◌, ℕ, ⊤, List, ◌∷◌, length, map, All, Contains, Option, Some, None, Result, Ok, Err, true}
+use Rattle.std.specs.Prelude.{◌≡◌, ◌++◌, ◌⊎◌, ℕ, ⊤, List, ◌∷◌, length, map, All, Contains, Option, Some, None, Result, Ok, Err, true}
 use Rattle.ob_access.specs.Policies.{PolicyData}
 use Rattle.ob_base.specs.declared.id.ModelNo.{ModelNo}
 use Rattle.ob_base.specs.declared.id.RecId.{RecId}
@@ -15,16 +15,13 @@ use Rattle.ob_call.specs.Ids.{named_ids}
 use Rattle.ob_codec.specs.CommandForms.{list_json, number_json}
 use Rattle.ob_codec.specs.Commands.{listed}
 use Rattle.ob_commands.specs.Asked.{create_expects, write_expects}
-use Rattle.ob_commands.specs.Rights.{ByGroups, IsDenied, IsGranted, IsUnwritable, IsWithheld}
+use Rattle.ob_effect.specs.Rights.{ByGroups, IsDenied, IsGranted, IsUnwritable, IsWithheld}
 use Rattle.ob_schema.specs.Broken.{AreSound}
 use Rattle.ob_schema.specs.Models.{HasField}
-use Rattle.ob_schema.specs.Tables.{Tables, next_of, row_at}
+use Rattle.ob_schema.specs.Tables.{Tables, row_at}
 use Rattle.ob_schema.specs.declared.info.ModelInfo.{ModelInfo}
 use Rattle.serde_json.specs.Data.{Data, array, boolean}
-
--- the next ids rose or stayed
-abbrev pub NextIdsRise : (old new : Tables) → Type 0
-NextIdsRise old new = (model : ModelNo) → next_of old model ≤ next_of new model
+use Rattle.ob_effect.specs.NextIds.{IsTaken, NextIdsRise}
 
 -- ---- places
 
@@ -86,10 +83,6 @@ module _ (models : List ModelInfo) (policy : PolicyData) (called : Called) where
   MayBeTrue IsWrong _ = ⊥
 
 -- ---- answers
-
--- an id that a row of the model took
-abbrev pub IsTaken : ModelNo → (old new : Tables) → ℕ → Type 0
-IsTaken model old new id = (next_of old model ≤ id) × (id < next_of new model)
 
 -- the id of the one row that an object asks for, or the list of those of some objects, one for each
 abbrev pub TellsFor : ModelNo → (old new : Tables) → (asked json : Data) → Type 0

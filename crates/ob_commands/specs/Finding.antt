@@ -3,8 +3,8 @@ use Rattle.std.specs.Prelude.{◌≡◌, ◌++◌, List, IfSome, false}
 use Rattle.ob_base.specs.declared.place.PathStep.{PathStep}
 use Rattle.ob_base.specs.declared.refusal.Refusal.{Refusal}
 use Rattle.ob_base.specs.declared.refusal.Refusal.TheVariants as refusal
-use Rattle.ob_commands.specs.Rights.{may_give}
-use Rattle.ob_commands.specs.declared.asking.Caller.{Caller}
+use Rattle.ob_effect.specs.Rights.{may_give}
+use Rattle.ob_effect.specs.declared.asking.Caller.{Caller}
 use Rattle.ob_commands.specs.declared.findings.Findings.{Findings}
 
 -- a field that is told is one that the caller may not give

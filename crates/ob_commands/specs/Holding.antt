@@ -4,7 +4,7 @@ use Rattle.std.specs.List.{list_any}
 use Rattle.std.specs.Option.{option_map_or, option_or}
 use Rattle.ob_call.specs.Arguments.{entries}
 use Rattle.ob_codec.specs.Commands.{listed}
-use Rattle.ob_orm.specs.Values.{field_of_name, is_settable}
+use Rattle.ob_rows.specs.Values.{field_of_name, is_settable}
 use Rattle.ob_schema.specs.declared.info.FieldInfo.{FieldInfo}
 use Rattle.ob_schema.specs.declared.info.ModelInfo.{ModelInfo}
 use Rattle.serde_json.specs.Data.{Data, array, object}

@@ -10,9 +10,9 @@ use Rattle.ob_cache.specs.Standing.{NextIdsUpTo, OfStages, Stands, max_next_id}
 use Rattle.ob_cache.specs.Telling.{TellsFacts}
 use Rattle.ob_cache.specs.declared.engine.Engine.{Engine}
 use Rattle.ob_cache.specs.declared.stages.Phase.TheVariants as phase
-use Rattle.ob_commands.specs.Effect.{Keeps}
-use Rattle.ob_commands.specs.Rights.{IsDeniedBy}
-use Rattle.ob_commands.specs.declared.asking.Caller.{Caller}
+use Rattle.ob_effect.specs.Effect.{Keeps}
+use Rattle.ob_effect.specs.Rights.{IsDeniedBy}
+use Rattle.ob_effect.specs.declared.asking.Caller.{Caller}
 use Rattle.ob_io.specs.declared.keeper.Keeper.{Ghosts}
 use Rattle.ob_schema.specs.Broken.{AreSound}
 use Rattle.ob_schema.specs.Facts.{OfAllTold, Told, told_by}

@@ -1,16 +1,6 @@
 pub mod Asked
-pub mod Rights
 pub mod Changes
 pub mod AskedSteps
-pub mod Cells
-pub mod Faults
-pub mod Relations
-pub mod Objects
-pub mod Rows
-pub mod Lists
-pub mod Parents
-pub mod Deletion
-pub mod Effect
 pub mod Finding
 pub mod Judging
 pub mod Making

@@ -9,11 +9,12 @@ use Rattle.ob_cache.specs.Stages.{Stages, forgotten}
 use Rattle.ob_cache.specs.Standing.{IsAtRest, NextIdsUpTo, OfStages, Stands, max_next_id}
 use Rattle.ob_cache.specs.declared.engine.Engine.{Engine}
 use Rattle.ob_cache.specs.declared.stages.Phase.TheVariants as phase
-use Rattle.ob_commands.specs.Changes.{IsTaken, NextIdsRise, TellsFor}
-use Rattle.ob_commands.specs.Effect.{ComesOf, Keeps, LacksRight}
+use Rattle.ob_effect.specs.NextIds.{IsTaken, NextIdsRise}
+use Rattle.ob_commands.specs.Changes.{TellsFor}
+use Rattle.ob_effect.specs.Effect.{ComesOf, Keeps, LacksRight}
 use Rattle.ob_commands.specs.Finding.{TellsFindings}
 use Rattle.ob_commands.specs.Judging.{Judges}
-use Rattle.ob_commands.specs.declared.asking.Caller.{Caller}
+use Rattle.ob_effect.specs.declared.asking.Caller.{Caller}
 use Rattle.ob_io.specs.declared.keeper.Keeper.{Ghosts}
 use Rattle.ob_schema.specs.Tables.{Tables, row_at}
 use Rattle.serde_json.specs.Data.{Data}

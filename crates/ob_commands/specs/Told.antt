@@ -6,7 +6,7 @@ use Rattle.ob_base.specs.declared.refusal.Refusal.{Refusal}
 use Rattle.ob_call.specs.Called.{Called}
 use Rattle.ob_commands.specs.Changes.{CreateMayCome, CreatesSome, WriteMayCome, WritesSome}
 use Rattle.ob_commands.specs.Holding.{gives_others}
-use Rattle.ob_orm.specs.Creatable.{is_creatable, is_writable}
+use Rattle.ob_rows.specs.Creatable.{is_creatable, is_writable}
 use Rattle.ob_orm.specs.Create.{CreateCause, Creates}
 use Rattle.ob_orm.specs.Write.{WriteCause, Writes}
 use Rattle.ob_schema.specs.Tables.{Tables}

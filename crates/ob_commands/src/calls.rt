@@ -23,7 +23,7 @@ use ob_base::{Ledger, Refusal, Steps};
 use ob_cache::Engine;
 use ob_call::{Call, Json};
 use ob_io::Keeper;
-use ob_orm::{is_creatable, is_writable};
+use ob_rows::{is_creatable, is_writable};
 use ob_schema::Schema;
 use std::alloc::Global;
 

@@ -17,30 +17,25 @@ ghost use Rattle.ob_call.specs.Places.{spot_place};
 ghost use Rattle.ob_codec.specs.CommandForms.{IsObject, list_json, number_json};
 ghost use Rattle.ob_commands.specs.Asked.{objects_fault};
 ghost use Rattle.ob_commands.specs.Changes.{CreateMayCome, CreatesSome, TellsFor};
-ghost use Rattle.ob_commands.specs.Effect.{IsNoted, IsStep, IsWriterOver, Keeps};
+ghost use Rattle.ob_effect.specs.Effect.{IsNoted, IsStep, IsWriterOver, Keeps};
 ghost use Rattle.ob_commands.specs.Finding.{IsFound};
 ghost use Rattle.ob_commands.specs.Making.{ComesBack, SettlesTo, StopsCreate, TakeAll, TellsTaken};
-ghost use Rattle.ob_commands.specs.Rights.{may};
+ghost use Rattle.ob_effect.specs.Rights.{may};
 ghost use Rattle.ob_io.specs.Cause.{Rose};
 ghost use Rattle.ob_schema.specs.Models.{HasModel, model_at};
 ghost use Rattle.ob_schema.specs.Tables.{Tables};
 
 use crate::asked::asked_objects;
 use crate::asked::forms::item_place;
-use crate::asking::{Caller, groups_of, may};
-use crate::effect::create_row;
 use crate::findings::{Finder, Findings, add_findings, findings_in};
 use crate::judging::{settle, test_found};
-use crate::notes::Notes;
-use crate::object::object_of;
-use crate::relations::kept_relations;
-use crate::rows::Writer;
 use ob_access::Policy;
 use ob_base::{Ledger, NoMemory, Op, RecId, Refusal, Steps};
 use ob_cache::Engine;
 use ob_call::{Call, Given, Json};
+use ob_effect::{Caller, Notes, Writer, create_row, groups_of, kept_relations, may, object_of};
 use ob_io::Keeper;
-use ob_orm::Author;
+use ob_rows::Author;
 use std::alloc::Global;
 
 /// Makes a row of the values that the object gives, or one of each object of the list, in its

@@ -6,17 +6,16 @@ ghost use Rattle.std.specs.Prelude.{◌≡◌, All, IfErr, IfOk, OnOk, false, tr
 ghost use Rattle.ob_codec.specs.CommandForms.{IsObject};
 ghost use Rattle.ob_codec.specs.Held.{HasIdsAndObjects};
 ghost use Rattle.ob_commands.specs.Finding.{IsFound};
-ghost use Rattle.ob_commands.specs.Rights.{may_give};
-ghost use Rattle.ob_commands.specs.declared.asking.Caller.{Caller};
+ghost use Rattle.ob_effect.specs.Rights.{may_give};
+ghost use Rattle.ob_effect.specs.declared.asking.Caller.{Caller};
 ghost use Rattle.ob_definition.specs.Types.{is_list};
 ghost use Rattle.ob_schema.specs.Models.{FieldHas, HasModel};
 ghost use Rattle.serde_json.specs.View.{view};
 
-use crate::asking::{Caller, may_give};
-use crate::object::input_of;
 use ob_base::{FieldNo, ModelNo, NoMemory, PathStep, Place, Refusal, Sequence};
 use ob_call::Json;
 use ob_codec::{CodecFault, Command, Input};
+use ob_effect::{Caller, input_of, may_give};
 use ob_schema::{Schema, Step};
 use std::alloc::Global;
 

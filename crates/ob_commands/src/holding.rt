@@ -11,7 +11,7 @@ ghost use Rattle.ob_schema.specs.Models.{HasModel};
 
 use ob_base::ModelNo;
 use ob_call::{Call, Json};
-use ob_orm::is_settable;
+use ob_rows::is_settable;
 use ob_schema::Schema;
 use serde_json::Map;
 

@@ -10,25 +10,21 @@ ghost use Rattle.ob_cache.specs.Calls.{Refuses};
 ghost use Rattle.ob_cache.specs.Stages.{IsUsable};
 ghost use Rattle.ob_cache.specs.Telling.{TellsFacts};
 ghost use Rattle.ob_call.specs.Places.{spot_place};
-ghost use Rattle.ob_commands.specs.Effect.{Asks, IsNoted, IsWriterOver, Keeps};
+ghost use Rattle.ob_effect.specs.Effect.{Asks, IsNoted, IsWriterOver, Keeps};
 ghost use Rattle.ob_commands.specs.Finding.{IsFound, TellsFindings};
 ghost use Rattle.ob_commands.specs.Judging.{DeniesBy, DeniesMade, Judges, Settles};
 ghost use Rattle.ob_io.specs.Cause.{Rose};
 ghost use Rattle.ob_schema.specs.Facts.{OfAllTold};
 ghost use Rattle.ob_schema.specs.Models.{HasField, HasModel};
 
-use crate::asking::denier;
-use crate::cells::{cell_of, id_cell};
 use crate::findings::Findings;
-use crate::notes::Notes;
-use crate::rows::Writer;
-use crate::staged::{is_there, naming};
 use ob_base::limits::MAX_ID;
 use ob_base::{
     Broken, BrokenKind, Cell, FieldNo, Ledger, ModelNo, NoMemory, Op, Refusal, RowKey, Steps, Value,
 };
 use ob_cache::{Engine, ReadFault};
 use ob_call::{Below, Spot, malformed};
+use ob_effect::{Notes, Writer, cell_of, denier, id_cell, is_there, naming};
 use ob_io::Keeper;
 use ob_schema::{Facts, ModelInfo, OnDelete, Schema};
 use std::alloc::Global;

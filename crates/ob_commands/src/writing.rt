@@ -16,30 +16,27 @@ ghost use Rattle.ob_call.specs.Forms.{fields_at};
 ghost use Rattle.ob_call.specs.Places.{spot_place};
 ghost use Rattle.ob_commands.specs.Asked.{object_fault};
 ghost use Rattle.ob_commands.specs.Changes.{WriteMayCome, WritesSome};
-ghost use Rattle.ob_commands.specs.Effect.{Asks, IsNoted, IsStep, IsWriterOver, Keeps};
+ghost use Rattle.ob_effect.specs.Effect.{Asks, IsNoted, IsStep, IsWriterOver, Keeps};
 ghost use Rattle.ob_commands.specs.Making.{ComesBack, MissesSome, SettlesTo, StopsWrite};
-ghost use Rattle.ob_commands.specs.Objects.{IsObjectFor};
-ghost use Rattle.ob_commands.specs.Rights.{may};
+ghost use Rattle.ob_effect.specs.Objects.{IsObjectFor};
+ghost use Rattle.ob_effect.specs.Rights.{may};
 ghost use Rattle.ob_io.specs.Cause.{Rose};
 ghost use Rattle.ob_schema.specs.Models.{HasModel, model_at};
 ghost use Rattle.ob_schema.specs.Tables.{Tables};
 
 use crate::asked::{Change, asked_change};
-use crate::asking::{Caller, groups_of, may};
 use crate::creating::finder_of;
-use crate::effect::write_row;
 use crate::findings::findings_in;
 use crate::judging::{settle, test_found};
-use crate::notes::Notes;
-use crate::object::{Object, object_of};
-use crate::relations::kept_relations;
-use crate::rows::Writer;
 use ob_access::Policy;
 use ob_base::{Ledger, ModelNo, Op, RecId, Refusal, RowKey, Steps};
 use ob_cache::Engine;
 use ob_call::{Call, Json, least};
+use ob_effect::{
+    Caller, Notes, Object, Writer, groups_of, kept_relations, may, object_of, write_row,
+};
 use ob_io::Keeper;
-use ob_orm::Author;
+use ob_rows::Author;
 use std::alloc::Global;
 
 /// Sets the values that the object gives in each of the named rows, and carries out its commands on

@@ -24,7 +24,7 @@ use Rattle.ob_call.proofs.CallerLemmas.{at_info}
 use Rattle.ob_fields.proofs.ReadableFields.{columns-readable}
 use Rattle.ob_fields.specs.FieldsGet.{GetsFields, GetsFieldsCause, fields_data, fields_get_expects, fields_told, readable, texts_in}
 use Rattle.ob_fields.specs.FieldsGetSteps.{AreAsked, IsTold, may_read, readable_by}
-use Rattle.ob_orm.specs.declared.asking.Caller.{Caller}
+use Rattle.ob_rows.specs.declared.asking.Caller.{Caller}
 use Rattle.ob_fields.specs.declared.fields.attributes.Attributes.{Attributes}
 use Rattle.ob_schema.specs.Models.{model_at}
 use Rattle.ob_schema.specs.Tables.{Tables}

@@ -10,7 +10,7 @@ use Rattle.serde_json.specs.Data.{Data, boolean, string, array, object, Members,
 use Rattle.serde_json.specs.View.{items_of}
 use Rattle.ob_definition.specs.Keys.{is_selection}
 use Rattle.ob_fields.specs.FieldsGet.{Attribute, asks, attributes_of, choice_data, field_data, members_put, relation_of, selection_of, type_name}
-use Rattle.ob_orm.specs.Values.{is_readonly}
+use Rattle.ob_rows.specs.Values.{is_readonly}
 use Rattle.ob_fields.specs.FieldsGetSteps.{AreAsked, members_put_if}
 use Rattle.ob_fields.specs.declared.fields.attributes.Attributes.{Attributes}
 use Rattle.ob_schema.specs.Models.{model_at}

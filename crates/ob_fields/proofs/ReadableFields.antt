@@ -4,7 +4,7 @@ use Rattle.ob_base.specs.declared.id.FieldNo.{FieldNo}
 use Rattle.ob_base.specs.declared.id.ModelNo.{ModelNo}
 use Rattle.ob_call.specs.Columns.{columns_at}
 use Rattle.ob_fields.specs.FieldsGetSteps.{may_read, readable_by}
-use Rattle.ob_orm.specs.declared.asking.Caller.{Caller}
+use Rattle.ob_rows.specs.declared.asking.Caller.{Caller}
 use Rattle.ob_schema.specs.Built.{numbered}
 use Rattle.ob_schema.specs.Fields.{Column}
 use Rattle.ob_schema.specs.Models.{fields_of}

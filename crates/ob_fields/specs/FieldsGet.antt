@@ -20,8 +20,8 @@ use Rattle.ob_definition.specs.Keys.{is_selection}
 use Rattle.ob_definition.specs.declared.field_type.Choice.{Choice}
 use Rattle.ob_definition.specs.declared.field_type.FieldType.{FieldType}
 use Rattle.ob_definition.specs.declared.field_type.FieldType.TheVariants as type
-use Rattle.ob_orm.specs.Rights.{ByGroups}
-use Rattle.ob_orm.specs.Values.{is_readonly}
+use Rattle.ob_rows.specs.Rights.{ByGroups}
+use Rattle.ob_rows.specs.Values.{is_readonly}
 use Rattle.ob_schema.specs.Fields.{Column}
 use Rattle.ob_schema.specs.Models.{model_at}
 use Rattle.ob_schema.specs.Tables.{Tables}

@@ -11,7 +11,7 @@ use Rattle.ob_base.specs.declared.refusal.Refusal.{Refusal}
 use Rattle.ob_cache.specs.Calls.{Refuses}
 use Rattle.ob_call.specs.Called.{Called}
 use Rattle.ob_fields.specs.FieldsGet.{Attribute, GetsFieldsCause, TellsFields, asks, members_put, readable}
-use Rattle.ob_orm.specs.declared.asking.Caller.{Caller}
+use Rattle.ob_rows.specs.declared.asking.Caller.{Caller}
 use Rattle.ob_schema.specs.Fields.{Column}
 use Rattle.ob_schema.specs.declared.info.ModelInfo.{ModelInfo}
 use Rattle.ob_fields.specs.declared.fields.attributes.Attributes.{Attributes}

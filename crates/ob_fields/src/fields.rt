@@ -26,7 +26,7 @@ use ob_base::{FieldNo, Ledger, ModelNo, NoMemory, Refusal, Steps};
 use ob_cache::Engine;
 use ob_call::{Call, Given, Json, arguments_of, named_fields, put_member};
 use ob_io::Keeper;
-use ob_orm::{Caller, groups_of};
+use ob_rows::{Caller, groups_of};
 use ob_schema::Schema;
 use serde_json::Map;
 use std::alloc::Global;

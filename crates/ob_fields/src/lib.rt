@@ -2,7 +2,7 @@
 //! machine's, and asks no row but those of its caller.
 //!
 //! One room, `fields`, with its own: what is told of one field, and the forms of the arguments. Who
-//! asks, and to which fields calls never give values, stands in the crate `ob_orm`. The definitions
+//! asks, and to which fields calls never give values, stands in the crate `ob_rows`. The definitions
 //! stand in specs/.
 #![tactic(auto)]
 

@@ -13,7 +13,7 @@ use Rattle.ob_base.specs.declared.refusal.BrokenKind.{BrokenKind}
 use Rattle.ob_base.specs.declared.refusal.BrokenKind.TheVariants as kind
 use Rattle.ob_install.proofs.PlacedRows.{count_of}
 use Rattle.ob_install.proofs.RowOwners.{a_edit, its-own, makes-row, one-owner, owner-made, past-there, row_key, unmade-absent, upto-absent}
-use Rattle.ob_orm.specs.Values.{is_readonly}
+use Rattle.ob_rows.specs.Values.{is_readonly}
 use Rattle.ob_install.specs.Install.{Course, IsMadeFor, IsOfManaged, IsValueFor, is_of_group}
 use Rattle.ob_orm.specs.NewRowSteps.{MakesRow}
 use Rattle.ob_install.specs.InstallSteps.{AreCounted, ArePlaced, FindsBy, FindsManaged, Forbids, HasOwnInfo, IsFound, IsFoundBy, IsOwner, IsWhole, course_of, makes}

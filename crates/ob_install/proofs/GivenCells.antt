@@ -15,7 +15,7 @@ use Rattle.ob_base.specs.declared.refusal.BrokenKind.{BrokenKind}
 use Rattle.ob_base.specs.declared.refusal.BrokenKind.TheVariants as kind
 use Rattle.ob_install.proofs.ForbiddenRows.{both-ways, made-owned, stands-info}
 use Rattle.ob_install.proofs.RowOwners.{owner-before, owner-made, unmade-absent}
-use Rattle.ob_orm.specs.Values.{is_readonly}
+use Rattle.ob_rows.specs.Values.{is_readonly}
 use Rattle.ob_install.specs.Install.{ChangesAt, GivesFor, IsValueFor, is_of_group}
 use Rattle.ob_install.specs.InstallSteps.{ArePlaced, FindsBy, Forbids, HasOwnInfo, IsFoundBy, IsOwner, course_of, edits_of, makes}
 use Rattle.ob_install.specs.declared.installing.placing.Placed.{Placed}

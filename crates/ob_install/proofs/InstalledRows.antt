@@ -17,7 +17,7 @@ use Rattle.ob_cache.specs.Stages.{resting}
 use Rattle.ob_cache.specs.Standing.{Holding, RestsAt, Stands, Stays}
 use Rattle.ob_io.specs.Store.{Store}
 use Rattle.ob_orm.specs.NewRowSteps.{HoldsNextIds, so_far}
-use Rattle.ob_orm.specs.declared.author.Author.{Author}
+use Rattle.ob_rows.specs.declared.author.Author.{Author}
 use Rattle.ob_orm.specs.declared.making.next_ids.Making.{Making}
 use Rattle.ob_install.specs.declared.installing.InstallFault.{InstallFault}
 use Rattle.ob_install.specs.declared.installing.InstallFault.TheVariants as fault

@@ -10,7 +10,7 @@ use Rattle.ob_install.specs.Install.{RowsSoFar, course_by, given_by, installed_b
 use Rattle.ob_install.specs.InstallSteps.{AreCounted, IsPlacedBehind, course_of, edits_of, made_by}
 use Rattle.ob_orm.specs.NewRows.{Values, made_row}
 use Rattle.ob_orm.specs.NewRowSteps.{HoldsNextIds, so_far}
-use Rattle.ob_orm.specs.declared.author.Author.{Author}
+use Rattle.ob_rows.specs.declared.author.Author.{Author}
 use Rattle.ob_install.specs.declared.installing.placing.Placed.{Placed}
 use Rattle.ob_schema.specs.Tables.{empty_tables}
 use Rattle.ob_schema.specs.declared.info.ModelInfo.{ModelInfo}

@@ -17,7 +17,8 @@ use Rattle.ob_base.specs.declared.id.Cell.{Cell}
 use Rattle.ob_base.specs.declared.id.ModelNo.{ModelNo}
 use Rattle.ob_base.specs.declared.id.RecId.{RecId}
 use Rattle.ob_base.specs.declared.id.RowKey.{RowKey}
-use Rattle.ob_orm.proofs.CallerLemmas.{made-there, set-there}
+use Rattle.ob_orm.proofs.CallerLemmas.{made-there}
+use Rattle.ob_rows.proofs.CallerLemmas.{set-there}
 use Rattle.ob_install.proofs.PlacedRows.{count_of, min-low}
 use Rattle.ob_install.specs.Install.{IsMadeFor}
 use Rattle.ob_install.specs.InstallSteps.{AreCounted, ArePlaced, IsOwner, course_of, edits_of, makes}

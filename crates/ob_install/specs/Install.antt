@@ -14,9 +14,9 @@ use Rattle.ob_base.specs.declared.refusal.BrokenKind.TheVariants as kind
 use Rattle.ob_base.specs.declared.value.Value.{Value}
 use Rattle.ob_base.specs.declared.value.Value.TheVariants as value
 use Rattle.ob_cache.specs.Calls.{HasTables, KeeperRose, Standpoint, models_at}
-use Rattle.ob_orm.specs.Values.{is_readonly}
+use Rattle.ob_rows.specs.Values.{is_readonly}
 use Rattle.ob_orm.specs.NewRows.{Values, made_row}
-use Rattle.ob_orm.specs.declared.author.Author.{Author}
+use Rattle.ob_rows.specs.declared.author.Author.{Author}
 use Rattle.ob_install.specs.declared.installing.InstallFault.{InstallFault}
 use Rattle.ob_install.specs.declared.installing.InstallFault.TheVariants as fault
 use Rattle.ob_schema.specs.Broken.{IsBroken, Sound}

@@ -9,7 +9,7 @@ use Rattle.ob_base.specs.declared.refusal.BrokenKind.{BrokenKind}
 use Rattle.ob_base.specs.declared.refusal.BrokenKind.TheVariants as kind
 use Rattle.ob_base.specs.declared.refusal.Refusal.{Refusal}
 use Rattle.ob_base.specs.declared.refusal.Refusal.TheVariants as refusal
-use Rattle.ob_orm.specs.Values.{is_readonly}
+use Rattle.ob_rows.specs.Values.{is_readonly}
 use Rattle.ob_install.specs.Install.{ChangesAt, Course, IsForbidden, IsMadeFor, IsOfManaged, RowsSoFar, is_of_group}
 use Rattle.ob_orm.specs.NewRowSteps.{IsReady, so_far}
 use Rattle.ob_install.specs.declared.installing.InstallFault.{InstallFault}

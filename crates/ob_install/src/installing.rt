@@ -29,7 +29,8 @@ use ob_base::limits::MAX_MODELS;
 use ob_base::{Broken, Ledger, ModelNo, RecId, Refusal, Steps};
 use ob_cache::Engine;
 use ob_io::{KeepFault, Keeper};
-use ob_orm::{Author, Maker, begun, settle_rows};
+use ob_orm::{Maker, begun, settle_rows};
+use ob_rows::Author;
 use ob_schema::{Preset, PresetRow};
 use std::alloc::Global;
 

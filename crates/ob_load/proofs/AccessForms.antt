@@ -7,7 +7,7 @@ use Rattle.ob_definition.specs.Definitions.{first_of}
 use Rattle.ob_domain.specs.Trees.{Tree}
 use Rattle.ob_domain.specs.declared.fault.DomainFault.{DomainFault}
 use Rattle.ob_load.specs.AccessFaults.{domain_fault, form_fault, in_entry}
-use Rattle.ob_load.specs.Forms.{under, unless}
+use Rattle.ob_module.specs.Forms.{under, unless}
 use Rattle.ob_load.specs.Rooms.{Refuses}
 use Rattle.ob_load.specs.declared.fault.FaultyModule.{FaultyModule}
 use Rattle.ob_load.specs.declared.fault.LoadFault.{LoadFault}

@@ -7,10 +7,10 @@ use Rattle.std.proofs.lemmas.List.{map-append, take_all, take_more}
 use Rattle.std.proofs.lemmas.List.Elements.{All-push, All-weaker, Contains-append_left, Contains-push, Contains-push_cases}
 use Rattle.std.proofs.lemmas.Option.{same_Some}
 use Rattle.toml.specs.Data.{Members}
-use Rattle.ob_load.specs.Meaning.{depends_of}
-use Rattle.ob_load.specs.Reading.{Module, has_module}
-use Rattle.ob_load.specs.Rooms.{AddsOnce, AreApart, ReachedBy}
-use Rattle.ob_load.proofs.Numbered.{Contains-at, element-at, has-at}
+use Rattle.ob_module.specs.Meaning.{depends_of}
+use Rattle.ob_module.specs.Modules.{AreApart, Module, has_module}
+use Rattle.ob_load.specs.Rooms.{AddsOnce, ReachedBy}
+use Rattle.ob_module.proofs.CallerLemmas.{Contains-at, element-at, has-at}
 use Rattle.ob_load.proofs.Pigeon.{IsDistinct-push}
 
 -- the first elements of a list, one more of them

@@ -4,8 +4,8 @@ use Rattle.std.specs.Prelude.{All, slice_get}
 use Rattle.std.proofs.lemmas.List.Elements.{All-cons, All-nil}
 use Rattle.std.proofs.lemmas.Option.{same_Some, slice_get_within}
 use Rattle.ob_load.specs.Dependencies.{IsCyclic, IsFirstCyclic}
-use Rattle.ob_load.specs.Reading.{Module}
-use Rattle.ob_load.proofs.Numbered.{has-from, number-of}
+use Rattle.ob_module.specs.Modules.{Module}
+use Rattle.ob_module.proofs.CallerLemmas.{has-from, number-of}
 use Rattle.ob_load.proofs.Orders.{source-of}
 
 -- a list before and behind one of its elements

@@ -13,7 +13,7 @@ use Rattle.ob_base.specs.declared.id.RecId.{RecId}
 use Rattle.ob_load.specs.Access.{declared_names, declared_policy, each_behind, entries_of, full_names, group_from, group_names, groups_in, is_among, line_from, lines_in, name_of, ref_name, ref_names, rule_from, rules_in}
 use Rattle.ob_load.specs.AccessFaults.{first_fault}
 use Rattle.ob_load.specs.Preset.{Ref, declared_preset, group_rows, ref_from, refs_of, rows_from, rows_in}
-use Rattle.ob_load.specs.Reading.{Module}
+use Rattle.ob_module.specs.Modules.{Module}
 use Rattle.ob_load.specs.Rooms.{AreBrought, AreConsistent, BringsOn, GrowsBy, HaveRows, IsGroupOf, IsLineOf, IsRuleOf}
 use Rattle.ob_load.specs.RowFaults.{module_fault, modules_fault, whole_fault}
 use Rattle.ob_load.specs.declared.access.Declared.{Declared}
@@ -21,7 +21,7 @@ use Rattle.ob_load.specs.declared.fault.FaultyModule.{FaultyModule}
 use Rattle.ob_load.specs.declared.rows.Brought.{Brought}
 use Rattle.ob_load.proofs.AccessSteps.{fault-here, fault-on, fault_from, parted-at}
 use Rattle.ob_load.proofs.GroupRows.{groups-have}
-use Rattle.ob_load.proofs.Numbered.{element-at}
+use Rattle.ob_module.proofs.CallerLemmas.{element-at}
 use Rattle.ob_schema.specs.Built.{numbered}
 use Rattle.ob_schema.specs.Presets.{IsPreset}
 use Rattle.ob_schema.specs.declared.info.ModelInfo.{ModelInfo}

@@ -15,8 +15,8 @@ use Rattle.ob_domain.specs.Over.{IsOver}
 use Rattle.ob_domain.specs.Trees.{tree_of_domain}
 use Rattle.ob_load.specs.Access.{group_from, is_among, line_from, name_of, rule_from}
 use Rattle.ob_load.specs.AccessFaults.{first_fault, form_fault, group_fault, group_fits, in_entry, line_fault, line_fits, name_fits, name_is_free, rule_fault, rule_misfit}
-use Rattle.ob_load.specs.Forms.{under, unless}
-use Rattle.ob_load.specs.Meaning.{text_at, texts_at}
+use Rattle.ob_module.specs.Forms.{under, unless}
+use Rattle.ob_module.specs.Meaning.{text_at, texts_at}
 use Rattle.ob_load.specs.Rooms.{GrowsBy, IsGroupOf}
 use Rattle.ob_load.specs.declared.access.Declared.{Declared}
 use Rattle.ob_load.specs.declared.fault.FaultyModule.{FaultyModule}

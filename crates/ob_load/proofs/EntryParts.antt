@@ -16,10 +16,10 @@ use Rattle.ob_base.specs.declared.place.PathStep.TheVariants.{Key}
 use Rattle.ob_definition.specs.Definitions.{first_of}
 use Rattle.ob_domain.specs.Trees.{Tree, constant}
 use Rattle.ob_domain.specs.declared.fault.DomainFault.{DomainFault}
-use Rattle.ob_load.specs.Access.{asked_ops, domain_in, granted_ops, group_from, group_id, group_ids, is_group, line_from, model_in, name_of, rule_from, word_at}
+use Rattle.ob_load.specs.Access.{asked_ops, domain_in, granted_ops, group_from, group_id, group_ids, is_group, line_from, model_in, name_of, rule_from}
+use Rattle.ob_module.specs.Meaning.{text_at, texts_at, word_at}
 use Rattle.ob_load.specs.AccessFaults.{domain_fault, form_fault, group_fits, group_is_there, groups_at, in_entry, line_fits, model_is_there, name_fits, name_is_free, rule_misfit, rule_names_fit}
-use Rattle.ob_load.specs.Forms.{under, unless}
-use Rattle.ob_load.specs.Meaning.{text_at, texts_at}
+use Rattle.ob_module.specs.Forms.{under, unless}
 use Rattle.ob_load.specs.declared.fault.FaultyModule.{FaultyModule}
 use Rattle.ob_load.proofs.AccessForms.{domain-none, entry-first, entry-none, entry-second, unless-false, unless-true}
 use Rattle.ob_load.proofs.AccessSteps.{first-none, first-some}

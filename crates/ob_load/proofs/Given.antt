@@ -15,8 +15,8 @@ use Rattle.ob_base.specs.declared.id.ModelNo.{ModelNo}
 use Rattle.ob_definition.specs.Definitions.{first_of}
 use Rattle.ob_definition.specs.declared.field_type.FieldType.{FieldType}
 use Rattle.ob_definition.specs.declared.field_type.FieldType.TheVariants as type
-use Rattle.ob_load.specs.Keys.{reference_table}
-use Rattle.ob_load.specs.Meaning.{listed, text_at}
+use Rattle.ob_module.specs.Keys.{reference_table}
+use Rattle.ob_module.specs.Meaning.{listed, text_at}
 use Rattle.ob_load.specs.Preset.{Ref, given_as, group_model, group_row_named, in_32_bits, is_to, ref_named, reference, references, rising, row_named, rows_given, scalar, target_of}
 use Rattle.ob_load.specs.Rooms.{HaveRows, IsBehind, IsPlainHeld}
 use Rattle.ob_schema.specs.Presets.{IsPresetOf, IsTargetOf}

@@ -9,7 +9,7 @@ use Rattle.toml.specs.Data.{Data, Members}
 use Rattle.ob_base.specs.declared.id.ModelNo.{ModelNo}
 use Rattle.ob_load.specs.Access.{entries_of}
 use Rattle.ob_load.specs.Preset.{group_model, group_row, group_rows, group_rows_in}
-use Rattle.ob_load.specs.Reading.{Module}
+use Rattle.ob_module.specs.Modules.{Module}
 use Rattle.ob_load.specs.Rooms.{AreFitting, FitsBehind}
 use Rattle.ob_load.proofs.AccessSteps.{parted-at}
 use Rattle.ob_load.proofs.Given.{some-weaker}

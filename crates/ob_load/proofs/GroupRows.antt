@@ -11,11 +11,11 @@ use Rattle.toml.specs.Data.{Data}
 use Rattle.ob_base.specs.declared.id.ModelNo.{ModelNo}
 use Rattle.ob_load.specs.Access.{entries_of, full_names, group_names, name_of}
 use Rattle.ob_load.specs.Preset.{Ref, group_model, group_row, group_rows, group_rows_in}
-use Rattle.ob_load.specs.Reading.{Module}
+use Rattle.ob_module.specs.Modules.{Module}
 use Rattle.ob_load.specs.Rooms.{AreBrought, FitsAnywhere, HaveRows}
 use Rattle.ob_load.specs.declared.rows.Brought.{Brought}
 use Rattle.ob_load.proofs.Bringing.{preset-anywhere}
-use Rattle.ob_load.proofs.Numbered.{Contains-at, element-at}
+use Rattle.ob_module.proofs.CallerLemmas.{Contains-at, element-at}
 use Rattle.ob_schema.specs.declared.info.ModelInfo.{ModelInfo}
 use Rattle.ob_schema.specs.declared.preset.PresetRow.{PresetRow}
 

@@ -7,9 +7,11 @@ use Rattle.std.proofs.lemmas.List.{append_cancel_left, append_cancel_right, leng
 use Rattle.std.proofs.lemmas.List.Elements.{All-contains, All-contains_itself, All-weaker, Contains-append_left, Contains-append_right}
 use Rattle.std.proofs.lemmas.Slice.Eq.{bytes_eq-Decides}
 use Rattle.ob_load.specs.declared.fault.FaultyModule.{FaultyModule}
-use Rattle.ob_load.specs.Reading.{Module, has_module, next_module}
-use Rattle.ob_load.specs.Texts.{AgreesWith, FileTexts, base_text, file_name, stock_text, text_in}
-use Rattle.ob_load.proofs.Numbered.{has-at}
+use Rattle.ob_module.specs.Modules.{Module, has_module}
+use Rattle.ob_load.specs.Reading.{next_module}
+use Rattle.ob_load.specs.Texts.{AgreesWith, FileTexts, file_name, text_in}
+use Rattle.ob_module.specs.Texts.{base_text, stock_text}
+use Rattle.ob_module.proofs.CallerLemmas.{has-at}
 
 -- what is known of a file is known of texts that the files may hold
 pub held-texts : (told : Option FileTexts) (file : List ℕ) (P : Option (List ℕ) → Type 0) (text : Option (List ℕ)) → P text → IfSome told (λ t. P (t file)) → (texts : FileTexts) × AgreesWith told texts × P (texts file)

@@ -6,10 +6,8 @@ pub mod Circles
 pub mod DeclaredTo
 pub mod Declaring
 pub mod DocumentSteps
-pub mod Documents
 pub mod DomainTexts
 pub mod Entering
-pub mod Entries
 pub mod EntryParts
 pub mod Given
 pub mod GroupIds
@@ -20,7 +18,6 @@ pub mod Loads
 pub mod ModuleSteps
 pub mod ModuleTexts
 pub mod NextModules
-pub mod Numbered
 pub mod Orders
 pub mod Owners
 pub mod Passing
@@ -35,4 +32,3 @@ pub mod Taking
 pub mod Told
 pub mod ValueSteps
 pub mod Wholes
-pub mod Wrongs

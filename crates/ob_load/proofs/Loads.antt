@@ -7,7 +7,7 @@ use Rattle.ob_definition.specs.Ranking.{rank}
 use Rattle.ob_definition.specs.declared.fault.SchemaFault.{SchemaFault}
 use Rattle.ob_definition.specs.declared.definition.ModelDef.{ModelDef}
 use Rattle.ob_schema.specs.Built.{IsBuilt}
-use Rattle.ob_schema.specs.Faults.{IsFaultless, IsFirst}
+use Rattle.ob_registry.specs.Faults.{IsFaultless, IsFirst}
 use Rattle.ob_schema.specs.declared.preset.PresetRow.{PresetRow}
 use Rattle.ob_schema.specs.declared.schema.Schema.{Schema}
 use Rattle.ob_access.specs.Policies.{PolicyData}
@@ -15,8 +15,9 @@ use Rattle.ob_load.specs.Access.{declared_policy}
 use Rattle.ob_load.specs.Preset.{declared_preset}
 use Rattle.ob_load.specs.RowFaults.{modules_fault}
 use Rattle.ob_load.specs.Dependencies.{IsCyclic, IsFirstCyclic, Takes}
-use Rattle.ob_load.specs.Loading.{AreTaken, IsFirstFault, IsLoaded, all_models, model_place, owner_of, wanted}
-use Rattle.ob_load.specs.Reading.{Module, ReadsTo, whole}
+use Rattle.ob_load.specs.Loading.{AreTaken, IsFirstFault, IsLoaded, all_models, model_place, owner_of}
+use Rattle.ob_module.specs.Modules.{Module, wanted}
+use Rattle.ob_load.specs.Reading.{ReadsTo, whole}
 use Rattle.ob_load.specs.declared.loading.Loaded.{Loaded}
 use Rattle.ob_load.specs.declared.fault.FaultyModule.{FaultyModule}
 use Rattle.ob_load.specs.declared.fault.LoadFault.{LoadFault}

@@ -10,10 +10,11 @@ use Rattle.toml.specs.Parse.{parse_document}
 use Rattle.ob_base.specs.declared.place.PathStep.{PathStep}
 use Rattle.ob_load.specs.declared.fault.FaultyModule.{FaultyModule}
 use Rattle.ob_load.specs.declared.fault.ModuleFault.TheVariants as fault
-use Rattle.ob_load.specs.Keys.{document}
-use Rattle.ob_load.specs.Reading.{Module, document_of, formed, module_from, next_module, whole}
-use Rattle.ob_load.specs.Rooms.{inside_text}
-use Rattle.ob_load.specs.Texts.{FileTexts, base_text, file_name, stock_text, text_in}
+use Rattle.ob_module.specs.Keys.{document}
+use Rattle.ob_module.specs.Modules.{Module}
+use Rattle.ob_load.specs.Reading.{document_of, formed, module_from, next_module, whole}
+use Rattle.ob_module.specs.Texts.{base_text, inside_text, stock_text}
+use Rattle.ob_load.specs.Texts.{FileTexts, file_name, text_in}
 
 -- ---- where it is
 

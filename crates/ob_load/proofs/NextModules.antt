@@ -2,8 +2,7 @@
 use Rattle.std.proofs.Common.{◌≡◌, ◌<◌, ◌≤◌, [], List, ℕ, Some, length, drop, get_or}
 use Rattle.std.specs.Prelude.{slice_get}
 use Rattle.std.proofs.lemmas.List.{get_or_default}
-use Rattle.ob_load.specs.Reading.{Module}
-use Rattle.ob_load.specs.Rooms.{numbered}
+use Rattle.ob_module.specs.Modules.{Module, numbered}
 use Rattle.ob_load.proofs.AccessSteps.{gets-at}
 use Rattle.ob_load.proofs.Owners.{numbered-end, numbered-low, numbered-next, numbered-rest}
 

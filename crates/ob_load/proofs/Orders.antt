@@ -2,12 +2,11 @@
 use Rattle.std.proofs.Common.{◌≡◌, ℕ, zero, suc, ◌≤◌, Bool, true, false, List, [], ◌∷◌, ◌++◌, length, map, Contains, Some, refl, ap, subst, ◌∙◌, arith}
 use Rattle.std.specs.Prelude.{All, slice_get}
 use Rattle.std.proofs.lemmas.List.Elements.{All-contains}
-use Rattle.ob_load.specs.Meaning.{depends_of}
+use Rattle.ob_module.specs.Meaning.{depends_of}
 use Rattle.ob_schema.specs.Chains.{HasChain, ReachesOver}
 use Rattle.ob_load.specs.Dependencies.{DependsOn, IsCyclic, Takes, all_taken, passes, takes}
-use Rattle.ob_load.specs.Reading.{Module, has_module}
-use Rattle.ob_load.specs.Rooms.{AreApart, numbered}
-use Rattle.ob_load.proofs.Numbered.{has-at, has-from, numbered-has, numbered-number}
+use Rattle.ob_module.specs.Modules.{AreApart, Module, has_module, numbered}
+use Rattle.ob_module.proofs.CallerLemmas.{has-at, has-from, numbered-has, numbered-number}
 use Rattle.ob_load.proofs.Pigeon.{no_long_chain}
 
 module _ (modules : List Module) where

@@ -10,10 +10,9 @@ use Rattle.toml.specs.Data.{Members, table}
 use Rattle.toml.specs.View.{view}
 use Rattle.toml.specs.declared.value.Value.{Value}
 use Rattle.ob_load.specs.Loading.{all_models, owner_of}
-use Rattle.ob_load.specs.Meaning.{items_at, model_from, models_of}
-use Rattle.ob_load.specs.Reading.{Module}
-use Rattle.ob_load.specs.Rooms.{numbered}
-use Rattle.ob_load.proofs.Numbered.{numbered-same}
+use Rattle.ob_module.specs.Meaning.{items_at, model_from, models_of}
+use Rattle.ob_module.specs.Modules.{Module, numbered}
+use Rattle.ob_module.proofs.CallerLemmas.{numbered-same}
 
 -- an entry of the first module
 pub owner-here : (m : Module) (more : List Module) (n : ℕ) → n < length (models_of m.document) → owner_of (m ∷ more) n ≡ Some (m, n)

@@ -2,7 +2,7 @@
 use Rattle.std.proofs.Common.{◌≡◌, ℕ, true, List, [], ◌∷◌, ◌++◌, Option, None, Some, refl, sym, ap, append_assoc, ◌∙◌}
 use Rattle.std.specs.Prelude.{All}
 use Rattle.std.proofs.lemmas.List.Elements.{All-nil, All-push}
-use Rattle.ob_load.specs.Reading.{Module, has_module}
+use Rattle.ob_module.specs.Modules.{Module, has_module}
 use Rattle.ob_load.specs.Rooms.{Passes}
 
 module _ (modules : List Module) where

@@ -6,12 +6,12 @@ use Rattle.std.proofs.lemmas.Bool.{cases_eq}
 use Rattle.std.proofs.lemmas.Bool.Decides.{Decides-eqb}
 use Rattle.std.proofs.lemmas.List.Elements.{All-append, All-contains, All-weaker, Contains-append_left, Decides-contains, contains_decides}
 use Rattle.std.proofs.lemmas.Option.{same_Some, slice_get_within}
-use Rattle.ob_load.specs.Meaning.{depends_of}
+use Rattle.ob_module.specs.Meaning.{depends_of}
 use Rattle.ob_schema.specs.Chains.{Reaches}
 use Rattle.ob_load.specs.Dependencies.{DependsOn, IsCyclic}
-use Rattle.ob_load.specs.Reading.{Module, has_module}
-use Rattle.ob_load.specs.Rooms.{AreApart, ReachedBy}
-use Rattle.ob_load.proofs.Numbered.{Contains-at, has-at, has-from, number-of}
+use Rattle.ob_module.specs.Modules.{AreApart, Module, has_module}
+use Rattle.ob_load.specs.Rooms.{ReachedBy}
+use Rattle.ob_module.proofs.CallerLemmas.{Contains-at, has-at, has-from, number-of}
 use Rattle.ob_load.proofs.Orders.{source-of}
 use Rattle.ob_load.proofs.Pigeon.{Reaches-more, few_below, stays}
 

@@ -5,8 +5,9 @@ use Rattle.toml.specs.Data.{Members}
 use Rattle.ob_load.specs.declared.fault.FaultyModule.{FaultyModule}
 use Rattle.ob_load.specs.declared.fault.LoadFault.{LoadFault}
 use Rattle.ob_load.specs.declared.fault.ModuleFault.TheVariants as fault
-use Rattle.ob_load.specs.Reading.{Module, module_from, next_module, whole}
-use Rattle.ob_load.specs.Rooms.{inside_text}
+use Rattle.ob_module.specs.Modules.{Module}
+use Rattle.ob_load.specs.Reading.{module_from, next_module, whole}
+use Rattle.ob_module.specs.Texts.{inside_text}
 use Rattle.ob_load.specs.Texts.{AgreesWith, FileTexts, file_name, text_in}
 use Rattle.ob_load.proofs.HeldTexts.{held-texts, absent-texts, long-texts, some-texts}
 use Rattle.ob_load.proofs.ModuleTexts.{long-refused, text_in-file, text_in-inside}

@@ -4,9 +4,9 @@ use Rattle.std.specs.Prelude.{All}
 use Rattle.std.proofs.lemmas.List.Elements.{All-nil, All-push}
 use Rattle.ob_load.specs.declared.fault.FaultyModule.{FaultyModule}
 use Rattle.ob_load.specs.declared.fault.ModuleFault.TheVariants as fault
-use Rattle.ob_load.specs.Loading.{wanted}
-use Rattle.ob_load.specs.Meaning.{depends_of}
-use Rattle.ob_load.specs.Reading.{Module, ReadsTo, has_module, next_module, whole}
+use Rattle.ob_module.specs.Modules.{Module, has_module, wanted}
+use Rattle.ob_module.specs.Meaning.{depends_of}
+use Rattle.ob_load.specs.Reading.{ReadsTo, next_module, whole}
 use Rattle.ob_load.specs.Rooms.{AreHeld, AreReadWhole, Passes}
 use Rattle.ob_load.specs.Texts.{AgreesWith, FileTexts, text_in}
 use Rattle.ob_load.proofs.HeldTexts.{IsOf, all-before, all-last, joined-texts, some-texts}

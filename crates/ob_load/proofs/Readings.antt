@@ -6,8 +6,9 @@ use Rattle.std.proofs.lemmas.Bool.Decides.{nat_tests}
 use Rattle.std.proofs.lemmas.List.Elements.{All-head, All-tail}
 use Rattle.ob_load.specs.declared.fault.FaultyModule.{FaultyModule}
 use Rattle.ob_load.specs.declared.fault.ModuleFault.TheVariants as fault
-use Rattle.ob_load.specs.Meaning.{depends_of}
-use Rattle.ob_load.specs.Reading.{Module, ReadsTo, all_read, fails, has_module, module_from, next_module, passes, reads, whole}
+use Rattle.ob_module.specs.Meaning.{depends_of}
+use Rattle.ob_module.specs.Modules.{Module, has_module}
+use Rattle.ob_load.specs.Reading.{ReadsTo, all_read, fails, module_from, next_module, passes, reads, whole}
 use Rattle.ob_load.specs.Rooms.{Passes, taken_before}
 
 -- below the limit it doesn't matter how many were read

@@ -5,7 +5,8 @@ use Rattle.toml.specs.Data.{Data}
 use Rattle.ob_base.specs.declared.id.ModelNo.{ModelNo}
 use Rattle.ob_base.specs.declared.place.PathStep.{PathStep}
 use Rattle.ob_definition.specs.Definitions.{first_of}
-use Rattle.ob_load.specs.Access.{model_in, word_at}
+use Rattle.ob_load.specs.Access.{model_in}
+use Rattle.ob_module.specs.Meaning.{word_at}
 use Rattle.ob_load.specs.AccessFaults.{form_fault, in_entry, model_is_there}
 use Rattle.ob_load.specs.Preset.{Ref, row_from, values_of}
 use Rattle.ob_load.specs.RowFaults.{ref_is_free, row_fits, values_fit}

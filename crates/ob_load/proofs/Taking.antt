@@ -6,10 +6,10 @@ use Rattle.std.proofs.lemmas.Option.{same_Some}
 use Rattle.toml.specs.Data.{Members}
 use Rattle.ob_schema.specs.Chains.{HasChain}
 use Rattle.ob_load.specs.Dependencies.{DependsOn, IsCyclic, all_taken}
-use Rattle.ob_load.specs.Meaning.{depends_of}
-use Rattle.ob_load.specs.Reading.{Module, has_module}
-use Rattle.ob_load.specs.Rooms.{AreApart, AreReadWhole, TakesOn}
-use Rattle.ob_load.proofs.Numbered.{Contains-at, numbered-push}
+use Rattle.ob_module.specs.Meaning.{depends_of}
+use Rattle.ob_module.specs.Modules.{AreApart, Module, has_module}
+use Rattle.ob_load.specs.Rooms.{AreReadWhole, TakesOn}
+use Rattle.ob_module.proofs.CallerLemmas.{Contains-at, numbered-push}
 use Rattle.ob_load.proofs.Orders.{Takes-append, Takes-one, Takes-taken, no_chain, taken-has, taken-new}
 
 -- an element's image is among the images

@@ -2,10 +2,10 @@
 use Rattle.std.proofs.Common.{◌≡◌, ◌⊎◌, inl, inr, ℕ, zero, suc, true, List, [], ◌∷◌, ◌++◌, Contains, Option, None, Some, ap, subst, ◌∙◌, arith}
 use Rattle.std.specs.Prelude.{All}
 use Rattle.std.proofs.lemmas.List.Elements.{All-contains, All-contains_itself, All-nil, All-push, All-weaker, Contains-append_cases, Contains-append_left, Contains-append_right}
-use Rattle.ob_load.specs.Meaning.{depends_of}
-use Rattle.ob_load.specs.Reading.{Module, has_module}
+use Rattle.ob_module.specs.Meaning.{depends_of}
+use Rattle.ob_module.specs.Modules.{Module, has_module}
 use Rattle.ob_load.specs.Rooms.{AreHeld, AreReadWhole, IsHeld, Passes, taken_before}
-use Rattle.ob_load.proofs.Numbered.{has-more, has-pushed}
+use Rattle.ob_module.proofs.CallerLemmas.{has-more, has-pushed}
 
 -- what holds of a name wherever it is held
 held-weaker : (modules now : List Module) (coming left names : List (List ℕ)) → ((name : List ℕ) → IsHeld modules coming name → IsHeld now left name) → AreHeld modules coming names

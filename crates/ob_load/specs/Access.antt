@@ -1,5 +1,5 @@
 -- What modules declare of access: groups with their ids, access lines, and rules with their domains read. Of modules in which something doesn't fit this says nothing that counts.
-use Rattle.std.specs.Prelude.{ℕ, suc, List, [], ◌∷◌, ◌++◌, codes, map, filter, flat_map, position, is_some, Bool, true, false, Option, option_map, option_and_then, unwrap_or, Result, Err}
+use Rattle.std.specs.Prelude.{ℕ, suc, List, [], ◌∷◌, ◌++◌, codes, map, filter, flat_map, position, is_some, Bool, true, Option, option_map, option_and_then, unwrap_or, Result, Err}
 use Rattle.std.specs.List.{enumerate_from, list_any}
 use Rattle.std.specs.Option.{option_map_or}
 use Rattle.std.specs.Result.{result_unwrap_or}
@@ -16,18 +16,14 @@ use Rattle.ob_domain.specs.Reading.{domain_from}
 use Rattle.ob_domain.specs.Trees.{Tree, constant}
 use Rattle.ob_domain.specs.declared.fault.DomainFault.{DomainFault}
 use Rattle.ob_domain.specs.declared.fault.DomainFault.TheVariants as domain
-use Rattle.ob_load.specs.Meaning.{flag_at, items_at, text_at, texts_at}
-use Rattle.ob_load.specs.Reading.{Module}
+use Rattle.ob_module.specs.Meaning.{is_set, items_at, text_at, texts_at, word_at}
+use Rattle.ob_module.specs.Modules.{Module}
 use Rattle.ob_schema.specs.Models.{model_named}
 use Rattle.ob_schema.specs.declared.info.ModelInfo.{ModelInfo}
 
 -- the entries of a table of a document
 abbrev pub entries_of : List ℕ → Members → List Data
 entries_of key document = items_at key (table document)
-
--- the text at a key, the empty one where there is none
-abbrev pub word_at : List ℕ → Data → List ℕ
-word_at key d = unwrap_or (text_at key d) []
 
 -- the full name of what a module declares
 abbrev pub full_name : List ℕ → List ℕ → List ℕ
@@ -70,10 +66,6 @@ is_group groups name = is_some (group_id groups name)
 -- the ids of the groups of some names, rising
 abbrev pub group_ids : List (List ℕ) → List (List ℕ) → List RecId
 group_ids groups names = map (λ p. record { 0 = p.0 }) (filter (λ p. is_among names p.1) (enumerate_from 1 groups))
-
--- a flag that is set
-abbrev pub is_set : List ℕ → Data → Bool
-is_set key d = unwrap_or (flag_at key d) false
 
 -- the operations that an access line grants: those whose flags are set
 abbrev pub granted_ops : Data → Ops

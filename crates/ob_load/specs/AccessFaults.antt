@@ -8,9 +8,9 @@ use Rattle.ob_base.specs.declared.place.PathStep.TheVariants.{Key, Item}
 use Rattle.ob_definition.specs.Definitions.{first_of}
 use Rattle.ob_domain.specs.Trees.{Tree}
 use Rattle.ob_domain.specs.declared.fault.DomainFault.{DomainFault}
-use Rattle.ob_load.specs.Access.{domain_in, entries_of, is_among, is_group, model_in, name_of, word_at}
-use Rattle.ob_load.specs.Forms.{Form, any_key, at_key, list_of, table_where, text_where, under, unless}
-use Rattle.ob_load.specs.Meaning.{text_at}
+use Rattle.ob_load.specs.Access.{domain_in, entries_of, is_among, is_group, model_in, name_of}
+use Rattle.ob_module.specs.Meaning.{text_at, word_at}
+use Rattle.ob_module.specs.Forms.{Form, any_key, at_key, list_of, table_where, text_where, under, unless}
 use Rattle.ob_load.specs.declared.fault.FaultyModule.{FaultyModule}
 use Rattle.ob_load.specs.declared.fault.ModuleFault.TheVariants as fault
 use Rattle.ob_schema.specs.Models.{model_named}

@@ -1,8 +1,8 @@
 -- Which modules depend on which, and the order in which modules are taken.
 use Rattle.std.specs.Prelude.{◌≡◌, ℕ, List, [], ◌∷◌, ◌++◌, All, Contains, true, false}
 use Rattle.ob_schema.specs.Chains.{Reaches}
-use Rattle.ob_load.specs.Meaning.{depends_of}
-use Rattle.ob_load.specs.Reading.{Module, has_module}
+use Rattle.ob_module.specs.Meaning.{depends_of}
+use Rattle.ob_module.specs.Modules.{Module, has_module}
 
 module _ (modules : List Module) where
   -- one of these modules depends on a module of this name

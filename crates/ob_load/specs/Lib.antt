@@ -1,7 +1,4 @@
 -- What contracts of public functions cite.
-pub mod Forms
-pub mod Keys
-pub mod Meaning
 pub mod Texts
 pub mod Reading
 pub mod Dependencies

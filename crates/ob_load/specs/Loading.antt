@@ -6,22 +6,19 @@ use Rattle.ob_definition.specs.Ranking.{rank}
 use Rattle.ob_definition.specs.declared.definition.ModelDef.{ModelDef}
 use Rattle.ob_definition.specs.declared.fault.SchemaFault.{SchemaFault}
 use Rattle.ob_schema.specs.Built.{IsBuilt}
-use Rattle.ob_schema.specs.Faults.{IsFaultless, IsFirst}
+use Rattle.ob_registry.specs.Faults.{IsFaultless, IsFirst}
 use Rattle.ob_schema.specs.declared.preset.PresetRow.{PresetRow}
 use Rattle.ob_schema.specs.declared.schema.Schema.{Schema}
 use Rattle.ob_access.specs.Policies.{PolicyData}
 use Rattle.ob_load.specs.Access.{declared_policy}
 use Rattle.ob_load.specs.Dependencies.{IsCyclic, IsFirstCyclic, Takes}
-use Rattle.ob_load.specs.Meaning.{models_of}
+use Rattle.ob_module.specs.Meaning.{models_of}
 use Rattle.ob_load.specs.Preset.{declared_preset}
-use Rattle.ob_load.specs.Reading.{Module, ReadsTo, whole}
+use Rattle.ob_module.specs.Modules.{Module, wanted}
+use Rattle.ob_load.specs.Reading.{ReadsTo, whole}
 use Rattle.ob_load.specs.RowFaults.{modules_fault}
 use Rattle.ob_load.specs.declared.fault.FaultyModule.{FaultyModule}
 use Rattle.ob_load.specs.declared.fault.ModuleFault.TheVariants as fault
-
--- the modules that are loaded in any case, and then those that are named
-abbrev pub wanted : List (List ℕ) → List (List ℕ)
-wanted names = codes "base" ∷ codes "stock" ∷ names
 
 -- the models of modules, one after another
 abbrev pub all_models : List Module → List ModelDef

@@ -19,9 +19,9 @@ use Rattle.ob_definition.specs.Definitions.{first_of}
 use Rattle.ob_definition.specs.declared.field_type.FieldType.{FieldType}
 use Rattle.ob_definition.specs.declared.field_type.FieldType.TheVariants as type
 use Rattle.ob_load.specs.Access.{each_behind, entries_of, group_names, model_in, name_of, ref_name}
-use Rattle.ob_load.specs.Keys.{reference_table}
-use Rattle.ob_load.specs.Meaning.{listed, text_at}
-use Rattle.ob_load.specs.Reading.{Module}
+use Rattle.ob_module.specs.Keys.{reference_table}
+use Rattle.ob_module.specs.Meaning.{listed, text_at}
+use Rattle.ob_module.specs.Modules.{Module}
 use Rattle.ob_schema.specs.Models.{field_at, field_named, model_at, model_named}
 use Rattle.ob_schema.specs.declared.info.FieldInfo.{FieldInfo}
 use Rattle.ob_schema.specs.declared.info.ModelInfo.{ModelInfo}

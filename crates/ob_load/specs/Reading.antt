@@ -1,22 +1,17 @@
 -- The modules in the order of reading: each named one, and after it those on which it depends, each once; or the first fault of a text.
-use Rattle.std.specs.Prelude.{◌≡◌, ℕ, List, [], ◌∷◌, ◌++◌, length, nat_le, nat_lt, codes, Bool, true, false, if◌then◌else◌, Option, None, Result, Ok, Err}
-use Rattle.std.specs.List.{list_any}
+use Rattle.std.specs.Prelude.{◌≡◌, ℕ, List, [], ◌∷◌, ◌++◌, length, nat_le, nat_lt, codes, true, false, if◌then◌else◌, Option, None, Result, Ok, Err}
 use Rattle.std.specs.Option.{option_map_or}
-use Rattle.std.specs.Str.{bytes_eq, is_utf8}
+use Rattle.std.specs.Str.{is_utf8}
 use Rattle.toml.specs.Data.{Members, table}
 use Rattle.toml.specs.Parse.{parse_document}
 use Rattle.ob_base.specs.declared.place.PathStep.TheVariants.{Key}
+use Rattle.ob_module.specs.Modules.{Module, has_module}
 use Rattle.ob_load.specs.declared.fault.FaultyModule.{FaultyModule}
 use Rattle.ob_load.specs.declared.fault.ModuleFault.{ModuleFault}
 use Rattle.ob_load.specs.declared.fault.ModuleFault.TheVariants as fault
-use Rattle.ob_load.specs.Keys.{document}
+use Rattle.ob_module.specs.Keys.{document}
 use Rattle.ob_base.specs.Limits.{max_module_bytes, max_modules}
-use Rattle.ob_load.specs.Meaning.{depends_of}
-
--- a module that was read, with its document
-pub record Module : Type 0 where
-  pub name : List ℕ
-  pub document : Members
+use Rattle.ob_module.specs.Meaning.{depends_of}
 
 -- a fault of a module's text as a whole
 abbrev pub whole : List ℕ → ModuleFault → FaultyModule
@@ -37,10 +32,6 @@ module_from name bytes = if nat_lt max_module_bytes (length bytes) then Err (who
 -- the module that is read after so many; past the limit its text isn't looked at
 abbrev pub next_module : ℕ → List ℕ → Option (List ℕ) → Result Module FaultyModule
 next_module count name text = if nat_le max_modules count then Err (whole name fault.Limit) else option_map_or (module_from name) text (Err (whole name fault.Absent))
-
--- whether a module of the name is among these
-abbrev pub has_module : List Module → List ℕ → Bool
-has_module modules name = list_any (λ m. bytes_eq name m.name) modules
 
 module _ (text : List ℕ → Option (List ℕ)) where
   -- with these modules read and these names to come, the next one first: all modules, or the fault of the first that has one

@@ -1,14 +1,11 @@
 -- Private: the words by which the rooms of the crate are joined.
-use Rattle.std.specs.Prelude.{◌≡◌, ◌≢◌, ◌≤◌, ◌<◌, ◌⊎◌, ℕ, ◌+◌, length, false, IsSomeAnd, List, [], ◌∷◌, ◌++◌, All, Contains, codes, map, string_bytes, Bool, true, is_some, if◌then◌else◌, Option, Some, None, MatchOption, Result, IsErrOf, IfSome, ⊤, nat_eq, slice_get}
-use Rattle.std.specs.List.{AllPairs, AllZip, IsDistinct}
-use Rattle.std.specs.Str.{bytes_eq}
+use Rattle.std.specs.Prelude.{◌≡◌, ◌≢◌, ◌≤◌, ◌<◌, ◌⊎◌, ℕ, ◌+◌, length, false, IsSomeAnd, List, [], ◌∷◌, ◌++◌, All, Contains, map, true, Option, Some, None, MatchOption, Result, IsErrOf, IfSome, ⊤, nat_eq, slice_get}
+use Rattle.std.specs.List.{AllPairs, IsDistinct}
 use Rattle.toml.specs.Data.{Data}
-use Rattle.toml.specs.View.{table_view}
 use Rattle.ob_access.specs.Policies.{AreNamedApart, RuleData, rule_data}
 use Rattle.ob_access.specs.declared.policy.AccessLine.{AccessLine}
 use Rattle.ob_access.specs.declared.policy.Group.{Group}
 use Rattle.ob_access.specs.declared.policy.Rule.{Rule}
-use Rattle.ob_definition.specs.Names.{is_field_name, is_model_name}
 use Rattle.ob_domain.specs.Over.{IsOver}
 use Rattle.ob_domain.specs.Trees.{tree_of_domain}
 use Rattle.ob_definition.specs.Types.{is_relation}
@@ -32,44 +29,13 @@ use Rattle.ob_load.specs.declared.fault.FaultyModule.{FaultyModule}
 use Rattle.ob_load.specs.declared.fault.LoadFault.{LoadFault}
 use Rattle.ob_load.specs.declared.fault.LoadFault.TheVariants as load
 use Rattle.ob_load.specs.declared.fault.ModuleFault.TheVariants as fault
-use Rattle.ob_load.specs.declared.modules.Modules.{Modules}
-use Rattle.ob_load.specs.declared.form.Text.{Text}
-use Rattle.ob_load.specs.declared.form.Text.TheVariants as text
 use Rattle.ob_load.specs.Dependencies.{Takes}
-use Rattle.ob_load.specs.Keys.{is_op_name, ondelete_named, type_named}
-use Rattle.ob_load.specs.Meaning.{depends_of}
-use Rattle.ob_load.specs.Reading.{Module, has_module}
-use Rattle.ob_load.specs.Texts.{base_text, stock_text}
-
--- the key that each field has
-abbrev pub type_key : List ℕ
-type_key = codes "type"
-
--- the texts that a form of texts allows
-abbrev pub text_test : Text → List ℕ → Bool
-text_test text.Any = λ _. true
-text_test text.ModelName = is_model_name
-text_test text.FieldName = is_field_name
-text_test text.FieldType = λ name. is_some (type_named name)
-text_test text.OnDelete = λ name. is_some (ondelete_named name)
-text_test text.Op = is_op_name
-text_test (text.Exactly own) = bytes_eq own.now
-
--- the text of a module that stands inside the program
-abbrev pub inside_text : List ℕ → Option (List ℕ)
-inside_text name = if bytes_eq name (codes "base") then Some base_text else if bytes_eq name (codes "stock") then Some stock_text else None
-
--- what was read, as modules in the order of reading
-abbrev pub modules_in : Modules → List Module
-modules_in modules = map (λ e. record { name = string_bytes e.0; document = table_view e.1 }) modules.documents.entries
+use Rattle.ob_module.specs.Meaning.{depends_of}
+use Rattle.ob_module.specs.Modules.{Module, has_module, numbered}
 
 -- a fault of a module; or want of memory for telling it
 abbrev pub Refuses : FaultyModule → LoadFault → Type 0
 Refuses faulty why = why ≢ load.NoMemory → why ≡ load.Module faulty
-
--- modules by their numbers in the order of reading
-abbrev pub numbered : List Module → List ℕ → List Module → Type 0
-numbered modules numbers found = AllZip (λ n m. slice_get modules n ≡ Some m) numbers found
 
 -- a name in front of others, where there is one
 abbrev pub taken_before : Option (List ℕ) → List (List ℕ) → List (List ℕ)
@@ -84,10 +50,6 @@ Passes modules coming next rest = (passed : List (List ℕ)) × All (λ name. ha
 abbrev pub ToldAbsent : Option (List ℕ → Option (List ℕ)) → Type 0 → LoadFault → Type 0
 ToldAbsent texts rose (load.Module faulty) = faulty.fault ≡ fault.Absent → MatchOption texts rose (λ _. ⊤)
 ToldAbsent texts rose _ = ⊤
-
--- no two modules have one name
-abbrev pub AreApart : List Module → Type 0
-AreApart modules = (a b : ℕ) (m n : Module) → slice_get modules a ≡ Some m → slice_get modules b ≡ Some n → m.name ≡ n.name → a ≡ b
 
 -- a name was read or is to come
 abbrev pub IsHeld : List Module → List (List ℕ) → List ℕ → Type 0

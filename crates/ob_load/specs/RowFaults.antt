@@ -7,9 +7,9 @@ use Rattle.ob_definition.specs.Definitions.{first_of}
 use Rattle.ob_definition.specs.Keys.{is_many2many}
 use Rattle.ob_load.specs.Access.{declared_names, entries_of, group_names, is_among, model_in, name_of, ref_name}
 use Rattle.ob_load.specs.AccessFaults.{document_fault, first_fault, form_fault, in_entry, model_is_there}
-use Rattle.ob_load.specs.Forms.{Form, Keys, at_key, list_of, no_key, table_of, under, unless}
+use Rattle.ob_module.specs.Forms.{Form, Keys, at_key, list_of, no_key, table_of, under, unless}
 use Rattle.ob_load.specs.Preset.{Ref, field_of, given, group_rows, ref_from, reference, refs_of}
-use Rattle.ob_load.specs.Reading.{Module}
+use Rattle.ob_module.specs.Modules.{Module}
 use Rattle.ob_load.specs.declared.fault.FaultyModule.{FaultyModule}
 use Rattle.ob_schema.specs.declared.info.FieldInfo.{FieldInfo}
 use Rattle.ob_schema.specs.declared.info.ModelInfo.{ModelInfo}

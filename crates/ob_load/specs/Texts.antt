@@ -1,15 +1,7 @@
 -- Where the text of a module is: two stand inside the program, the others in files.
 use Rattle.std.specs.Prelude.{◌≡◌, ℕ, List, ◌++◌, codes, if◌then◌else◌, Option, Some, IfSome}
 use Rattle.std.specs.Str.{bytes_eq}
-use Rattle.ob_load.specs.declared.inside.base.TheConstants.{BASE}
-use Rattle.ob_load.specs.declared.inside.stock.TheConstants.{STOCK}
-
--- the text of `base` that stands in the program, and that of `stock`
-abbrev pub base_text : List ℕ
-base_text = BASE.now
-
-abbrev pub stock_text : List ℕ
-stock_text = STOCK.now
+use Rattle.ob_module.specs.Texts.{base_text, stock_text}
 
 -- the file of a module in a folder
 abbrev pub file_name : List ℕ → List ℕ → List ℕ

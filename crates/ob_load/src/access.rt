@@ -7,8 +7,8 @@ ghost use Rattle.ob_domain.specs.Over.{IsOver};
 ghost use Rattle.ob_domain.specs.Trees.{tree_of_domain};
 ghost use Rattle.ob_load.specs.Access as spec;
 ghost use Rattle.ob_load.specs.AccessFaults as fits;
-ghost use Rattle.ob_load.specs.Forms as forms;
-ghost use Rattle.ob_load.specs.Meaning.{text_at, texts_at};
+ghost use Rattle.ob_module.specs.Forms as forms;
+ghost use Rattle.ob_module.specs.Meaning.{text_at, texts_at};
 ghost use Rattle.ob_load.specs.Rooms.{GrowsBy, IsOfText, Tells};
 ghost use Rattle.ob_schema.specs.Models.{HasModel};
 ghost use Rattle.toml.specs.Data.{table};
@@ -16,13 +16,11 @@ ghost use Rattle.toml.specs.View.{table_view, view};
 
 use crate::entry::Entry;
 use crate::fault::{LoadFault, ModuleFault};
-use crate::form::{AnyKey, AtKey, Form, ListOf, TableOf};
 use crate::reading::refused_at;
 use crate::scope::{GroupName, Scope, is_among};
-use crate::tables::{is_set, listed_at, member, texts_at};
-use crate::wrong::Wrong;
 use ob_access::{AccessLine, Group, Ops, Rule};
 use ob_base::{NoMemory, RefList, Sequence, Word};
+use ob_module::{AnyKey, AtKey, Form, ListOf, TableOf, Wrong, is_set, listed_at, member, texts_at};
 use std::alloc::Global;
 use toml::{Table, Value};
 

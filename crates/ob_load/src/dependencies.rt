@@ -5,14 +5,13 @@
 ghost use Rattle.std.specs.Prelude.{◌≡◌, ◌<◌, ◌≤◌, ◌↔◌, ◌++◌, ◌∷◌, [], ℕ, List, Contains, IfOk, IfNone, IfSome, IsTrue, MatchOption, Some, true, length, slice_get, option_map};
 ghost use Rattle.ob_schema.specs.Chains.{HasChain, Reaches};
 ghost use Rattle.ob_load.specs.Dependencies.{DependsOn, IsCyclic, IsFirstCyclic, Takes};
-ghost use Rattle.ob_load.specs.Loading.{wanted};
-ghost use Rattle.ob_load.specs.Reading.{Module, has_module};
-ghost use Rattle.ob_load.specs.Rooms.{AddsOnce, AreReadWhole, ReachedBy, TakesOn, modules_in, numbered};
+ghost use Rattle.ob_module.specs.Modules.{Module, has_module, numbered, wanted};
+ghost use Rattle.ob_load.specs.Rooms.{AddsOnce, AreReadWhole, ReachedBy, TakesOn};
+ghost use Rattle.ob_module.specs.Rooms.{modules_in};
 
-use crate::modules::Modules;
-use crate::tables::{depends_of, text_of};
 use ob_base::limits::MAX_MODULES;
 use ob_base::{NoMemory, Word};
+use ob_module::{Modules, depends_of, text_of};
 use std::alloc::Global;
 
 /// The first module that depends on itself, directly or through others.

@@ -7,20 +7,18 @@ ghost use Rattle.ob_domain.specs.Over.{IsOver};
 ghost use Rattle.ob_domain.specs.Trees.{tree_of_domain};
 ghost use Rattle.ob_load.specs.Access as spec;
 ghost use Rattle.ob_load.specs.AccessFaults as fits;
-ghost use Rattle.ob_load.specs.Meaning.{text_at};
+ghost use Rattle.ob_module.specs.Meaning.{text_at, word_at};
 ghost use Rattle.ob_load.specs.Rooms.{IsOfText, Refuses, Tells};
 ghost use Rattle.ob_schema.specs.Models.{HasModel, model_named};
 ghost use Rattle.toml.specs.View.{view};
 
 use crate::fault::{LoadFault, ModuleFault};
-use crate::form::{AtKey, Form, ListOf};
 use crate::reading::refused_at;
 use crate::scope::{GroupName, Scope, group_id, is_among};
-use crate::tables::{str_at, word_at};
-use crate::wrong::Wrong;
 use ob_base::limits::MAX_CHAR_BYTES;
 use ob_base::{ModelNo, NoMemory, Place, RecId, Word};
 use ob_domain::{Domain, DomainFault, Json, one_domain, read};
+use ob_module::{AtKey, Form, ListOf, Wrong, str_at, word_at};
 use ob_schema::Schema;
 use std::alloc::Global;
 use toml::Value;
@@ -36,7 +34,7 @@ pub(crate) struct Entry<'e> {
 impl Scope<'_> {
     /// The model that an entry names, where there is one.
     pub(crate) fn model_of(&self, entry: Entry<'_>) -> Result<ModelNo, LoadFault>
-        ensures named { IfOk result (λ model. model_named self.now.schema.now (spec.word_at (codes "model") (view entry.entry.value.now)) ≡ Some model) }
+        ensures named { IfOk result (λ model. model_named self.now.schema.now (word_at (codes "model") (view entry.entry.value.now)) ≡ Some model) }
         ensures there { IfOk result (HasModel self.now.schema.now) }
         ensures fault { Tells result (fits.form_fault self.now.owner.now (fits.in_entry entry.entry.table.now entry.entry.number
             (fits.model_is_there self.now.schema.now (view entry.entry.value.now)))) }
@@ -120,10 +118,10 @@ impl Scope<'_> {
     /// The domain of a rule over a model, where its text is one.
     pub(crate) fn domain_of(&self, model: ModelNo, entry: Entry<'_>) -> Result<Domain, LoadFault>
         requires { HasModel self.now.schema.now model }
-        ensures told { IfOk result (λ domain. spec.domain_in self.now.schema.now model (spec.word_at (codes "domain") (view entry.entry.value.now)) ≡ Ok (tree_of_domain domain)) }
+        ensures told { IfOk result (λ domain. spec.domain_in self.now.schema.now model (word_at (codes "domain") (view entry.entry.value.now)) ≡ Ok (tree_of_domain domain)) }
         ensures over { IfOk result (λ domain. IsOver self.now.schema.now model (tree_of_domain domain)) }
         ensures fault { entry.entry.table.now ≡ codes "rule" → Tells result (fits.domain_fault self.now.owner.now entry.entry.number
-            (spec.domain_in self.now.schema.now model (spec.word_at (codes "domain") (view entry.entry.value.now)))) }
+            (spec.domain_in self.now.schema.now model (word_at (codes "domain") (view entry.entry.value.now)))) }
         ensures read { IfErr result IsOfText }
     {
         match domain_from(

@@ -11,22 +11,22 @@ ghost use Rattle.ob_load.specs.Access.{declared_policy};
 ghost use Rattle.ob_load.specs.Loading as spec;
 ghost use Rattle.ob_load.specs.Loading.{IsFirstFault, IsLoaded};
 ghost use Rattle.ob_load.specs.Preset.{declared_preset};
-ghost use Rattle.ob_load.specs.Reading.{Module};
-ghost use Rattle.ob_load.specs.Rooms.{IsOfText, Refuses, Tells, ToldAbsent, modules_in, numbered};
+ghost use Rattle.ob_module.specs.Modules.{Module, numbered};
+ghost use Rattle.ob_load.specs.Rooms.{IsOfText, Refuses, Tells, ToldAbsent};
+ghost use Rattle.ob_module.specs.Rooms.{modules_in};
 ghost use Rattle.ob_load.specs.RowFaults.{modules_fault};
 ghost use Rattle.ob_load.specs.Texts.{AgreesWith, FileTexts, text_in};
 ghost use Rattle.ob_load.specs.declared.fault.FaultyModule.{FaultyModule};
 
-use crate::definitions::add_models;
 use crate::dependencies::{first_cyclic, in_order};
 use crate::fault::{LoadFault, ModuleFault};
-use crate::modules::Modules;
 use crate::policy::meaning_of;
 use crate::reading::{read_modules, refused, refused_at};
-use crate::tables::listed_at;
 use ob_access::Policy;
 use ob_base::{NoMemory, PathStep, Place, Sequence, Word};
 use ob_io::Files;
+use ob_module::{Modules, add_models, listed_at};
+use ob_registry::build_schema;
 use ob_schema::{ModelDef, Preset, Schema, SchemaFault};
 use std::alloc::Global;
 
@@ -79,7 +79,7 @@ pub fn load<F: Files>(
     }
     let taken = in_order(alloc, &modules, names)?;
     let models = all_models(alloc, &modules, &taken)?;
-    match Schema::build(alloc, models.as_slice()) {
+    match build_schema(alloc, models.as_slice()) {
         Ok(schema) => with_meaning(alloc, schema, &modules, &taken),
         Err(SchemaFault::NoMemory) => Err(LoadFault::NoMemory),
         Err(fault) => Err(models_fault(alloc, &modules, &taken, fault)),

@@ -5,21 +5,21 @@ ghost use Rattle.std.specs.Prelude.{◌≡◌, ◌++◌, List, IfErr, IfOk, None
 ghost use Rattle.ob_access.specs.Policies.{IsPolicyOver};
 ghost use Rattle.ob_load.specs.Access as spec;
 ghost use Rattle.ob_load.specs.Preset.{declared_preset};
-ghost use Rattle.ob_load.specs.Reading.{Module};
-ghost use Rattle.ob_load.specs.Rooms.{BringsOn, GrowsBy, IsOfText, Tells, modules_in, numbered};
+ghost use Rattle.ob_module.specs.Modules.{Module, numbered};
+ghost use Rattle.ob_load.specs.Rooms.{BringsOn, GrowsBy, IsOfText, Tells};
+ghost use Rattle.ob_module.specs.Rooms.{modules_in};
 ghost use Rattle.ob_load.specs.RowFaults.{modules_fault, whole_fault};
 ghost use Rattle.ob_schema.specs.Presets.{IsPreset};
 ghost use Rattle.toml.specs.View.{table_view};
 
 use crate::access::Declared;
 use crate::fault::LoadFault;
-use crate::modules::Modules;
 use crate::preset::group_rows;
 use crate::rows::Brought;
 use crate::scope::{Scope, full_name};
-use crate::tables::{listed_at, word_at};
 use ob_access::Policy;
 use ob_base::{NoMemory, Sequence, Word};
+use ob_module::{Modules, listed_at, word_at};
 use ob_schema::{Preset, Schema};
 use std::alloc::Global;
 use toml::Table;

@@ -3,21 +3,20 @@
 ghost use Rattle.std.specs.Prelude.{◌≡◌, ◌≢◌, ◌≤◌, ℕ, List, Option, None, Some, Ok, Err, Result, IfOk, IfErr, IfSome, IsErrOf, [], false, length};
 ghost use Rattle.ob_io.specs.Cause.{HasCause, Rose};
 ghost use Rattle.toml.specs.View.{table_view};
-ghost use Rattle.ob_load.specs.Loading.{wanted};
-ghost use Rattle.ob_load.specs.Reading.{Module, ReadsTo, has_module, module_from, next_module, whole};
-ghost use Rattle.ob_load.specs.Rooms.{AreReadWhole, Passes, Refuses, ToldAbsent, modules_in};
+ghost use Rattle.ob_module.specs.Modules.{Module, has_module, wanted};
+ghost use Rattle.ob_load.specs.Reading.{ReadsTo, module_from, next_module, whole};
+ghost use Rattle.ob_load.specs.Rooms.{AreReadWhole, Passes, Refuses, ToldAbsent};
+ghost use Rattle.ob_module.specs.Rooms.{modules_in};
 ghost use Rattle.ob_load.specs.Texts.{AgreesWith, FileTexts, file_name, text_in};
 ghost use Rattle.ob_load.specs.declared.fault.FaultyModule.{FaultyModule};
 ghost use Rattle.ob_load.specs.declared.fault.LoadFault.{LoadFault};
 
-use crate::coming::Coming;
 use crate::fault::{FaultyModule, LoadFault, ModuleFault};
-use crate::inside::inside;
-use crate::keys::wrong_document;
-use crate::modules::Modules;
 use ob_base::limits::MAX_MODULES;
 use ob_base::{NoMemory, Place, Sequence, Word};
 use ob_io::{FileFault, Files};
+use ob_module::inside::inside;
+use ob_module::{Coming, Modules, wrong_document};
 use std::alloc::Global;
 use toml::Table;
 

@@ -13,11 +13,10 @@ ghost use Rattle.ob_schema.specs.Models.{HasModel, model_at};
 
 use crate::entry::Entry;
 use crate::fault::{LoadFault, ModuleFault};
-use crate::form::{AtKey, Form, TableOf};
 use crate::scope::{Scope, full_name, is_among};
-use crate::tables::{found, listed_at, word_at};
 use crate::values::{RowScope, RowValues};
 use ob_base::{FieldNo, ModelNo, NoMemory, Sequence, Word};
+use ob_module::{AtKey, Form, TableOf, found, listed_at, word_at};
 use ob_schema::{FieldInfo, PresetRow, PresetValue};
 use std::alloc::Global;
 use toml::{Table, Value};

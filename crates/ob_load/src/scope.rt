@@ -4,12 +4,10 @@
 ghost use Rattle.std.specs.Prelude.{◌≡◌, ◌<◌, IfOk, IfSome, is_some, length, map};
 ghost use Rattle.toml.specs.View.{view};
 ghost use Rattle.ob_load.specs.Access as spec;
-ghost use Rattle.ob_load.specs.Forms as forms;
+ghost use Rattle.ob_module.specs.Forms as forms;
 
-use crate::form::{Form, unless};
-use crate::tables::{str_at, word_at};
-use crate::wrong::Wrong;
 use ob_base::{NoMemory, RecId, RefList, Sequence, Word};
+use ob_module::{Form, Wrong, str_at, unless, word_at};
 use ob_schema::Schema;
 use std::alloc::Global;
 use toml::Value;

@@ -12,14 +12,13 @@ use Rattle.ob_cache.specs.Telling.{TellsFacts}
 use Rattle.ob_cache.specs.declared.stages.Phase.TheVariants as phase
 use Rattle.ob_io.specs.Cause.{Rose}
 use Rattle.ob_io.specs.Store.{Store}
-use Rattle.ob_orm.proofs.CreateAnswer.{sound_in}
-use Rattle.ob_orm.proofs.Questions.{refused_later}
-use Rattle.ob_orm.proofs.WriteMissing.{rests-tells, stays-rests}
-use Rattle.ob_orm.specs.AskingSteps.{AdmitsBy, DeniesBy}
-use Rattle.ob_orm.specs.CreateSteps.{AdmitsChanged, AdmitsMade, IsBrokenBy, StopsSettling}
+use Rattle.ob_rows.proofs.CallerLemmas.{refused_later, rests-tells, sound_in, stays-rests}
+use Rattle.ob_rows.specs.AskingSteps.{AdmitsBy, DeniesBy}
+use Rattle.ob_orm.specs.CreateSteps.{AdmitsChanged, AdmitsMade, StopsSettling}
+use Rattle.ob_rows.specs.Settling.{IsBrokenBy}
 use Rattle.ob_orm.specs.NewRowSteps.{so_far}
 use Rattle.ob_orm.specs.TouchSteps.{rows_known}
-use Rattle.ob_orm.specs.declared.asking.Caller.{Caller}
+use Rattle.ob_rows.specs.declared.asking.Caller.{Caller}
 use Rattle.ob_orm.specs.declared.making.next_ids.Making.{Making}
 use Rattle.ob_orm.specs.declared.touching.Touched.{Touched}
 use Rattle.ob_schema.specs.Broken.{Sound}

@@ -15,15 +15,14 @@ use Rattle.ob_io.specs.Cause.{Rose}
 use Rattle.ob_io.specs.Store.{Store}
 use Rattle.ob_orm.proofs.CreateMade.{allowed-cause, allowed-stops, new-tables, settled-made, settling-cause, settling-stops}
 use Rattle.ob_orm.proofs.EditTouches.{set-model, some_and}
-use Rattle.ob_orm.proofs.Questions.{refused_later}
-use Rattle.ob_orm.proofs.WriteMissing.{stays-rests}
+use Rattle.ob_rows.proofs.CallerLemmas.{refused_later, stays-rests}
 use Rattle.ob_orm.specs.Create.{Asked, MayStopCreate, StopsCreate, ids_told, made, with_rows}
 use Rattle.ob_orm.specs.CreateSteps.{AdmitsChanged, AdmitsMade, IsAllowedBy, IsMadeBy, MayStopSettling, StopsSettling}
 use Rattle.ob_orm.specs.NewRowSteps.{IsReady, MayFit, so_far}
 use Rattle.ob_orm.specs.Touches.{is_parent, may_touch}
 use Rattle.ob_orm.specs.TouchSteps.{AreOfModels, IsTouched, IsWithin, MayDo}
-use Rattle.ob_orm.specs.declared.asking.Caller.{Caller}
-use Rattle.ob_orm.specs.declared.author.Author.{Author}
+use Rattle.ob_rows.specs.declared.asking.Caller.{Caller}
+use Rattle.ob_rows.specs.declared.author.Author.{Author}
 use Rattle.ob_orm.specs.declared.making.next_ids.Making.{Making}
 use Rattle.ob_orm.specs.declared.touching.Touched.{Touched}
 use Rattle.ob_schema.specs.Models.{HasModel, model_at}

@@ -1,22 +1,18 @@
 -- What a create answers over an engine, from what its steps say.
-use Rattle.std.proofs.Common.{◌≡◌, ℕ, ℤ, ◌≤◌, ◌∷◌, [], List, Option, Some, None, option_map, Result, Ok, Err, inl, inr, refl, sym, ap, subst, ◌∙◌, arith, w64}
-use Rattle.std.specs.Int.{cast_signed, cast_unsigned}
-use Rattle.std.specs.Prelude.{FitsSigned, IfErr, IfOk, IfSome, IsSome, IsSomeAnd, false, true, ⊤}
+use Rattle.std.proofs.Common.{◌≡◌, ◌∷◌, [], List, Option, Some, None, option_map, Result, Ok, Err, refl, sym, ap, subst, ◌∙◌}
+use Rattle.std.specs.Prelude.{IfErr, IfOk, IfSome, false, true, ⊤}
 use Rattle.std.proofs.lemmas.Bool.{false≢true}
-use Rattle.std.proofs.lemmas.Int.{ints, to_z-of_z}
 use Rattle.serde_json.specs.Data.{Data}
 use Rattle.serde_json.specs.View.{view}
 use Rattle.serde_json.specs.declared.value.Value.{Value as Json}
 use Rattle.ob_access.specs.Policies.{PolicyData}
 use Rattle.ob_access.specs.Users.{AreGroupsOf}
 use Rattle.ob_base.specs.Chain.{◌>>=◌}
-use Rattle.ob_base.specs.Times.{IsMoment}
 use Rattle.ob_base.specs.declared.place.PathStep.{PathStep}
 use Rattle.ob_base.specs.declared.refusal.Refusal.{Refusal}
 use Rattle.ob_base.specs.declared.refusal.Refusal.TheVariants as refusal
 use Rattle.ob_cache.proofs.CallerLemmas.{Refuses-weaker}
 use Rattle.ob_cache.specs.Calls.{AnswersBy, HasTables, KeeperRose, Refuses, Standpoint, models_at, settled_over}
-use Rattle.ob_cache.specs.Stages.{StandsOver}
 use Rattle.ob_cache.specs.Standing.{IsAtRest, Stands}
 use Rattle.ob_call.proofs.CallerLemmas.{at_info}
 use Rattle.ob_call.specs.Called.{called_by, result_view}
@@ -28,42 +24,16 @@ use Rattle.ob_call.specs.Places.{spot_place}
 use Rattle.ob_call.specs.Results.{IsResultOf}
 use Rattle.ob_call.specs.declared.arguments.Given.{Given}
 use Rattle.ob_call.specs.declared.call.Call.{Call}
-use Rattle.ob_io.specs.Cause.{Rose}
-use Rattle.ob_io.specs.Store.{Store}
-use Rattle.ob_schema.specs.Broken.{Sound}
 use Rattle.ob_schema.specs.Models.{HasModel, model_at}
 use Rattle.ob_schema.specs.Tables.{Tables}
 use Rattle.ob_schema.specs.declared.info.ModelInfo.{ModelInfo}
-use Rattle.ob_orm.specs.Author.{author_by}
+use Rattle.ob_rows.specs.Author.{author_by}
 use Rattle.ob_orm.specs.Create.{Asked, CreateCause, Creates, MayStopCreate, StopsCreate, asked_from, asked_in, asked_of, create_expects, with_rows}
 use Rattle.ob_orm.specs.Refusing.{RefusesAsked}
 use Rattle.ob_orm.specs.CreateSteps.{CreatesBy, IsMadeBy, rows_view}
-use Rattle.ob_orm.specs.declared.asking.Caller.{Caller}
-use Rattle.ob_orm.specs.declared.author.Author.{Author}
+use Rattle.ob_rows.specs.declared.asking.Caller.{Caller}
 use Rattle.ob_orm.specs.declared.creating.rows.Rows.{Rows}
-
--- what holds of each model holds of one that may be there
-pub everywhere : (o : Option ModelInfo) (P : ModelInfo → Type 0) → ((info : ModelInfo) → P info) → IfSome o P
-everywhere None P each = tt
-everywhere (Some info) P each = each info
-
--- what is known of a model that may be there, step by step
-pub known_of : (o : Option ModelInfo) (P Q : ModelInfo → Type 0) → ((info : ModelInfo) → P info → Q info) → IfSome o P → IfSome o Q
-known_of None P Q step h = tt
-known_of (Some info) P Q step h = step info h
-
--- a count that rose from a later one rose
-pub rose_from : (before mid now : ℕ) → before ≤ mid → Rose mid now → Rose before now
-rose_from before mid now low (inl more) = inl (omega arith)
-rose_from before mid now low (inr end) = inr end
-
--- the moment of the call as it is passed on
-pub moment_passed : (now : ℤ) → IsMoment now → cast_signed w64 (cast_unsigned w64 now) ≡ now
-moment_passed now moment = let fits : FitsSigned w64 now = (let low = moment.low in let high = moment.high in grind (arith, ints)) in to_z-of_z w64 now fits
-
--- so is the author
-pub author_passed : (by : Author) → IsMoment by.now → record by { now = cast_signed w64 (cast_unsigned w64 by.now) } ≡ by
-author_passed by moment = ap (λ (n : ℤ). record by { now = n }) (moment_passed by.now moment)
+use Rattle.ob_rows.proofs.CallerLemmas.{everywhere, known_of, nowhere, sound_in}
 
 -- ---- what the arguments ask for
 
@@ -111,15 +81,6 @@ must_be_given p None must fit is = let wrong : false ≡ true = sym fit ∙ must
 must_be_given p (Some given) must fit is = absurd cc
 
 -- ---- answers and causes
-
-pub nowhere : (o : Option ModelInfo) → IsSome o → IfSome o (λ _. ⊥) → ⊥
-nowhere None there wrong = false≢true there
-nowhere (Some info) there wrong = wrong
-
--- tables that were settled are sound
-pub sound_in : (models : List ModelInfo) (old tables : Tables) (kept : Option Store) → IsSomeAnd kept (StandsOver (settled_over models old tables)) → Sound models tables
-sound_in models old tables None over = absurd over
-sound_in models old tables (Some store) over = (over.settled (λ e. cc)).sound
 
 -- the machine's answer over an engine
 abbrev pub AnswersCreate : PolicyData → Call → (before after : Standpoint) → Result Data Refusal → Type 0

@@ -20,17 +20,17 @@ use Rattle.ob_base.specs.declared.refusal.Op.TheVariants as op
 use Rattle.ob_base.specs.declared.refusal.Refusal.{Refusal}
 use Rattle.ob_base.specs.declared.refusal.Refusal.TheVariants as refusal
 use Rattle.ob_codec.specs.CommandForms.{list_json, number_json}
-use Rattle.ob_orm.proofs.Contained.{contains-filter, contains-kept, contains-map, denied}
+use Rattle.ob_rows.proofs.CallerLemmas.{contains-filter, contains-kept, contains-map, denied}
 use Rattle.ob_orm.proofs.PastLimits.{made-there}
-use Rattle.ob_orm.specs.AskingSteps.{AdmitsBy, DeniesBy, denied_rule, may_by}
+use Rattle.ob_rows.specs.AskingSteps.{AdmitsBy, DeniesBy, denied_rule, may_by}
 use Rattle.ob_orm.specs.Create.{Asked, IsAdmissible, IsAllowed, MayStopCreate, StopsCreate, ids_told, made, touched, unwritable, with_rows, withheld}
 use Rattle.ob_orm.specs.CreateSteps.{AdmitsChanged, AdmitsMade, IsAllowedBy, IsMadeBy, MayStopSettling, StopsSettling}
 use Rattle.ob_orm.specs.NewRowSteps.{MakesRow, MayFit}
-use Rattle.ob_orm.specs.Rights.{AreAdmitted, Asking, DeniesLeast, DeniesOne, IsLeastDenied, first_unwritable}
+use Rattle.ob_rows.specs.Rights.{AreAdmitted, Asking, DeniesLeast, DeniesOne, IsLeastDenied, first_unwritable}
 use Rattle.ob_orm.specs.Touches.{Touch, asking_of, is_create, is_write, may_touch, rows_changed, rows_made, touch_by, touches_of}
 use Rattle.ob_orm.specs.TouchSteps.{IsTouched, IsWithin, SameRows, first_withheld_by, rows_known}
-use Rattle.ob_orm.specs.declared.asking.Caller.{Caller}
-use Rattle.ob_orm.specs.declared.author.Author.{Author}
+use Rattle.ob_rows.specs.declared.asking.Caller.{Caller}
+use Rattle.ob_rows.specs.declared.author.Author.{Author}
 use Rattle.ob_orm.specs.declared.touching.Touched.{Touched}
 use Rattle.ob_schema.proofs.CallerLemmas.{Any-first, Any-later, contains-cases, contains-first, contains-later, contains-none}
 use Rattle.ob_schema.specs.Broken.{IsBroken, Sound}

@@ -17,13 +17,12 @@ use Rattle.ob_base.specs.declared.id.RowKey.{RowKey}
 use Rattle.ob_base.specs.declared.refusal.Op.{Op}
 use Rattle.ob_base.specs.declared.refusal.Op.TheVariants as op
 use Rattle.ob_base.specs.declared.value.Value.{Value}
-use Rattle.ob_orm.proofs.Contained.{contains-filter, fails}
-use Rattle.ob_orm.proofs.EditedRows.{after-then, set-there}
-use Rattle.ob_orm.proofs.RowSets.{no_row, row-among, row-one}
-use Rattle.ob_orm.specs.AskingSteps.{AreKnown}
-use Rattle.ob_orm.specs.TouchSteps.{Adds, AsksSame, IsTouched, IsWithin, SameRows, has_key, is_there_by, knows_row}
+use Rattle.ob_rows.proofs.CallerLemmas.{after-then, contains-filter, fails, no_row, row-among, row-one, set-there}
+use Rattle.ob_rows.specs.AskingSteps.{AreKnown}
+use Rattle.ob_orm.specs.TouchSteps.{Adds, AsksSame, IsTouched, IsWithin, SameRows, is_there_by, knows_row}
+use Rattle.ob_rows.specs.RowSets.{has_key}
 use Rattle.ob_orm.specs.NewRowSteps.{MayFit}
-use Rattle.ob_orm.specs.Rights.{Asking}
+use Rattle.ob_rows.specs.Rights.{Asking}
 use Rattle.ob_orm.specs.Touches.{Touch, asking_of, is_create, is_write, rows_changed, rows_made, touch_by, touch_there, touches_of}
 use Rattle.ob_orm.specs.declared.touching.Touched.{Touched}
 use Rattle.ob_schema.proofs.CallerLemmas.{contains-cases, contains-none}

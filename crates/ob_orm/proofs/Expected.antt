@@ -7,7 +7,7 @@ use Rattle.ob_base.specs.declared.place.PathStep.TheVariants.{Key}
 use Rattle.serde_json.specs.View.{members_view}
 use Rattle.serde_json.proofs.Views.{Entry}
 use Rattle.ob_call.specs.Arguments.{entries}
-use Rattle.ob_orm.specs.Values.{first_key}
+use Rattle.ob_rows.specs.Values.{first_key}
 
 -- the place of the first of the keys that no call may give
 abbrev pub first_refused : (List ℕ → Bool) → List (String Global) → Option (List PathStep)

@@ -17,8 +17,8 @@ use Rattle.ob_schema.specs.declared.info.ModelInfo.{ModelInfo}
 use Rattle.ob_tables.specs.Fitting.{AreFitIn, IsFitIn}
 use Rattle.ob_orm.specs.NewRows.{Values, filled, filled_value}
 use Rattle.ob_orm.specs.RowValues.{valued}
-use Rattle.ob_orm.specs.declared.author.Author.{Author}
-use Rattle.ob_orm.proofs.CreateFields.{step_in, tell, told}
+use Rattle.ob_rows.specs.declared.author.Author.{Author}
+use Rattle.ob_rows.proofs.CallerLemmas.{step_in, tell, told}
 use Rattle.ob_orm.proofs.RowValues.{FitsIn, left, left_other, left_plain, typed_for}
 
 module _ (models : List ModelInfo) (by : Author) (made : Bool) (given : Values) where

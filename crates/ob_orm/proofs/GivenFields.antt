@@ -42,8 +42,8 @@ use Rattle.ob_orm.specs.GivenValues.{GivenObject, formed, formed_values, given_t
 use Rattle.ob_orm.specs.NewRows.{Values}
 use Rattle.ob_orm.specs.NewRowSteps.{HasTargetKeys, HasTargetKeysFrom, IsLowRef, IsTyped}
 use Rattle.ob_orm.specs.RowValues.{given_value, members_of, placed, valued}
-use Rattle.ob_orm.specs.Values.{is_free, is_settable, is_settable_from, new_values_fault}
-use Rattle.ob_orm.proofs.CreateFields.{All-at, step_in, tell, told}
+use Rattle.ob_rows.specs.Values.{is_free, is_settable, is_settable_from, new_values_fault}
+use Rattle.ob_rows.proofs.CallerLemmas.{All-at, step_in, tell, told}
 use Rattle.ob_orm.proofs.RowValue.{FoundAt, found}
 
 -- ---- what is known of a field

@@ -15,14 +15,13 @@ use Rattle.ob_definition.specs.Types.{is_one2many}
 use Rattle.ob_definition.specs.declared.field_type.FieldType.{FieldType}
 use Rattle.ob_definition.specs.declared.field_type.FieldType.TheVariants as type
 use Rattle.ob_definition.specs.declared.field_type.OnDelete.TheVariants as ondelete
-use Rattle.ob_orm.specs.LockSteps.{IsSettledAt}
+use Rattle.ob_rows.specs.LockSteps.{IsSettledAt}
 use Rattle.ob_orm.specs.NewRows.{Values, behind, changed_values, filled, row_edits, row_named, value_for}
 use Rattle.ob_orm.specs.NewRowSteps.{IsLowRef}
 use Rattle.ob_orm.specs.Touched.{linked_in}
 use Rattle.ob_orm.specs.Write.{parent_edits}
-use Rattle.ob_orm.specs.declared.author.Author.{Author}
-use Rattle.ob_orm.proofs.SettledValues.{settled-plain}
-use Rattle.ob_orm.proofs.WithinIds.{id-within}
+use Rattle.ob_rows.specs.declared.author.Author.{Author}
+use Rattle.ob_rows.proofs.CallerLemmas.{id-within, settled-plain}
 use Rattle.ob_schema.specs.Broken.{AreSound}
 use Rattle.ob_schema.specs.Fields.{is_own, is_plain_kept}
 use Rattle.ob_schema.specs.Models.{FieldHas, IsParentIn, IsPlainTo, IsRegistry, field_at}

@@ -14,11 +14,11 @@ use Rattle.std.proofs.lemmas.List.Elements.{All-append, All-head, All-map, All-n
 use Rattle.std.proofs.lemmas.Option.{same_Some}
 use Rattle.ob_base.specs.declared.id.ModelNo.{ModelNo}
 use Rattle.ob_base.specs.declared.id.RecId.{RecId}
-use Rattle.ob_orm.proofs.EditedRows.{after-then, set-next}
+use Rattle.ob_rows.proofs.CallerLemmas.{after-then, set-next}
 use Rattle.ob_orm.proofs.WriteEdits.{one_edit}
 use Rattle.ob_orm.specs.NewRows.{Begun, MadeRow, MadeRows, Values, behind, changed_values, filled, linked, made_row, made_rows, making, parent_change, parents_of, row_edits, with_parent, with_parents}
 use Rattle.ob_orm.specs.NewRowSteps.{AddsEdits, HoldsNextIds, held_next, so_far}
-use Rattle.ob_orm.specs.declared.author.Author.{Author}
+use Rattle.ob_rows.specs.declared.author.Author.{Author}
 use Rattle.ob_orm.specs.declared.making.next_ids.Making.{Making}
 use Rattle.ob_schema.specs.Models.{HasModel, model_at}
 use Rattle.ob_schema.specs.Tables.{Tables, next_of}

@@ -14,7 +14,7 @@ use Rattle.serde_json.specs.Find.{as_array}
 use Rattle.serde_json.specs.View.{items_view, view}
 use Rattle.serde_json.specs.declared.value.Value.{Value as Json}
 use Rattle.ob_orm.specs.Objects.{first_wrong, objects_fault}
-use Rattle.ob_orm.specs.Values.{new_values_fault}
+use Rattle.ob_rows.specs.Values.{new_values_fault}
 
 -- a step before others is one behind a place
 pub deeper : (place below : List PathStep) (step : PathStep) → place ++ step ∷ below ≡ (place ++ step ∷ []) ++ below

@@ -28,7 +28,7 @@ use Rattle.ob_tables.specs.Fitting.{AreFitIn, IsFitId, IsFitIn}
 use Rattle.ob_tables.specs.declared.edit.Edit.{Edit}
 use Rattle.ob_orm.specs.NewRows.{Values, behind, changed_values, field_behind, field_behind_from, filled, linked, parent_change, row_edits, row_named, value_for}
 use Rattle.ob_orm.specs.NewRowSteps.{IsLowRef, IsTyped, MayFit}
-use Rattle.ob_orm.specs.declared.author.Author.{Author}
+use Rattle.ob_rows.specs.declared.author.Author.{Author}
 use Rattle.ob_orm.proofs.WriteEdits.{fits_each, one_edit}
 
 -- ---- a value among typed ones

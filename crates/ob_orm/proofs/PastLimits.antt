@@ -13,8 +13,8 @@ use Rattle.ob_base.specs.declared.refusal.BrokenKind.TheVariants as broken
 use Rattle.ob_base.specs.declared.refusal.Refusal.{Refusal}
 use Rattle.ob_base.specs.declared.refusal.Refusal.TheVariants as refusal
 use Rattle.ob_cache.specs.Calls.{Refuses}
-use Rattle.ob_orm.proofs.EditedRows.{set-there}
-use Rattle.ob_orm.specs.CreateSteps.{BreaksField, IsBrokenBy}
+use Rattle.ob_rows.proofs.CallerLemmas.{set-there}
+use Rattle.ob_rows.specs.Settling.{BreaksField, IsBrokenBy}
 use Rattle.ob_orm.specs.NewRowSteps.{MakesRow, MakesWithin, MayFit}
 use Rattle.ob_schema.proofs.CallerLemmas.{Any-cases, Any-none}
 use Rattle.ob_schema.specs.Models.{field_at, is_id_from, model_at}

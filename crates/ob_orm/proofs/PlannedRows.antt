@@ -11,7 +11,7 @@ use Rattle.ob_orm.specs.NewRows.{Values, made_rows}
 use Rattle.ob_orm.specs.NewRowSteps.{HoldsNextIds, IsReady, so_far}
 use Rattle.ob_orm.specs.Touches.{may_touch}
 use Rattle.ob_orm.specs.TouchSteps.{MayDo}
-use Rattle.ob_orm.specs.declared.author.Author.{Author}
+use Rattle.ob_rows.specs.declared.author.Author.{Author}
 use Rattle.ob_orm.specs.declared.making.next_ids.Making.{Making}
 use Rattle.ob_schema.specs.Tables.{Tables}
 use Rattle.ob_schema.specs.declared.info.ModelInfo.{ModelInfo}

@@ -25,10 +25,11 @@ use Rattle.ob_schema.specs.Fields.{HasFieldType, Holds}
 use Rattle.ob_definition.specs.Types.{is_list}
 use Rattle.ob_schema.specs.declared.info.FieldInfo.{FieldInfo}
 use Rattle.ob_orm.specs.RowValues.{placed}
-use Rattle.ob_orm.specs.CreateSteps.{IsFaultAt, IsMakeable}
+use Rattle.ob_orm.specs.CreateSteps.{IsFaultAt}
+use Rattle.ob_rows.specs.Makeable.{IsMakeable}
 use Rattle.ob_call.specs.Places.{IsMalformedAt}
 use Rattle.ob_call.specs.Results.{IsResultOf}
-use Rattle.ob_orm.proofs.CreateFields.{told, tell}
+use Rattle.ob_rows.proofs.CallerLemmas.{told, tell}
 
 -- ---- a value, where the field is no list
 

@@ -13,7 +13,7 @@ use Rattle.ob_schema.specs.Models.{fields_of}
 use Rattle.ob_schema.specs.declared.info.FieldInfo.{FieldInfo}
 use Rattle.ob_schema.specs.declared.info.ModelInfo.{ModelInfo}
 use Rattle.ob_tables.specs.Fitting.{IsFitIn}
-use Rattle.ob_orm.proofs.CreateFields.{told}
+use Rattle.ob_rows.proofs.CallerLemmas.{told}
 
 -- ---- rows of given values
 

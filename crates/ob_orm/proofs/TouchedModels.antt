@@ -19,7 +19,7 @@ use Rattle.ob_orm.specs.NewRows.{Begun, Values, behind, changed_values, linked, 
 use Rattle.ob_orm.specs.NewRowSteps.{HoldsNextIds, IsReady, held_next}
 use Rattle.ob_orm.specs.Touches.{is_parent, may_touch}
 use Rattle.ob_orm.specs.TouchSteps.{MayDo}
-use Rattle.ob_orm.specs.declared.author.Author.{Author}
+use Rattle.ob_rows.specs.declared.author.Author.{Author}
 use Rattle.ob_orm.specs.declared.making.next_ids.Making.{Making}
 use Rattle.ob_schema.specs.Tables.{Tables, empty_tables, next_of}
 use Rattle.ob_schema.specs.declared.info.ModelInfo.{ModelInfo}

@@ -11,11 +11,10 @@ use Rattle.ob_base.specs.declared.id.RowKey.{RowKey}
 use Rattle.ob_cache.specs.Standing.{Holding, RestsAt, Stays}
 use Rattle.ob_cache.specs.Telling.{TellsFacts}
 use Rattle.ob_io.specs.Store.{Store}
-use Rattle.ob_orm.proofs.FoundFirst.{kept-more, passed-over}
-use Rattle.ob_orm.proofs.WriteMissing.{rests-tells, told-later}
-use Rattle.ob_orm.specs.AskingSteps.{AreKnown}
+use Rattle.ob_rows.proofs.CallerLemmas.{kept-more, passed-over, rests-tells, told-later}
+use Rattle.ob_rows.specs.AskingSteps.{AreKnown}
 use Rattle.ob_orm.specs.NewRows.{Values, behind}
-use Rattle.ob_orm.specs.Rights.{rows_named}
+use Rattle.ob_rows.specs.Rights.{rows_named}
 use Rattle.ob_orm.specs.Touched.{given_parents, is_any, linked_in, parent_row, parent_rows}
 use Rattle.ob_orm.specs.WriteSteps.{AreOfModels}
 use Rattle.ob_schema.specs.Facts.{OfAllTold, Told, told_by}

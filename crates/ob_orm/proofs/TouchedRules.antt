@@ -15,14 +15,13 @@ use Rattle.ob_cache.specs.Telling.{TellsFacts}
 use Rattle.ob_io.specs.Cause.{Rose}
 use Rattle.ob_io.specs.Store.{Store}
 use Rattle.ob_orm.proofs.EditTouches.{SoFar, filter-kept, filter-knows, filter-passed, so_far-more, so_far-none}
-use Rattle.ob_orm.proofs.Questions.{err-later, refused_later, stays-none}
-use Rattle.ob_orm.proofs.WriteMissing.{rests-tells, told-later, told-sooner}
-use Rattle.ob_orm.specs.AskingSteps.{AdmitsBy, AreKnown, DeniesBy}
+use Rattle.ob_rows.proofs.CallerLemmas.{err-later, refused_later, rests-tells, stays-none, told-later, told-sooner}
+use Rattle.ob_rows.specs.AskingSteps.{AdmitsBy, AreKnown, DeniesBy}
 use Rattle.ob_orm.specs.NewRowSteps.{MayFit}
-use Rattle.ob_orm.specs.Rights.{Asking, DeniesOne}
+use Rattle.ob_rows.specs.Rights.{Asking, DeniesOne}
 use Rattle.ob_orm.specs.Touches.{touch_by}
 use Rattle.ob_orm.specs.TouchSteps.{Adds, IsWithin, MayDo, is_there_by, knows_row}
-use Rattle.ob_orm.specs.declared.asking.Caller.{Caller}
+use Rattle.ob_rows.specs.declared.asking.Caller.{Caller}
 use Rattle.ob_orm.specs.declared.touching.Touched.{Touched}
 use Rattle.ob_schema.specs.Facts.{OfAllTold, Told, told_by}
 use Rattle.ob_schema.specs.Tables.{Tables}

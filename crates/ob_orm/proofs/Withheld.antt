@@ -15,7 +15,7 @@ use Rattle.ob_base.specs.declared.refusal.Refusal.{Refusal}
 use Rattle.ob_base.specs.declared.refusal.Refusal.TheVariants as refusal
 use Rattle.ob_call.specs.Places.{IsMalformedAt}
 use Rattle.ob_orm.specs.GivenValues.{GivenObject}
-use Rattle.ob_orm.specs.Rights.{Asking, first_unwritable, first_withheld, may}
+use Rattle.ob_rows.specs.Rights.{Asking, first_unwritable, first_withheld, may}
 use Rattle.ob_orm.specs.Writable.{unwritable, withheld}
 use Rattle.ob_orm.specs.WriteSteps.{TestsWritable}
 

@@ -1,10 +1,8 @@
 -- What a write answers over an engine, from what its steps say.
-use Rattle.std.proofs.Common.{◌≡◌, Bool, ℕ, ◌∷◌, [], List, Option, Some, None, Result, Ok, Err, refl, sym, ap, subst, ◌∙◌, rules}
+use Rattle.std.proofs.Common.{◌≡◌, ℕ, ◌∷◌, [], List, Option, Some, None, Result, Ok, Err, refl, sym, ap, subst, ◌∙◌}
 use Rattle.std.specs.Prelude.{IfSome, true, ⊤}
 use Rattle.serde_json.specs.Data.{Data, boolean}
 use Rattle.serde_json.specs.View.{view}
-use Rattle.serde_json.specs.declared.value.Value.{the_lemmas}
-use Rattle.serde_json.specs.declared.value.Value.TheVariants as told
 use Rattle.ob_access.specs.Policies.{PolicyData}
 use Rattle.ob_access.specs.Users.{AreGroupsOf}
 use Rattle.ob_base.specs.Chain.{◌>>=◌}
@@ -29,14 +27,14 @@ use Rattle.ob_call.specs.declared.call.Call.{Call}
 use Rattle.ob_schema.specs.Models.{HasModel, model_at}
 use Rattle.ob_schema.specs.Tables.{Tables}
 use Rattle.ob_schema.specs.declared.info.ModelInfo.{ModelInfo}
-use Rattle.ob_orm.specs.Author.{author_by}
+use Rattle.ob_rows.specs.Author.{author_by}
 use Rattle.ob_orm.specs.GivenValues.{GivenObject, object_from}
 use Rattle.ob_orm.specs.ObjectSteps.{object_view}
 use Rattle.ob_orm.specs.Write.{IsAdmissible, MayStopWrite, StopsWrite, WriteCause, Writes, change_from, change_of, changed, edits_of, write_expects}
 use Rattle.ob_orm.specs.Refusing.{RefusesAsked}
 use Rattle.ob_orm.specs.WriteSteps.{asked_change}
 use Rattle.ob_orm.specs.declared.writing.change.Change.{Change as Asked}
-use Rattle.ob_orm.proofs.CreateAnswer.{everywhere, known_of, nowhere, sound_in}
+use Rattle.ob_rows.proofs.CallerLemmas.{everywhere, known_of, nowhere, sound_in}
 
 -- ---- what the arguments ask for
 
@@ -103,10 +101,6 @@ change_cause policy call models rose (refusal.Request place) there wrong =
     (λ info is. asked-malformed (MayStopWrite models policy call.caller call.model) (change_of models (called_by call info)) place is) wrong
 change_cause policy call models rose refusal.NoMemory there wrong = tt
 change_cause policy call models rose _ there wrong = absurd (nowhere (model_at models call.model) there wrong)
-
--- the answer as data
-pub view-Bool : (b : Bool) → view (told.Bool b) ≡ boolean b
-view-Bool b = search (rules, the_lemmas)
 
 module _ (before after : Standpoint) (policy : PolicyData) (call : Call) where
   -- the engine didn't tell the caller's groups

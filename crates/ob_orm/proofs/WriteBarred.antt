@@ -12,10 +12,11 @@ use Rattle.ob_base.specs.declared.refusal.Refusal.TheVariants as refusal
 use Rattle.ob_cache.proofs.CallerLemmas.{Refuses-weaker}
 use Rattle.ob_cache.specs.Calls.{Refuses}
 use Rattle.ob_call.specs.Ids.{IsLeastMissing}
-use Rattle.ob_orm.specs.Rights.{AreAdmitted, DeniesLeast, DeniesOne}
+use Rattle.ob_rows.specs.Rights.{AreAdmitted, DeniesLeast, DeniesOne}
 use Rattle.ob_orm.specs.Touched.{given_parents, touched, touched_models}
 use Rattle.ob_orm.specs.Writable.{IsWritable, withheld}
-use Rattle.ob_orm.specs.Write.{AreThere, BarsWrite, Change, IsAdmissible, IsChangeable, MayBarWrite}
+use Rattle.ob_rows.specs.There.{AreThere}
+use Rattle.ob_orm.specs.Write.{BarsWrite, Change, IsAdmissible, IsChangeable, MayBarWrite}
 use Rattle.ob_orm.specs.WriteSteps.{TestsWritable}
 use Rattle.ob_orm.proofs.Withheld.{unwritable-cause, withheld-cause}
 use Rattle.ob_schema.specs.Facts.{told_by}

@@ -11,21 +11,14 @@ use Rattle.ob_cache.specs.Calls.{Refuses}
 use Rattle.ob_cache.specs.Stages.{resting, settled_of, with_edits}
 use Rattle.ob_cache.specs.Standing.{Holding, RestsAt, Stands, Stays}
 use Rattle.ob_io.specs.Store.{Store}
-use Rattle.ob_orm.specs.CreateSteps.{BreaksField, IsBrokenBy}
+use Rattle.ob_rows.specs.Settling.{BreaksField, IsBrokenBy}
 use Rattle.ob_orm.specs.Write.{BarsWrite, Change, IsAdmissible, MayBarWrite, MayStopWrite, StopsWrite, edits_of}
-use Rattle.ob_orm.specs.declared.author.Author.{Author}
-use Rattle.ob_orm.proofs.WriteMissing.{stays-rests}
+use Rattle.ob_rows.specs.declared.author.Author.{Author}
+use Rattle.ob_rows.proofs.CallerLemmas.{stays-rests, unasked-cause}
 use Rattle.ob_schema.specs.Tables.{Tables}
 use Rattle.ob_schema.specs.declared.info.ModelInfo.{ModelInfo}
 use Rattle.ob_tables.specs.After.{after}
 use Rattle.ob_tables.specs.declared.edit.Edit.{Edit}
-
--- what has no cause has any
-anything : (P : Refusal → Type 0) (w : Refusal) → ⊥ → P w
-anything P w h = absurd h
-
-pub unasked-cause : (rose : Type 0) (P : Refusal → Type 0) (why : Refusal) → Refuses rose (λ _. ⊥) why → Refuses rose P why
-unasked-cause rose P why h = Refuses-weaker rose rose (λ _. ⊥) P why (λ risen. risen) (anything P) h
 
 module _ (before mid : Option Store) (old held : Holding) (stays : Stays before old mid held) (policy : PolicyData) (by : Author) (model : ModelNo) (own : List RecId) (change : Change) where
   -- why it isn't carried out, over these tables

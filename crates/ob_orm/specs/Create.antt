@@ -24,14 +24,14 @@ use Rattle.ob_tables.specs.Changes.{has_row}
 use Rattle.serde_json.specs.Data.{Data, array}
 use Rattle.ob_call.specs.Arguments.{Expected, Given, arguments_of}
 use Rattle.ob_call.specs.Called.{Called}
-use Rattle.ob_orm.specs.Author.{author_of}
+use Rattle.ob_rows.specs.Author.{author_of}
 use Rattle.ob_orm.specs.GivenValues.{GivenObject, object_from}
 use Rattle.ob_orm.specs.NewRows.{MadeRows, Values, made_rows}
 use Rattle.ob_orm.specs.Objects.{items_at, objects_expected}
 use Rattle.ob_orm.specs.Refusing.{RefusesAsked}
-use Rattle.ob_orm.specs.Rights.{AreAdmitted, Asking, ByGroups, DeniesLeast, IsUnwritable, IsWithheld, first_unwritable, first_withheld}
+use Rattle.ob_rows.specs.Rights.{AreAdmitted, Asking, ByGroups, DeniesLeast, IsUnwritable, IsWithheld, first_unwritable, first_withheld}
 use Rattle.ob_orm.specs.Touches.{Touch, asking_of, may_touch, rows_changed, rows_made, touches_of}
-use Rattle.ob_orm.specs.declared.author.Author.{Author}
+use Rattle.ob_rows.specs.declared.author.Author.{Author}
 
 -- what a create asks for: the values that objects give rows, those that haven't their form aside; the fields that their keys name; the first place that is wrong; and whether the objects stand in a list
 pub record Asked : Type 0 where

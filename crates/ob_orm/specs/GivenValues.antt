@@ -10,7 +10,7 @@ use Rattle.ob_base.specs.declared.value.Value.{Value}
 use Rattle.ob_call.specs.Arguments.{Given, entries}
 use Rattle.ob_orm.specs.NewRows.{Values}
 use Rattle.ob_orm.specs.RowValues.{given_value, members_of, valued}
-use Rattle.ob_orm.specs.Values.{is_settable}
+use Rattle.ob_rows.specs.Values.{is_settable}
 use Rattle.ob_schema.specs.Fields.{Column, columns}
 use Rattle.ob_schema.specs.Models.{field_named}
 use Rattle.ob_schema.specs.declared.info.FieldInfo.{FieldInfo}

@@ -8,9 +8,9 @@ use Rattle.ob_base.specs.declared.id.ModelNo.{ModelNo}
 use Rattle.ob_base.specs.declared.id.RecId.{RecId}
 use Rattle.ob_base.specs.declared.value.Value.{Value}
 use Rattle.ob_base.specs.declared.value.Value.TheVariants as value
-use Rattle.ob_orm.specs.Author.{is_stamp, stamp}
+use Rattle.ob_rows.specs.Author.{is_stamp, stamp}
 use Rattle.ob_orm.specs.RowValues.{valued}
-use Rattle.ob_orm.specs.declared.author.Author.{Author}
+use Rattle.ob_rows.specs.declared.author.Author.{Author}
 use Rattle.ob_schema.specs.Fields.{Column, plain_columns}
 use Rattle.ob_schema.specs.Models.{field_at, model_at}
 use Rattle.ob_schema.specs.Tables.{Tables, next_of}

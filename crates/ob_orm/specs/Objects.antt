@@ -8,7 +8,7 @@ use Rattle.ob_codec.specs.Commands.{listed}
 use Rattle.ob_schema.specs.declared.info.FieldInfo.{FieldInfo}
 use Rattle.ob_schema.specs.declared.info.ModelInfo.{ModelInfo}
 use Rattle.serde_json.specs.Data.{Data, array}
-use Rattle.ob_orm.specs.Values.{new_values_fault}
+use Rattle.ob_rows.specs.Values.{new_values_fault}
 
 -- where the first item that breaks a form breaks it: the number of the item, counted from one on, and the steps below it
 abbrev pub first_wrong : (Data → Option (List PathStep)) → ℕ → List Data → Option (List PathStep)

@@ -1,14 +1,12 @@
 -- What the code has of what edits do to rows, and of sets of rows.
 use Rattle.std.specs.Prelude.{◌≡◌, ◌↔◌, ◌||◌, ◌++◌, ◌∷◌, List, map, find, filter, All, Bool, true, Contains, Option, is_some}
-use Rattle.std.specs.BTreeSet as sorted
-use Rattle.ob_base.specs.Ids.{row_key_cmp}
 use Rattle.ob_base.specs.declared.id.ModelNo.{ModelNo}
 use Rattle.ob_base.specs.declared.id.RowKey.{RowKey}
 use Rattle.ob_base.specs.declared.refusal.Op.{Op}
 use Rattle.ob_base.specs.declared.refusal.Op.TheVariants as op
-use Rattle.ob_orm.specs.Rights.{Asking, first_withheld}
+use Rattle.ob_rows.specs.Rights.{Asking, first_withheld}
 use Rattle.ob_orm.specs.Touches.{Touch, asking_of, rows_changed, rows_made, touches_of}
-use Rattle.ob_orm.specs.declared.asking.Caller.{Caller}
+use Rattle.ob_rows.specs.declared.asking.Caller.{Caller}
 use Rattle.ob_orm.specs.declared.touching.Touched.{Touched}
 use Rattle.ob_schema.specs.Facts.{Told}
 use Rattle.ob_schema.specs.Models.{model_at}
@@ -17,14 +15,11 @@ use Rattle.ob_schema.specs.declared.info.ModelInfo.{ModelInfo}
 use Rattle.ob_tables.specs.Changes.{has_row}
 use Rattle.ob_tables.specs.declared.edit.Edit.{Edit}
 use Rattle.ob_tables.specs.declared.edit.Edit.TheVariants as edit
+use Rattle.ob_rows.specs.RowSets.{has_key}
 
 -- the first of some operations that he may not do
 abbrev pub first_withheld_by : Caller → List Asking → Option Asking
 first_withheld_by by askings = first_withheld by.policy.now by.groups.now by.user askings
-
--- a set has a row
-abbrev pub has_key : sorted.BTreeSet RowKey → RowKey → Bool
-has_key rows row = sorted.contains row_key_cmp rows row
 
 -- a row is known, by what is told
 abbrev pub knows_row : Told → RowKey → Bool

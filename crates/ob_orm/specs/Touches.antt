@@ -6,7 +6,7 @@ use Rattle.ob_base.specs.declared.id.RowKey.{RowKey}
 use Rattle.ob_base.specs.declared.refusal.Op.{Op}
 use Rattle.ob_base.specs.declared.refusal.Op.TheVariants as op
 use Rattle.ob_orm.specs.NewRows.{parents_of}
-use Rattle.ob_orm.specs.Rights.{Asking}
+use Rattle.ob_rows.specs.Rights.{Asking}
 use Rattle.ob_schema.specs.Tables.{Tables, key_of}
 use Rattle.ob_schema.specs.declared.info.ModelInfo.{ModelInfo}
 use Rattle.ob_tables.specs.After.{edited}

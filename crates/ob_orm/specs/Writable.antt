@@ -7,7 +7,7 @@ use Rattle.ob_base.specs.declared.id.RecId.{RecId}
 use Rattle.ob_base.specs.declared.id.RowKey.{RowKey}
 use Rattle.ob_base.specs.declared.refusal.Op.TheVariants as op
 use Rattle.ob_orm.specs.GivenValues.{GivenObject}
-use Rattle.ob_orm.specs.Rights.{Asking, first_unwritable, first_withheld}
+use Rattle.ob_rows.specs.Rights.{Asking, first_unwritable, first_withheld}
 
 -- a caller in these groups writes rows of a model
 module _ (policy : PolicyData) (own : List RecId) (user : RecId) (model : ModelNo) where

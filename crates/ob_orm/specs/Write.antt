@@ -1,5 +1,5 @@
 -- The machine's `write`: the same values for each of the named rows, and for the rows of their parents.
-use Rattle.std.specs.Prelude.{◌≡◌, ◌++◌, ℕ, List, [], ◌∷◌, codes, All, Contains, IsSome, true, false, Option, Some, None, Result, Ok, Err}
+use Rattle.std.specs.Prelude.{◌≡◌, ◌++◌, ℕ, List, [], ◌∷◌, codes, Contains, IsSome, true, false, Option, Some, None, Result, Ok, Err}
 use Rattle.std.specs.List.{flat_map}
 use Rattle.std.specs.Option.{option_map_or}
 use Rattle.ob_access.specs.Policies.{PolicyData}
@@ -14,7 +14,7 @@ use Rattle.ob_base.specs.declared.refusal.Refusal.TheVariants as refusal
 use Rattle.ob_schema.specs.Broken.{IsBroken, Sound}
 use Rattle.ob_schema.specs.Facts.{told_by}
 use Rattle.ob_schema.specs.Models.{HasField}
-use Rattle.ob_schema.specs.Tables.{Tables, row_at}
+use Rattle.ob_schema.specs.Tables.{Tables}
 use Rattle.ob_schema.specs.declared.info.FieldInfo.{FieldInfo}
 use Rattle.ob_schema.specs.declared.info.ModelInfo.{ModelInfo}
 use Rattle.ob_schema.specs.declared.info.ParentInfo.{ParentInfo}
@@ -23,21 +23,17 @@ use Rattle.ob_tables.specs.declared.edit.Edit.{Edit}
 use Rattle.serde_json.specs.Data.{Data, boolean}
 use Rattle.ob_call.specs.Arguments.{Expected, Given, arguments_of}
 use Rattle.ob_call.specs.Called.{Called}
-use Rattle.ob_call.specs.Forms.{ids_fault}
 use Rattle.ob_call.specs.Ids.{IsLeastMissing, named_ids}
-use Rattle.ob_orm.specs.Author.{author_of}
+use Rattle.ob_rows.specs.Author.{author_of}
 use Rattle.ob_orm.specs.GivenValues.{GivenObject, object_from}
 use Rattle.ob_orm.specs.NewRows.{Values, behind, changed_values, filled, parents_of, row_edits}
 use Rattle.ob_orm.specs.Refusing.{RefusesAsked}
-use Rattle.ob_orm.specs.Rights.{AreAdmitted, ByGroups, DeniesLeast, IsUnwritable, IsWithheld}
+use Rattle.ob_rows.specs.Rights.{AreAdmitted, ByGroups, DeniesLeast, IsUnwritable, IsWithheld}
 use Rattle.ob_orm.specs.Touched.{linked_in, touched, touched_models}
-use Rattle.ob_orm.specs.Values.{new_values_fault}
+use Rattle.ob_rows.specs.Values.{new_values_fault}
 use Rattle.ob_orm.specs.Writable.{IsWritable, unwritable, withheld}
-use Rattle.ob_orm.specs.declared.author.Author.{Author}
-
--- what a write expects of the ids of its rows
-abbrev pub ids_expected : Expected
-ids_expected = record { name = codes "ids"; required = true; fault = ids_fault }
+use Rattle.ob_rows.specs.declared.author.Author.{Author}
+use Rattle.ob_rows.specs.There.{AreThere, ids_expected}
 
 -- what a write asks for: the rows, each once, and the object of values that each of them is given, for its own fields and those of its parents
 pub record Change : Type 0 where
@@ -80,10 +76,6 @@ module _ (models : List ModelInfo) (by : Author) (model : ModelNo) (old : Tables
   -- the tables with the change, whatever they break
   abbrev pub changed : Tables
   changed = after models old edits_of
-
--- each of the ids has a row
-abbrev pub AreThere : ModelNo → Tables → List ℕ → Type 0
-AreThere model tables ids = All (λ id. IsSome (row_at tables model (record { 0 = id }))) ids
 
 -- A change over tables, asked for by a caller in these groups.
 module _ (models : List ModelInfo) (policy : PolicyData) (user : RecId) (model : ModelNo) (old : Tables) (own : List RecId) (change : Change) where

@@ -1,5 +1,5 @@
 -- What the steps of a write say of their results.
-use Rattle.std.specs.Prelude.{◌≡◌, ℕ, List, All, Contains, Option, Some, None, Result, Ok, Err, ⊤}
+use Rattle.std.specs.Prelude.{◌≡◌, List, All, Contains, Option, Some, None, Result, Ok, Err, ⊤}
 use Rattle.ob_access.specs.Policies.{PolicyData}
 use Rattle.ob_base.specs.declared.id.ModelNo.{ModelNo}
 use Rattle.ob_base.specs.declared.id.RecId.{RecId}
@@ -8,16 +8,14 @@ use Rattle.ob_base.specs.declared.place.PathStep.{PathStep}
 use Rattle.ob_base.specs.declared.refusal.Refusal.{Refusal}
 use Rattle.ob_base.specs.declared.refusal.Refusal.TheVariants as refusal
 use Rattle.ob_call.specs.Forms.{fields_at, ids_fault}
-use Rattle.ob_call.specs.Ids.{IsLeastMissing}
 use Rattle.ob_orm.specs.GivenValues.{GivenObject}
 use Rattle.ob_orm.specs.ObjectSteps.{object_view}
-use Rattle.ob_orm.specs.Values.{new_values_fault}
+use Rattle.ob_rows.specs.Values.{new_values_fault}
 use Rattle.ob_orm.specs.Writable.{IsWritable, unwritable, withheld}
-use Rattle.ob_orm.specs.Write.{AreThere, Change}
+use Rattle.ob_orm.specs.Write.{Change}
 use Rattle.ob_orm.specs.declared.writing.change.Change.{Change as Asked}
 use Rattle.ob_orm.specs.declared.writing.change.WriteForm.{WriteForm}
 use Rattle.ob_orm.specs.declared.writing.change.WriteForm.TheVariants as form
-use Rattle.ob_schema.specs.Tables.{Tables}
 use Rattle.ob_schema.specs.declared.info.ModelInfo.{ModelInfo}
 use Rattle.ob_schema.specs.declared.info.ParentInfo.{ParentInfo}
 use Rattle.ob_tables.specs.Fitting.{IsFitEdit}
@@ -33,11 +31,6 @@ write_fault (form.Values values) d = new_values_fault values.schema.now (fields_
 -- what the code has of a change
 abbrev pub asked_change : Asked → Change
 asked_change asked = record { ids = asked.ids.items; object = object_view asked.object }
-
--- each of the ids has a row, or this is the least that has none
-abbrev pub MissesOnly : ModelNo → Tables → List ℕ → Option ℕ → Type 0
-MissesOnly model tables ids None = AreThere model tables ids
-MissesOnly model tables ids (Some id) = IsLeastMissing model tables ids id
 
 -- a caller in these groups may touch the rows and give what the object gives, each value of its form; or why not, the first that stands against it; or memory is wanting
 abbrev pub TestsWritable : PolicyData → List RecId → RecId → ModelNo → List RowKey → GivenObject → Result ⊤ Refusal → Type 0

@@ -16,7 +16,7 @@ ghost use Rattle.ob_cache.specs.Standing.{IsAtRest, RestsAt, Stands, Stays};
 ghost use Rattle.ob_call.specs.Called.{called_by, result_view};
 ghost use Rattle.ob_codec.specs.CommandForms.{list_json, number_json};
 ghost use Rattle.ob_io.specs.Cause.{Rose};
-ghost use Rattle.ob_orm.specs.Author.{author_by};
+ghost use Rattle.ob_rows.specs.Author.{author_by};
 ghost use Rattle.ob_orm.specs.Create.{CreateCause, Creates, MayStopCreate, StopsCreate, ids_told, with_rows};
 ghost use Rattle.ob_orm.specs.CreateSteps.{AdmitsChanged, AdmitsMade, CreatesBy, IsAllowedBy, IsMadeBy, IsPlanned, MayStopSettling, StopsSettling, rows_view};
 ghost use Rattle.ob_orm.specs.NewRows.{made_rows};
@@ -29,8 +29,6 @@ ghost use Rattle.ob_schema.specs.Tables.{Tables};
 pub(crate) mod given;
 mod rows;
 
-use crate::asking::{Caller, first_unwritable, groups_of};
-use crate::author::Author;
 use crate::creating::rows::{Rows, asked_rows};
 use crate::making::limits::settle_rows;
 use crate::making::next_ids::{Making, begun};
@@ -43,6 +41,7 @@ use ob_base::{
 use ob_cache::Engine;
 use ob_call::{Call, Json};
 use ob_io::Keeper;
+use ob_rows::{Author, Caller, first_unwritable, groups_of};
 use std::alloc::Global;
 
 /// Rows that are to be made: the edits, and how the rows' ids are told.

@@ -20,11 +20,11 @@ pub(crate) mod limits;
 pub(crate) mod next_ids;
 pub(crate) mod parents;
 
-use crate::author::Author;
 use crate::making::filling::filled;
 use crate::making::next_ids::{Making, take_id};
 use crate::making::parents::{make_parents, parent_changes};
 use ob_base::{FieldNo, ModelNo, NoMemory, RecId, Sequence, Value};
+use ob_rows::Author;
 use ob_schema::Schema;
 use ob_tables::Edit;
 use std::alloc::Global;

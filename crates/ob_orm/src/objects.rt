@@ -8,7 +8,7 @@ ghost use Rattle.ob_call.specs.Forms.{fields_at};
 ghost use Rattle.ob_call.specs.Places.{IsMalformedAt, below_steps};
 ghost use Rattle.ob_orm.specs.ObjectSteps.{object_place};
 ghost use Rattle.ob_orm.specs.Objects.{first_wrong};
-ghost use Rattle.ob_orm.specs.Values.{new_values_fault};
+ghost use Rattle.ob_rows.specs.Values.{new_values_fault};
 
 use crate::creating::given::NewValues;
 use ob_base::{NoMemory, PathStep, Place, Refusal};

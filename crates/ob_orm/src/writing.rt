@@ -18,7 +18,7 @@ ghost use Rattle.ob_cache.specs.Stages.{resting, settled_of, with_edits};
 ghost use Rattle.ob_cache.specs.Standing.{IsAtRest, RestsAt, Stands};
 ghost use Rattle.ob_call.specs.Called.{called_by, result_view};
 ghost use Rattle.ob_io.specs.Cause.{Rose};
-ghost use Rattle.ob_orm.specs.Author.{author_by};
+ghost use Rattle.ob_rows.specs.Author.{author_by};
 ghost use Rattle.ob_orm.specs.NewRows.{row_edits};
 ghost use Rattle.ob_orm.specs.NewRowSteps.{IsTyped};
 ghost use Rattle.ob_orm.specs.Write.{IsAdmissible, MayStopWrite, StopsWrite, WriteCause, Writes, edits_of};
@@ -31,10 +31,7 @@ mod change;
 pub(crate) mod edits;
 mod touched;
 
-use crate::asking::{Caller, groups_of};
-use crate::author::Author;
 use crate::making::Maker;
-use crate::settling::settle_edits;
 use crate::writing::barring::test_change;
 use crate::writing::change::{Change, asked_change};
 use crate::writing::edits::change_edits;
@@ -43,6 +40,7 @@ use ob_base::{Cell, FieldNo, Ledger, ModelNo, NoMemory, RecId, Refusal, Steps, V
 use ob_cache::Engine;
 use ob_call::{Call, Json};
 use ob_io::Keeper;
+use ob_rows::{Author, Caller, groups_of, settle_edits};
 use ob_tables::Edit;
 use std::alloc::Global;
 
@@ -163,8 +161,8 @@ fn carry_out<K: Keeper, L: Ledger>(
     settle_edits(engine, edits.as_slice(), steps)
 }
 
-/// Puts the edits of one row behind others.
-pub(crate) fn push_row_edits(
+/// Puts the edits that set each of some values in a row, by the numbers of its fields, behind others.
+pub fn push_row_edits(
     alloc: Global,
     edits: &mut Vec<Edit>,
     model: ModelNo,

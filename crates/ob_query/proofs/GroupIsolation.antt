@@ -19,7 +19,7 @@ use Rattle.ob_domain.specs.Naming.{AgreeOn, named_fields, paths_asked}
 use Rattle.ob_domain.specs.Trees.{Tree}
 use Rattle.ob_expr.specs.Meaning.{row_at}
 use Rattle.ob_query.specs.GroupAmounts.{AreDistinct, TellsAmount}
-use Rattle.ob_query.specs.GroupForms.{Aggregate, AskedGroups, Entry, Grouping, Written, aggregates_in, entry_from, entry_of, groupings_in, groups_by, groups_expects, json_of, used, written_in, written_of}
+use Rattle.ob_query.specs.GroupForms.{Aggregate, AskedGroups, Entry, Grouping, Written, aggregates_in, entry_from, entry_of, groupings_in, groups_by, groups_expects, items_in, json_of, used, written_in, written_of}
 use Rattle.ob_query.specs.GroupPeriods.{group_value}
 use Rattle.ob_query.specs.Groups.{AreTold, GroupsOver, TellsAmounts, TellsEachGroup, TellsGroup, group_order, keys_in, keys_of, rows_of, same_keys}
 use Rattle.ob_query.specs.Isolation.{ShowTheSame}
@@ -173,7 +173,7 @@ module _ (models : List ModelInfo) (policy : PolicyData) (own : List RecId) (use
   groupings_may : (groupby lazy : Option Given) → All May (option_map_or (λ g. groupings_name c g.json) groupby []) → All GroupsBy (used (written_in c.info.fields (json_of groupby) (json_of lazy)))
   groupings_may None lazy may = used_may (written_in c.info.fields None (json_of lazy)) (All-nil GroupsBy)
   groupings_may (Some g) lazy may =
-      used_may (written_in c.info.fields (Some g.json) (json_of lazy)) (before_map May (λ (own : Grouping). step_at c.model own.field) (groupings_in c.info.fields g.json) may)
+      used_may (written_in c.info.fields (Some g.json) (json_of lazy)) (before_map May (λ (own : Grouping). step_at c.model own.field) (groupings_in c.info.fields (items_in (Some g.json))) may)
 
   aggregates_may : (d : Data) → All May (entries_name c d) → All SumsUp (aggregates_in c.info.fields d)
   aggregates_may (array items) may = entries_fit May c.model c.info.fields (listed items) may

@@ -14,7 +14,7 @@ use Rattle.ob_call.specs.Called.{Called, called_by}
 use Rattle.ob_call.specs.Forms.{fields_at}
 use Rattle.ob_call.specs.declared.arguments.Given.{Given}
 use Rattle.ob_call.specs.declared.call.Call.{Call}
-use Rattle.ob_query.specs.GroupForms.{Aggregate, AskedGroups, GroupTerm, Grouping, Written, aggregates_in, asked_in, count_key, group_terms, groupings_in, groups_by, groups_expects, groups_of, json_of, used, written_in, written_of}
+use Rattle.ob_query.specs.GroupForms.{Aggregate, AskedGroups, GroupTerm, Grouping, Written, aggregates_in, asked_in, count_key, group_terms, groupings_in, groups_by, groups_expects, groups_of, items_in, json_of, used, written_in, written_of}
 use Rattle.ob_domain.specs.Naming.{named_fields}
 use Rattle.ob_query.proofs.NamedBy.{domain_same, entries_same, groupings_same, named_same}
 use Rattle.ob_query.specs.Callers.{Named, in_turn, is_first}
@@ -148,13 +148,13 @@ groups_pairs infos model domain fields groupby sought written =
 
 -- those of the groupings that are written
 pub written_steps : (model : ModelNo) (infos : List FieldInfo) (written : Own) (groupby lazy : Option arguments.Given) → written_view written ≡ written_in infos (json_of groupby) (json_of lazy)
-    → map (λ g. step_at model g.field) written.groupings.items ≡ map (λ g. step_at model g.field) (option_map_or (groupings_in infos) (json_of groupby) [])
+    → map (λ g. step_at model g.field) written.groupings.items ≡ map (λ g. step_at model g.field) (groupings_in infos (items_in (json_of groupby)))
 written_steps model infos written groupby lazy is =
     map-view (λ (g : Grouping). step_at model g.field) grouping_view written.groupings.items ∙ ap (λ (w : Written). map (λ (g : Grouping). step_at model g.field) w.groupings) is
 
 module _ (models : List ModelInfo) (c : Called) (one two three four five six seven : Option Given) (sought : Sought) (written : List Step) where
   pub names_groups : sought ≡ sought_in models c (option_map given_of one) None None None
-      → written ≡ map (λ g. step_at c.model g.field) (option_map_or (groupings_in c.info.fields) (json_of (option_map given_of three)) [])
+      → written ≡ map (λ g. step_at c.model g.field) (groupings_in c.info.fields (items_in (json_of (option_map given_of three))))
       → groups_names models c (all_given_of (one ∷ two ∷ three ∷ four ∷ five ∷ six ∷ seven ∷ [])) ≡ in_turn (groups_pairs c.info.fields c.model one two three sought written)
   names_groups is written_is =
       let domain : Option arguments.Given = option_map given_of one in

@@ -9,7 +9,7 @@ use Rattle.ob_domain.specs.Naming.{named_fields}
 use Rattle.ob_query.specs.Callers.{Named, fields_named, in_turn, is_first, named_of}
 use Rattle.ob_query.specs.Callers as callers
 use Rattle.ob_query.specs.NamedFields.{Naming, domain_names, entries_name, entry_fields, groupings_name, is_positioned, name_fields, named_by, names_name, order_names}
-use Rattle.ob_query.specs.GroupForms.{groupings_in, json_of}
+use Rattle.ob_query.specs.GroupForms.{groupings_in, items_in, json_of}
 use Rattle.ob_query.specs.NamedFields as spec
 use Rattle.ob_query.specs.SearchForms.{order_fault, order_given, order_of, tree_given}
 use Rattle.ob_query.specs.declared.naming.Naming.{Naming as Own}
@@ -85,7 +85,7 @@ pub entries_same : (c : Called) (given : Option Given) → map (step_at c.model)
 entries_same c None = refl
 entries_same c (Some g) = refl
 
-pub groupings_same : (c : Called) (given : Option Given) → map (λ g. step_at c.model g.field) (option_map_or (groupings_in c.info.fields) (json_of given) []) ≡ option_map_or (λ g. groupings_name c g.json) given []
+pub groupings_same : (c : Called) (given : Option Given) → map (λ g. step_at c.model g.field) (groupings_in c.info.fields (items_in (json_of given))) ≡ option_map_or (λ g. groupings_name c g.json) given []
 groupings_same c None = refl
 groupings_same c (Some g) = refl
 

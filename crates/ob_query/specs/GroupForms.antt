@@ -1,5 +1,5 @@
 -- What `read_group` is called with, and what that asks for.
-use Rattle.std.specs.Prelude.{◌&&◌, ◌++◌, ◌+◌, ◌==◌, nat_lt, ℕ, List, [], ◌∷◌, length, map, take, codes, bytes_eq, Bool, true, false, not, is_some, if◌then◌else◌, Option, Some, None, option_and_then, option_map, option_to_list, position, unwrap_or, Result, Ok}
+use Rattle.std.specs.Prelude.{◌&&◌, ◌++◌, ◌+◌, ◌==◌, nat_lt, ℕ, List, [], ◌∷◌, length, map, take, codes, bytes_eq, Bool, true, false, not, is_some, if◌then◌else◌, Option, Some, None, option_and_then, option_map, position, unwrap_or, Result, Ok}
 use Rattle.std.specs.Char.{is_ascii_alphanumeric}
 use Rattle.std.specs.List.{after_first, before_first, filter_map, list_all, position_or_len, slice_get}
 use Rattle.std.specs.Option.{option_map_or}
@@ -91,15 +91,30 @@ groupings_fault fields (string text) = text_fault fields text
 groupings_fault fields (array items) = first_wrong_grouping fields [] 0 (listed items)
 groupings_fault fields _ = Some []
 
--- the groupings that are given, those alone that are of their form
-abbrev pub groupings_in : List FieldInfo → Data → List Grouping
-groupings_in fields (array items) = filter_map (grouping_from fields) (listed items)
-groupings_in fields d = option_to_list (grouping_from fields d)
-
 -- ---- what is written of them, before the arguments are judged
 
--- the groupings that are written, and whether the first alone is used
+-- what is given for groupings: the items of a list, or another value alone
+abbrev pub items_in : Option Data → List Data
+items_in None = []
+items_in (Some (array items)) = listed items
+items_in (Some d) = d ∷ []
+
+-- the texts among items, also such as are no groupings
+abbrev pub texts_in : List Data → List (List ℕ)
+texts_in items = filter_map as_str items
+
+-- the grouping for which the first text stands, if it does for one
+abbrev pub first_in : List FieldInfo → List Data → Option Grouping
+first_in fields items = option_and_then (grouping_of fields) (slice_get (texts_in items) 0)
+
+-- the groupings among items
+abbrev pub groupings_in : List FieldInfo → List Data → List Grouping
+groupings_in fields items = filter_map (grouping_from fields) items
+
+-- the texts that are written, the first one's grouping, all groupings, and whether the first alone is used
 pub record Written : Type 0 where
+  pub texts : List (List ℕ)
+  pub first : Option Grouping
   pub groupings : List Grouping
   pub lazy : Bool
 
@@ -123,7 +138,8 @@ is_lazy (Some (boolean b)) = b
 is_lazy _ = true
 
 abbrev pub written_in : List FieldInfo → (groupby lazy : Option Data) → Written
-written_in fields groupby lazy = record { groupings = option_map_or (groupings_in fields) groupby []; lazy = is_lazy lazy }
+written_in fields groupby lazy =
+    record { texts = texts_in (items_in groupby); first = first_in fields (items_in groupby); groupings = groupings_in fields (items_in groupby); lazy = is_lazy lazy }
 
 abbrev pub written_of : List FieldInfo → (args kw : Data) → Written
 written_of fields args kw = written_in fields (written_argument 2 (codes "groupby") args kw) (written_argument 6 (codes "lazy") args kw)
@@ -132,13 +148,13 @@ written_of fields args kw = written_in fields (written_argument 2 (codes "groupb
 abbrev pub used : Written → List Grouping
 used written = if written.lazy then take 1 written.groupings else written.groupings
 
--- the key of the count: of the one grouping that is used alone its name and `_count`
+-- the key of the count: of a first grouping that is used alone its name and `_count`
 abbrev pub count_key : Written → List ℕ
-count_key written = if written.lazy then option_map_or (λ g. g.name ++ codes "_count") (slice_get written.groupings 0) (codes "__count") else codes "__count"
+count_key written = if written.lazy then option_map_or (λ g. g.name ++ codes "_count") written.first (codes "__count") else codes "__count"
 
--- the keys that groups have without aggregates: all groupings that are written, and the count's
+-- the keys that no aggregate may have: the count's, and all texts that are written
 abbrev pub taken_keys : Written → List (List ℕ)
-taken_keys written = count_key written ∷ map (λ g. g.text) written.groupings
+taken_keys written = count_key written ∷ written.texts
 
 -- ---- aggregates
 

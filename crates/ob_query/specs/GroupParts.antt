@@ -24,7 +24,7 @@ use Rattle.ob_call.specs.Forms.{fields_at}
 use Rattle.ob_codec.specs.CommandForms.{list_json}
 use Rattle.ob_codec.specs.Held.{HasText}
 use Rattle.ob_query.specs.GroupForms as forms
-use Rattle.ob_query.specs.GroupForms.{aggregates_fault, count_key, group_order_fault, groupings_fault, truth_fault, used, written_of}
+use Rattle.ob_query.specs.GroupForms.{aggregates_fault, count_key, group_order_fault, groupings_fault, texts_in, truth_fault, used, written_of}
 use Rattle.ob_query.specs.GroupValues.{rising}
 use Rattle.ob_query.specs.GroupAmounts.{AreDistinct, TellsAmount}
 use Rattle.ob_query.specs.Groups.{AreTold, group_order, keys_in, keys_of, rows_of}
@@ -78,9 +78,10 @@ abbrev pub entry_view : Entry → forms.Entry
 entry_view entry.PassedOver = None
 entry_view (entry.Told a) = Some (aggregate_view a)
 
--- of the groupings that are written
+-- of what is written of groupings
 abbrev pub written_view : Written → forms.Written
-written_view written = record { groupings = map grouping_view written.groupings.items; lazy = written.lazy }
+written_view written =
+    record { texts = texts_in (map view written.items.now); first = option_map grouping_view written.first; groupings = map grouping_view written.groupings.items; lazy = written.lazy }
 
 -- of those that are used
 abbrev pub used_of : Written → List Grouping

@@ -15,7 +15,7 @@ use Rattle.ob_codec.specs.Commands.{listed}
 use Rattle.ob_domain.specs.Naming.{named_fields}
 use Rattle.ob_domain.specs.Reading.{domain_from}
 use Rattle.ob_domain.specs.Trees.{constant}
-use Rattle.ob_query.specs.GroupForms.{Entry, entry_of, groupings_in, groups_expects, written_of}
+use Rattle.ob_query.specs.GroupForms.{Entry, entry_of, groupings_in, groups_expects, items_in, written_of}
 use Rattle.ob_query.specs.ReadArguments.{read_expects}
 use Rattle.ob_query.specs.SearchForms.{count_expects, order_of, search_expects, search_read_expects}
 use Rattle.ob_schema.specs.Models.{field_named}
@@ -62,7 +62,7 @@ entries_name c d = map (step_at c.model) (entry_fields c.info.fields d)
 
 -- those of groupings, also of such as aren't used
 abbrev pub groupings_name : Called → Data → List Step
-groupings_name c d = map (λ g. step_at c.model g.field) (groupings_in c.info.fields d)
+groupings_name c d = map (λ g. step_at c.model g.field) (groupings_in c.info.fields (items_in (Some d)))
 
 -- ---- of several, in the order in which their forms are tested
 

@@ -4,7 +4,6 @@ pub mod Paths
 pub mod Formulas
 pub mod Chains
 pub mod Strata
-pub mod Faults
 pub mod Fields
 pub mod Built
 pub mod Models
@@ -22,11 +21,4 @@ pub mod ReadCells
 -- Rows that modules bring.
 pub mod Presets
 -- Private: the words by which the rooms of the crate are joined.
-pub mod Telling
-pub mod Graphs
-pub mod Building
-pub mod Resolving
-pub mod ModelFields
-pub mod Modelling
 pub mod NameIndex
-pub mod RegistryOf

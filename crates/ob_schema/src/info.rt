@@ -1,9 +1,8 @@
 //! What the registry knows of models and fields: their definitions with every name
 //! resolved. A new key of the module format gets its meaning here.
 
-ghost use Rattle.std.specs.Prelude.{◌≡◌, ◌↔◌, IsTrue};
+ghost use Rattle.std.specs.Prelude.{◌≡◌};
 ghost use Rattle.ob_schema.specs.Fields.{is_kept, is_plain_kept};
-ghost use Rattle.ob_schema.specs.Paths.{EndsIn};
 
 use ob_base::{FieldNo, ModelNo, Sequence, Value, Word};
 use ob_definition::{Choice, FieldType, OnDelete};
@@ -118,15 +117,6 @@ pub struct Path {
 pub struct Step {
     pub model: ModelNo,
     pub field: FieldNo,
-}
-
-impl Path {
-    /// Whether this is its last step.
-    pub(crate) fn ends_in(&self, step: Step) -> bool
-        ensures { IsTrue result ↔ EndsIn self.now.steps step }
-    {
-        self.steps.as_slice().last().copied() == Some(step)
-    }
 }
 
 impl FieldInfo {

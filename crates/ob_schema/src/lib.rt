@@ -1,32 +1,17 @@
-//! The registry: models with every name resolved, built from their definitions, or the first
-//! thing that stands against these.
+//! The registry: models with every name resolved, and what is asked of them.
 //!
 //! Rooms: `info` (models and fields with names resolved), `schema` (the registry and its
-//! look-ups), `build` (the registry from definitions), `facts` (what domains and rules ask of
-//! rows), `links` (what is asked of rows to follow a change), `preset` (rows that modules
-//! bring). Behind it stand `model` and `models` (models with
-//! all their fields, and what names stand for), `model_faults`, `field_faults`, `paths`,
-//! `formulas`, `graph` and `strata` (what is wrong with models, keys, paths, expressions and
-//! circles), `building` and `field_building` (the registry's parts). The definitions that
-//! contracts cite stand in specs/; what is declared stands in `ob_definition`.
+//! look-ups), `facts` (what domains and rules ask of rows), `links` (what is asked of rows to
+//! follow a change), `preset` (rows that modules bring). The definitions that contracts cite
+//! stand in specs/, those of a right registry among them; `ob_registry` builds one, and what is
+//! declared stands in `ob_definition`.
 #![tactic(auto)]
 
-mod build;
-mod building;
 mod facts;
-mod field_building;
-mod field_faults;
-mod formulas;
-mod graph;
 mod info;
 mod links;
-mod model;
-mod model_faults;
-mod models;
-mod paths;
 mod preset;
 mod schema;
-mod strata;
 
 pub use facts::{Facts, questions_of_questions};
 pub use info::{

@@ -45,10 +45,7 @@ impl Model for Schema {
 impl Schema {
     /// The registry of these models, numbered from 1 in their order. Of two models with
     /// one name the first has it.
-    pub(crate) fn from_models(
-        alloc: Global,
-        models: Sequence<ModelInfo>,
-    ) -> Result<Schema, NoMemory>
+    pub fn from_models(alloc: Global, models: Sequence<ModelInfo>) -> Result<Schema, NoMemory>
         requires { IsRegistry models }
         ensures { IfOk result (λ schema. schema ≡ models) }
     {

@@ -32,7 +32,7 @@ use std::marker::Model;
 use std::ops::Bound;
 
 /// The plain values of rows, and a next id for each model of the registry over which they
-/// stand. No call changes tables: those that edit give new ones.
+/// stand. Calls give new tables, but for `edit`, which spares whoever stages edits a copy.
 #[derive(Drop)]
 pub struct Tables<'a> {
     pub(crate) alloc: Global,
@@ -89,10 +89,21 @@ impl<'a> Tables<'a> {
         ensures { IfOk result (λ tables. tables ≡ record { models = self.now.models; tables = after self.now.models self.now.tables edits.now }) }
     {
         let mut tables = self.try_clone()?;
-        for edit in edits {
-            tables.carry_out(edit)?;
-        }
+        tables.edit(edits)?;
         Ok(tables)
+    }
+
+    /// Carries out edits in their order, without any test. After a fault these tables are of no
+    /// use.
+    pub fn edit(&mut self, edits: &[Edit]) -> Result<(), NoMemory>
+        requires { All (IsFitEdit self.old.models) edits.now }
+        ensures models { self.new.models ≡ self.old.models }
+        ensures tables { IfOk result (λ _. self.new.tables ≡ after self.old.models self.old.tables edits.now) }
+    {
+        for edit in edits {
+            self.carry_out(edit)?;
+        }
+        Ok(())
     }
 
     /// The value of a plain cell, of `id` or of a one2many or many2many; none exactly where its

@@ -16,14 +16,14 @@ use Rattle.ob_cache.specs.Calls.{Refuses, settled_over}
 use Rattle.ob_cache.specs.Stages.{IsKeptRelation, resting, settled_of, with_edits}
 use Rattle.ob_cache.specs.Standing.{Holding, RestsAt, Stands, Stays, max_next_id}
 use Rattle.ob_io.specs.Store.{Store}
-use Rattle.ob_orm.specs.CreateSteps.{BreaksField, IsBrokenBy}
+use Rattle.ob_rows.specs.Settling.{BreaksField, IsBrokenBy}
 use Rattle.ob_unlink.specs.Deletion.{AreLeft, BarsAs, IsDeleted, is_cascaded, is_named, row_of_cell}
 use Rattle.ob_unlink.specs.DeletionSteps.{AreFit, BarsRow, BarsRowAs, Covers, IsFitCell, RestrictsBy, SettlesDeletion, IsBarredBy, IsDeletion, IsFitRow, IsMakingNone, IsRestricting, IsStoppedBy, MayAllGo, MayGo, deletion_edits, gone_edits}
-use Rattle.ob_orm.specs.TouchSteps.{has_key}
+use Rattle.ob_rows.specs.RowSets.{has_key}
 use Rattle.ob_unlink.specs.Unlink.{AreDeleted}
-use Rattle.ob_orm.specs.Rights.{rows_named}
-use Rattle.ob_orm.specs.Write.{AreThere}
-use Rattle.ob_orm.proofs.CallerLemmas.{all_among, any_one, contains-map, rests-sound, row-among, row-of-kept, sound_in, stays-rests}
+use Rattle.ob_rows.specs.Rights.{rows_named}
+use Rattle.ob_rows.specs.There.{AreThere}
+use Rattle.ob_rows.proofs.CallerLemmas.{all_among, any_one, contains-map, rests-sound, row-among, row-of-kept, sound_in, stays-rests}
 use Rattle.ob_unlink.proofs.Emptied.{emptied}
 use Rattle.ob_unlink.proofs.TakenRows.{cell-among}
 use Rattle.ob_schema.specs.Broken.{Sound}

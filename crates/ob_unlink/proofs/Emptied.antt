@@ -19,8 +19,8 @@ use Rattle.ob_base.specs.declared.value.Value.{Value}
 use Rattle.ob_base.specs.declared.value.Value.TheVariants as value
 use Rattle.ob_unlink.specs.Deletion.{AreLeft, NamesRow, is_unset, leads_to_gone, left_at, left_of, row_of_cell}
 use Rattle.ob_unlink.specs.DeletionSteps.{Covers, deletion_edits, gone_edits, has_cell, left_edit, staying}
-use Rattle.ob_orm.specs.TouchSteps.{has_key}
-use Rattle.ob_orm.proofs.CallerLemmas.{after-then, both_ways, contains-filter, contains-kept, either_way, fails, row-among, row-apart, row-itself, row-of-kept, same_row, set-next, set-other, set-own, set-there}
+use Rattle.ob_rows.specs.RowSets.{has_key}
+use Rattle.ob_rows.proofs.CallerLemmas.{after-then, both_ways, contains-filter, contains-kept, either_way, fails, row-among, row-apart, row-itself, row-of-kept, same_row, set-next, set-other, set-own, set-there}
 use Rattle.ob_unlink.proofs.TakenRows.{cell-among, cells_exact}
 use Rattle.ob_schema.proofs.CallerLemmas.{contains-cases, contains-first, contains-later, contains-none}
 use Rattle.ob_schema.specs.Built.{numbered}

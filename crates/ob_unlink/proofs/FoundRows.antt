@@ -10,11 +10,11 @@ use Rattle.ob_base.specs.declared.id.RecId.{RecId}
 use Rattle.ob_base.specs.declared.id.RowKey.{RowKey}
 use Rattle.ob_cache.specs.Stages.{IsKeptRelation}
 use Rattle.ob_unlink.specs.DeletionSteps.{AddsCells, AreFit, IsFitCell, IsFitRow, LeadsBy, TakesBy, TakesMore, has_cell}
-use Rattle.ob_orm.specs.Relations.{IsRelation}
-use Rattle.ob_orm.specs.TouchSteps.{has_key}
-use Rattle.ob_orm.specs.declared.relations.KeptRelation.{KeptRelation}
-use Rattle.ob_orm.specs.Rights.{rows_named}
-use Rattle.ob_orm.proofs.CallerLemmas.{contains-map}
+use Rattle.ob_rows.specs.Relations.{IsRelation}
+use Rattle.ob_rows.specs.RowSets.{has_key}
+use Rattle.ob_rows.specs.declared.relations.KeptRelation.{KeptRelation}
+use Rattle.ob_rows.specs.Rights.{rows_named}
+use Rattle.ob_rows.proofs.CallerLemmas.{contains-map}
 use Rattle.ob_unlink.proofs.NamingRows.{RelationAt, relation-at}
 use Rattle.ob_unlink.proofs.TakenMore.{OfRelation}
 use Rattle.ob_unlink.proofs.TakenRows.{no_cell}

@@ -21,8 +21,8 @@ use Rattle.ob_definition.specs.declared.field_type.FieldType.TheVariants as type
 use Rattle.ob_definition.specs.declared.field_type.OnDelete.{OnDelete}
 use Rattle.ob_unlink.specs.Deletion.{is_unset, leads_to_gone, left_at, left_of, row_of_cell}
 use Rattle.ob_unlink.specs.DeletionSteps.{IsFitCell, IsMakingNone, gone_edits, left_edit, staying}
-use Rattle.ob_orm.specs.LockSteps.{IsSettledAt}
-use Rattle.ob_orm.proofs.CallerLemmas.{settled-kept, settled-there}
+use Rattle.ob_rows.specs.LockSteps.{IsSettledAt}
+use Rattle.ob_rows.proofs.CallerLemmas.{settled-kept, settled-there}
 use Rattle.ob_schema.specs.Fields.{HasFieldType, IsGivable}
 use Rattle.ob_schema.specs.Models.{IsRegistry, field_at}
 use Rattle.ob_schema.specs.Tables.{Tables, kept_at}

@@ -6,7 +6,7 @@ use Rattle.std.proofs.lemmas.List.Elements.{filter-append}
 use Rattle.std.proofs.lemmas.List.Kept.{AllPairs-from_increasing}
 use Rattle.ob_base.specs.Rising.{IsRising}
 use Rattle.ob_base.specs.declared.id.RecId.{RecId}
-use Rattle.ob_orm.proofs.CallerLemmas.{all_among, contains-filter}
+use Rattle.ob_rows.proofs.CallerLemmas.{all_among, contains-filter}
 
 module _ (p : RecId → Bool) (ids : List RecId) (i : ℕ) (within : i < length ids) where
   abbrev here : RecId

@@ -17,10 +17,10 @@ use Rattle.ob_definition.specs.declared.field_type.FieldType.TheVariants as type
 use Rattle.ob_definition.specs.declared.field_type.OnDelete.{OnDelete}
 use Rattle.ob_definition.specs.declared.field_type.OnDelete.TheVariants as ondelete
 use Rattle.ob_unlink.specs.Deletion.{DoesAt, NamesRow, row_of_cell}
-use Rattle.ob_orm.specs.Relations.{IsRelation, is_cascade, relation_of}
+use Rattle.ob_rows.specs.Relations.{IsRelation, is_cascade, relation_of}
 use Rattle.ob_unlink.specs.DeletionSteps.{LeadsBy, TakesBy, cell_by}
-use Rattle.ob_orm.specs.declared.relations.KeptRelation.{KeptRelation}
-use Rattle.ob_orm.proofs.CallerLemmas.{any_is, any_one, contains-filter, contains-kept, contains-map, contains-mapped}
+use Rattle.ob_rows.specs.declared.relations.KeptRelation.{KeptRelation}
+use Rattle.ob_rows.proofs.CallerLemmas.{any_is, any_one, contains-filter, contains-kept, contains-map, contains-mapped}
 use Rattle.ob_unlink.proofs.Searched.{GoesWith}
 use Rattle.ob_schema.proofs.CallerLemmas.{contains-cases, contains-none}
 use Rattle.ob_schema.specs.Fields.{is_plain_kept}

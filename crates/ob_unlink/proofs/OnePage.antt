@@ -15,7 +15,7 @@ use Rattle.ob_base.specs.declared.id.ModelNo.{ModelNo}
 use Rattle.ob_base.specs.declared.id.RecId.{RecId}
 use Rattle.ob_base.specs.declared.value.Value.{Value}
 use Rattle.ob_unlink.proofs.NamingRows.{naming-kept}
-use Rattle.ob_orm.proofs.CallerLemmas.{id-within, row-of-kept}
+use Rattle.ob_rows.proofs.CallerLemmas.{id-within, row-of-kept}
 use Rattle.ob_schema.proofs.CallerLemmas.{contains-first, contains-later}
 use Rattle.ob_schema.specs.Broken.{AreSound}
 use Rattle.ob_schema.specs.Models.{IsRegistry}

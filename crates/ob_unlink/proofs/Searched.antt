@@ -8,8 +8,8 @@ use Rattle.ob_base.specs.declared.id.RowKey.{RowKey}
 use Rattle.ob_definition.specs.declared.field_type.OnDelete.TheVariants as ondelete
 use Rattle.ob_unlink.specs.Deletion.{HasAction, IsDeleted, NamesRow, is_cascaded, is_named, row_of_cell}
 use Rattle.ob_unlink.specs.DeletionSteps.{AddsCells, IsDeletion, TakesMore, has_cell}
-use Rattle.ob_orm.specs.TouchSteps.{has_key}
-use Rattle.ob_orm.proofs.CallerLemmas.{either_way, no_row}
+use Rattle.ob_rows.specs.RowSets.{has_key}
+use Rattle.ob_rows.proofs.CallerLemmas.{either_way, no_row}
 use Rattle.ob_unlink.proofs.TakenRows.{no_cell}
 use Rattle.ob_schema.proofs.CallerLemmas.{contains-none}
 use Rattle.ob_schema.specs.Tables.{Tables}

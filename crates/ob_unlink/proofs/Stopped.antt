@@ -5,12 +5,12 @@ use Rattle.ob_base.specs.declared.id.ModelNo.{ModelNo}
 use Rattle.ob_base.specs.declared.refusal.Op.TheVariants as op
 use Rattle.ob_base.specs.declared.refusal.Refusal.{Refusal}
 use Rattle.ob_base.specs.declared.refusal.Refusal.TheVariants as refusal
-use Rattle.ob_orm.specs.CreateSteps.{BreaksField}
-use Rattle.ob_orm.specs.AskingSteps.{AdmitsBy, DeniesBy}
+use Rattle.ob_rows.specs.Settling.{BreaksField}
+use Rattle.ob_rows.specs.AskingSteps.{AdmitsBy, DeniesBy}
 use Rattle.ob_unlink.specs.DeletionSteps.{HoldsBack, IsStoppedBy, MayHoldBack, MayStopUnlink, StopsUnlink}
-use Rattle.ob_orm.specs.Rights.{DeniesOne, rows_named}
-use Rattle.ob_orm.specs.Write.{AreThere}
-use Rattle.ob_orm.specs.declared.asking.Caller.{Caller}
+use Rattle.ob_rows.specs.Rights.{DeniesOne, rows_named}
+use Rattle.ob_rows.specs.There.{AreThere}
+use Rattle.ob_rows.specs.declared.asking.Caller.{Caller}
 use Rattle.ob_schema.specs.Facts.{told_by}
 use Rattle.ob_schema.specs.Tables.{Tables}
 use Rattle.ob_schema.specs.declared.info.ModelInfo.{ModelInfo}

@@ -8,9 +8,9 @@ use Rattle.ob_base.specs.declared.id.ModelNo.{ModelNo}
 use Rattle.ob_base.specs.declared.id.RecId.{RecId}
 use Rattle.ob_base.specs.declared.id.RowKey.{RowKey}
 use Rattle.ob_unlink.specs.DeletionSteps.{cell_by}
-use Rattle.ob_orm.specs.declared.relations.KeptRelation.{KeptRelation}
-use Rattle.ob_orm.specs.Rights.{rows_named}
-use Rattle.ob_orm.proofs.CallerLemmas.{contains-more}
+use Rattle.ob_rows.specs.declared.relations.KeptRelation.{KeptRelation}
+use Rattle.ob_rows.specs.Rights.{rows_named}
+use Rattle.ob_rows.proofs.CallerLemmas.{contains-more}
 use Rattle.ob_schema.proofs.CallerLemmas.{contains-none}
 
 -- the row of an id

@@ -11,8 +11,8 @@ use Rattle.ob_base.specs.BrokenOrder.{cell_order}
 use Rattle.ob_base.specs.declared.id.Cell.{Cell}
 use Rattle.ob_base.specs.declared.id.RowKey.{RowKey}
 use Rattle.ob_unlink.specs.DeletionSteps.{AddsCells, KeepsCount, TakesMore, has_cell}
-use Rattle.ob_orm.specs.TouchSteps.{has_key}
-use Rattle.ob_orm.proofs.CallerLemmas.{both_ways, contrary, either_way, has-one}
+use Rattle.ob_rows.specs.RowSets.{has_key}
+use Rattle.ob_rows.proofs.CallerLemmas.{both_ways, contrary, either_way, has-one}
 
 -- only the same cell compares as equal
 pub cells_exact : CmpEqualImpliesEq cell_order

@@ -24,13 +24,13 @@ use Rattle.ob_call.specs.Ids.{named_ids}
 use Rattle.ob_call.specs.Results.{IsResultOf}
 use Rattle.ob_call.specs.declared.arguments.Given.{Given}
 use Rattle.ob_call.specs.declared.call.Call.{Call}
-use Rattle.ob_orm.specs.AskingSteps.{AdmitsBy, may_by}
+use Rattle.ob_rows.specs.AskingSteps.{AdmitsBy, may_by}
 use Rattle.ob_unlink.specs.DeletionSteps.{IsNaming, MayStopUnlink, SettlesDeletion, StopsUnlink}
-use Rattle.ob_orm.specs.Rights.{AreAdmitted, DeniesLeast, rows_named}
+use Rattle.ob_rows.specs.Rights.{AreAdmitted, DeniesLeast, rows_named}
 use Rattle.ob_unlink.specs.Unlink.{MayName, UnlinkCause, UnlinkRefuses, Unlinks, ids_from, unlinked_ids}
-use Rattle.ob_orm.specs.Write.{AreThere}
-use Rattle.ob_orm.specs.declared.asking.Caller.{Caller}
-use Rattle.ob_orm.proofs.CallerLemmas.{everywhere, nowhere}
+use Rattle.ob_rows.specs.There.{AreThere}
+use Rattle.ob_rows.specs.declared.asking.Caller.{Caller}
+use Rattle.ob_rows.proofs.CallerLemmas.{everywhere, nowhere}
 use Rattle.ob_schema.specs.Facts.{told_by}
 use Rattle.ob_schema.specs.Models.{HasModel, model_at}
 use Rattle.ob_schema.specs.Tables.{Tables}

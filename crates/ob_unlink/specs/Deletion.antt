@@ -12,8 +12,8 @@ use Rattle.ob_base.specs.declared.value.Value.TheVariants as value
 use Rattle.ob_definition.specs.declared.field_type.FieldType.TheVariants as type
 use Rattle.ob_definition.specs.declared.field_type.OnDelete.{OnDelete}
 use Rattle.ob_definition.specs.declared.field_type.OnDelete.TheVariants as ondelete
-use Rattle.ob_orm.specs.Lasting.{Lasts}
-use Rattle.ob_orm.specs.Locks.{IsLocked, told_field}
+use Rattle.ob_rows.specs.Lasting.{Lasts}
+use Rattle.ob_rows.specs.Locks.{IsLocked, told_field}
 use Rattle.ob_schema.specs.Fields.{is_plain_kept}
 use Rattle.ob_schema.specs.Models.{FieldHas, field_at, is_id_from, model_at}
 use Rattle.ob_schema.specs.Plain.{names}

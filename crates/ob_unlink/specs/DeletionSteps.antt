@@ -21,16 +21,16 @@ use Rattle.ob_cache.specs.Standing.{Holding, Stands}
 use Rattle.ob_call.specs.Ids.{IsLeastMissing}
 use Rattle.ob_definition.specs.declared.field_type.OnDelete.TheVariants as ondelete
 use Rattle.ob_io.specs.Store.{Store}
-use Rattle.ob_orm.specs.AskingSteps.{AdmitsBy, DeniesBy, may_by}
+use Rattle.ob_rows.specs.AskingSteps.{AdmitsBy, DeniesBy, may_by}
 use Rattle.ob_unlink.specs.Deletion.{Bars, HasAction, IsDeleted, NamesRow, left_at, row_of_cell}
-use Rattle.ob_orm.specs.TouchSteps.{has_key}
-use Rattle.ob_orm.specs.Lasting.{Lasts}
-use Rattle.ob_orm.specs.Locks.{IsLocked, told_field}
+use Rattle.ob_rows.specs.RowSets.{has_key}
+use Rattle.ob_rows.specs.Lasting.{Lasts}
+use Rattle.ob_rows.specs.Locks.{IsLocked, told_field}
 use Rattle.ob_unlink.specs.Unlink.{AreDeleted, StopsDeletion}
-use Rattle.ob_orm.specs.Rights.{DeniesOne, rows_named}
-use Rattle.ob_orm.specs.Write.{AreThere}
-use Rattle.ob_orm.specs.declared.asking.Caller.{Caller}
-use Rattle.ob_orm.specs.declared.relations.KeptRelation.{KeptRelation}
+use Rattle.ob_rows.specs.Rights.{DeniesOne, rows_named}
+use Rattle.ob_rows.specs.There.{AreThere}
+use Rattle.ob_rows.specs.declared.asking.Caller.{Caller}
+use Rattle.ob_rows.specs.declared.relations.KeptRelation.{KeptRelation}
 use Rattle.ob_schema.specs.Facts.{told_by}
 use Rattle.ob_schema.specs.Models.{FieldHas, HasField, HasModel, is_id_from, model_at}
 use Rattle.ob_schema.specs.Plain.{naming}

@@ -13,8 +13,8 @@ use Rattle.ob_call.specs.Arguments.{Expected, Given, arguments_of}
 use Rattle.ob_call.specs.Called.{Called}
 use Rattle.ob_call.specs.Ids.{IsLeastMissing, named_ids}
 use Rattle.ob_unlink.specs.Deletion.{AreLeft, Bars, IsDeleted}
-use Rattle.ob_orm.specs.Rights.{AreAdmitted, ByGroups, DeniesLeast, DeniesOne, IsWithheld, may, rows_named}
-use Rattle.ob_orm.specs.Write.{AreThere, ids_expected}
+use Rattle.ob_rows.specs.Rights.{AreAdmitted, ByGroups, DeniesLeast, DeniesOne, IsWithheld, may, rows_named}
+use Rattle.ob_rows.specs.There.{AreThere, ids_expected}
 use Rattle.ob_schema.specs.Broken.{IsBroken, Sound}
 use Rattle.ob_schema.specs.Facts.{told_by}
 use Rattle.ob_schema.specs.Models.{HasField}

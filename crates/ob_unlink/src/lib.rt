@@ -3,7 +3,7 @@
 //!
 //! One room, `unlinking`, with its own: which rows go and which cells name them, what keeps rows from
 //! going, and the edits. What every call that changes rows does (who asks, which rows are there and
-//! locked, how edits are settled) stands in the crate `ob_orm`. The definitions stand in specs/.
+//! locked, how edits are settled) stands in the crate `ob_rows`. The definitions stand in specs/.
 #![tactic(auto)]
 
 mod unlinking;

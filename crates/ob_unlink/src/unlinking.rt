@@ -3,7 +3,7 @@
 //!
 //! Rooms: `deletion` and `taking` (which rows go, and which cells name them), `barring` (what keeps
 //! rows from going) and `leaving` (the edits). By which fields rows name others is told by
-//! `kept_relations` of ob_orm. What it means is `Unlinks`, over the definitions of `Deletion`, and why
+//! `kept_relations` of ob_rows. What it means is `Unlinks`, over the definitions of `Deletion`, and why
 //! it may be refused over any keeper `UnlinkCause`: a change begins with these.
 
 ghost use Rattle.std.specs.Prelude.{◌≡◌, ◌≤◌, ◌∷◌, ℕ, codes, false, map, true, All, IfErr, IfOk, IfSome, IsSome, OnOk};
@@ -23,13 +23,13 @@ ghost use Rattle.ob_call.specs.Called.{called_by, result_view};
 ghost use Rattle.ob_call.specs.Forms.{ids_fault};
 ghost use Rattle.ob_call.specs.Results.{IsResultOf};
 ghost use Rattle.ob_io.specs.Cause.{Rose};
-ghost use Rattle.ob_orm.specs.AskingSteps.{AdmitsBy, AreKnown};
-ghost use Rattle.ob_orm.specs.CreateSteps.{BreaksField};
+ghost use Rattle.ob_rows.specs.AskingSteps.{AdmitsBy, AreKnown};
+ghost use Rattle.ob_rows.specs.Settling.{BreaksField};
 ghost use Rattle.ob_unlink.specs.DeletionSteps.{AreFit, Covers, HoldsBack, IsBarredBy, IsMakingNone, IsNaming, IsRestricting, IsStoppedBy, MayAllGo, MayHoldBack, MayStopUnlink, RestrictsBy, SettlesDeletion, StopsUnlink, deletion_edits, left_edit, staying};
-ghost use Rattle.ob_orm.specs.TouchSteps.{has_key};
-ghost use Rattle.ob_orm.specs.Rights.{rows_named};
+ghost use Rattle.ob_rows.specs.RowSets.{has_key};
+ghost use Rattle.ob_rows.specs.Rights.{rows_named};
 ghost use Rattle.ob_unlink.specs.Unlink.{UnlinkCause, Unlinks, unlink_expects, unlinked_ids};
-ghost use Rattle.ob_orm.specs.Write.{AreThere};
+ghost use Rattle.ob_rows.specs.There.{AreThere};
 ghost use Rattle.ob_schema.specs.Facts.{OfAllTold, told_by};
 ghost use Rattle.ob_schema.specs.Models.{HasModel, model_at};
 ghost use Rattle.ob_schema.specs.Tables.{Tables, kept_at};
@@ -48,7 +48,7 @@ use ob_base::{Ledger, ModelNo, Op, RecId, Refusal, RowKey, Steps};
 use ob_cache::Engine;
 use ob_call::{Call, Ids, Json, Parameter, arguments_of, named_ids};
 use ob_io::Keeper;
-use ob_orm::{Caller, groups_of, may, missing_id, rows_named, settle_edits, test_rules};
+use ob_rows::{Caller, groups_of, may, missing_id, rows_named, settle_edits, test_rules};
 use ob_tables::Edit;
 use std::alloc::Global;
 

@@ -25,36 +25,42 @@ use crate::fields::{Question, put_fields};
 use crate::presets::put_preset;
 use ob_domain::Json;
 use probe_parts::parts::json_of;
-use probe_parts::program::Probe;
 use probe_parts::told::Told;
 use probe_parts::words::first_word;
 use std::alloc::Global;
 
-/// What tells the words about domains and access from one another.
-pub(crate) struct AccessProbe {}
-
-impl Probe for AccessProbe {
-    fn answer(&self, alloc: Global, told: &mut Told, times: u32, word: &str, rest: &str) {
-        let whole = expanded(alloc, told, rest);
-        let json = json_of(alloc, told, whole.as_str());
-        if told.is_malformed() {
-            told.tell_instead(alloc, "no JSON");
-        } else {
-            put_answer(alloc, told, times, word, &json);
+/// Tells the answer to a line of this word, whose call is made so many times; false where the
+/// word isn't one of these.
+pub fn put_answer(alloc: Global, told: &mut Told, times: u32, word: &str, rest: &str) -> bool {
+    match word {
+        "domain" | "fields" | "asks" | "access" | "declared" | "preset" => {
+            put_line(alloc, told, times, word, rest);
+            true
         }
+        _ => false,
+    }
+}
+
+/// Tells the answer to a line of one of these words.
+fn put_line(alloc: Global, told: &mut Told, times: u32, word: &str, rest: &str) {
+    let whole = expanded(alloc, told, rest);
+    let json = json_of(alloc, told, whole.as_str());
+    if told.is_malformed() {
+        told.tell_instead(alloc, "no JSON");
+    } else {
+        put_case(alloc, told, times, word, &json);
     }
 }
 
 /// Tells the answer to a case.
-fn put_answer(alloc: Global, told: &mut Told, times: u32, word: &str, json: &Json) {
+fn put_case(alloc: Global, told: &mut Told, times: u32, word: &str, json: &Json) {
     match word {
         "domain" => put_domain(alloc, told, times, json),
         "fields" => put_fields(alloc, told, times, Question::Fields, json),
         "asks" => put_fields(alloc, told, times, Question::Asks, json),
         "access" => put_access(alloc, told, times, json),
         "declared" => put_declared(alloc, told, times, json),
-        "preset" => put_preset(alloc, told, json),
-        _ => told.put("no word"),
+        _ => put_preset(alloc, told, json),
     }
     if told.is_malformed() {
         told.tell_instead(alloc, "no case");

@@ -35,23 +35,20 @@ use crate::modules::{put_loaded, put_reading};
 use crate::schemas::put_built;
 use crate::tables::put_cases;
 use probe_parts::parts::json_of;
-use probe_parts::program::Probe;
 use probe_parts::told::Told;
 use std::alloc::Global;
 
-/// The probe of models.
-pub(crate) struct Models;
-
-impl Probe for Models {
-    fn answer(&self, alloc: Global, told: &mut Told, times: u32, word: &str, rest: &str) {
-        match word {
-            "schema" => put_built(alloc, told, times, rest),
-            "load" => put_loaded(alloc, told, times, rest),
-            "reads" => put_reading(alloc, told, rest),
-            "tables" | "engine" | "closes" => put_of_json(alloc, told, times, word, rest),
-            _ => told.put("no word"),
-        }
+/// Tells the answer to a line of this word, whose call is made so many times; false where the
+/// word isn't one of these.
+pub fn put_answer(alloc: Global, told: &mut Told, times: u32, word: &str, rest: &str) -> bool {
+    match word {
+        "schema" => put_built(alloc, told, times, rest),
+        "load" => put_loaded(alloc, told, times, rest),
+        "reads" => put_reading(alloc, told, rest),
+        "tables" | "engine" | "closes" => put_of_json(alloc, told, times, word, rest),
+        _ => return false,
     }
+    true
 }
 
 /// Tells the answer to a line of JSON: of tables, of an engine, or of a closure.

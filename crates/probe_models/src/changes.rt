@@ -16,6 +16,7 @@ use probe_parts::parts::{Json, id_of, items_of};
 use probe_parts::told::Told;
 use probe_parts::words::bytes_of;
 use std::alloc::Global;
+use std::slice;
 
 /// The numbers below this one fit a keeper.
 const END: u64 = 1 << 63;
@@ -43,7 +44,7 @@ pub(crate) fn put_change(
 fn put_commit(told: &mut Told, keeper: &mut MemKeeper, change: Change)
     requires { IsChangeFit change }
 {
-    match keeper.commit(&[change]) {
+    match keeper.commit(slice::from_ref(&change)) {
         Ok(()) => told.put(DONE),
         Err(fault) => put_fault(told, &fault),
     }

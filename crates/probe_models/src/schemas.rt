@@ -2,7 +2,8 @@
 
 use crate::told_models::{put_number, put_schema};
 use ob_base::Sequence;
-use ob_schema::{ModelDef, Schema, SchemaFault, Spot};
+use ob_registry::build_schema;
+use ob_schema::{ModelDef, SchemaFault, Spot};
 use probe_parts::definitions::definitions;
 use probe_parts::told::{Told, put_text};
 use std::alloc::Global;
@@ -20,9 +21,9 @@ pub(crate) fn put_built(alloc: Global, told: &mut Told, times: u32, line: &str) 
 /// Adds the registry that definitions make, or their first fault.
 fn put_made(alloc: Global, told: &mut Told, times: u32, definitions: &Sequence<ModelDef>) {
     for _ in 1..times {
-        let _ = Schema::build(alloc, definitions.as_slice());
+        let _ = build_schema(alloc, definitions.as_slice());
     }
-    match Schema::build(alloc, definitions.as_slice()) {
+    match build_schema(alloc, definitions.as_slice()) {
         Ok(schema) => put_schema(alloc, told, &schema),
         Err(fault) => put_fault(alloc, told, &fault),
     }

@@ -11,6 +11,7 @@ use crate::items::{flag_of, number_of};
 use crate::told::Told;
 use crate::words::{first_word, word_of};
 use ob_base::{Sequence, Value, Word};
+use ob_registry::build_schema;
 use ob_schema::{
     Check, Choice, FieldDef, FieldType, Inherits, ModelDef, OnDelete, Schema, SchemaFault,
 };
@@ -32,7 +33,7 @@ struct Key<'a> {
 /// The registry that the definitions of a text make.
 pub fn schema_of(alloc: Global, told: &mut Told, text: &str) -> Option<Schema> {
     let definitions = definitions(alloc, told, text);
-    match Schema::build(alloc, definitions.as_slice()) {
+    match build_schema(alloc, definitions.as_slice()) {
         Ok(schema) => Some(schema),
         Err(SchemaFault::NoMemory) => {
             told.lack();

@@ -1,8 +1,8 @@
-//! What the probes share: programs that answer each line of their input by calls of the
-//! libraries. It has no rules of its own; what stands in two of the probes belongs here.
+//! What the words of the program probe share, which answers each line of its input by calls of the
+//! libraries. It has no rules of its own; what stands in two of the libraries of words belongs here.
 //!
 //! Rooms: `told` (the answer to a line while it is told, what stands against it, and how values
-//! are written), `program` (the loop over the lines, and what a probe is to it), `words` (texts
+//! are written), `program` (the loop over the lines, and what the words are to it), `words` (texts
 //! as lines write them), `items` (parts of words), `parts` (parts of JSON), `definitions` (models
 //! from a line).
 #![tactic(auto)]

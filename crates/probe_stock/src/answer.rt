@@ -44,35 +44,33 @@ use crate::moves::{put_parts, put_state};
 use crate::quants::put_moved;
 use crate::removals::put_taken;
 use crate::routes::{put_chain, put_push};
-use probe_parts::program::Probe;
 use probe_parts::told::Told;
 use std::alloc::Global;
 
-/// What tells the words about stock and messages from one another.
-pub(crate) struct StockProbe {}
-
-impl Probe for StockProbe {
-    fn answer(&self, alloc: Global, told: &mut Told, times: u32, word: &str, rest: &str) {
-        match word {
-            "takes" => put_taken(alloc, told, times, rest),
-            "lines" => put_moved(alloc, told, times, rest),
-            "state" => put_state(told, rest),
-            "split" => put_parts(told, rest),
-            "chain" => put_chain(alloc, told, times, rest),
-            "push" => put_push(alloc, told, rest),
-            _ => put_of_messages(alloc, told, times, word, rest),
-        }
+/// Tells the answer to a line of this word, whose call is made so many times; false where the
+/// word isn't one of these.
+pub fn put_answer(alloc: Global, told: &mut Told, times: u32, word: &str, rest: &str) -> bool {
+    match word {
+        "takes" => put_taken(alloc, told, times, rest),
+        "lines" => put_moved(alloc, told, times, rest),
+        "state" => put_state(told, rest),
+        "split" => put_parts(told, rest),
+        "chain" => put_chain(alloc, told, times, rest),
+        "push" => put_push(alloc, told, rest),
+        _ => return put_of_messages(alloc, told, times, word, rest),
     }
+    true
 }
 
 /// Tells the answer to a line about messages.
-fn put_of_messages(alloc: Global, told: &mut Told, times: u32, word: &str, rest: &str) {
+fn put_of_messages(alloc: Global, told: &mut Told, times: u32, word: &str, rest: &str) -> bool {
     match word {
         "http" => put_connections(alloc, told, times, rest),
         "written" => put_replies(alloc, told, rest),
         "envelope" => put_envelope_of(alloc, told, rest),
         "reply" => put_reply_of(alloc, told, rest),
         "words" => put_asked(alloc, told, rest),
-        _ => told.put("no word"),
+        _ => return false,
     }
+    true
 }

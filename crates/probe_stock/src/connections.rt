@@ -56,21 +56,29 @@ pub(crate) fn put_connections(alloc: Global, told: &mut Told, times: u32, asked:
 
 /// Adds the answer for each length of the pieces, where it is another than that before.
 fn put_cuts(alloc: Global, told: &mut Told, times: u32, cuts: &str, fails: u64, bytes: &[u8]) {
-    let mut before = Told::new(alloc);
+    let mut before = String::new(alloc);
     for cut in cuts.split(',') {
         let mut answer = Told::new(alloc);
-        match cut_of(cut) {
-            Some(cut) => put_connection(alloc, &mut answer, times, Sender { bytes, cut, fails }),
-            None => answer.put("no connection"),
-        }
-        if answer.lacks_memory() {
-            return told.lack();
-        }
-        if answer.as_str() != before.as_str() {
-            told.put(if told.is_empty() { "" } else { " | " });
-            told.put(answer.as_str());
-            before = answer;
-        }
+        put_cut(alloc, &mut answer, times, cut, fails, bytes);
+        let answer = told.take(answer);
+        put_other(told, before.as_str(), answer.as_str());
+        before = answer;
+    }
+}
+
+/// Adds the answer for a length of the pieces.
+fn put_cut(alloc: Global, told: &mut Told, times: u32, cut: &str, fails: u64, bytes: &[u8]) {
+    match cut_of(cut) {
+        Some(cut) => put_connection(alloc, told, times, Sender { bytes, cut, fails }),
+        None => told.put("no connection"),
+    }
+}
+
+/// Adds an answer, where it is another than that before.
+fn put_other(told: &mut Told, before: &str, answer: &str) {
+    if answer != before {
+        told.put(if told.is_empty() { "" } else { " | " });
+        told.put(answer);
     }
 }
 
@@ -127,7 +135,9 @@ fn door_of(alloc: Global, sender: Sender<'_>) -> Result<MemDoor, NoMemory> {
     let bytes = Vec::from_slice(alloc, sender.bytes)?;
     let room = sender.bytes.len().saturating_mul(3).saturating_add(256);
     let fails = vec![in alloc; sender.fails]?;
-    let mut door = MemDoor::new(alloc, vec![in alloc; bytes]?, sender.cut, room, fails)?;
+    let mut streams = Vec::new(alloc);
+    streams.push(bytes)?;
+    let mut door = MemDoor::new(alloc, streams, sender.cut, room, fails)?;
     let _ = door.next();
     Ok(door)
 }

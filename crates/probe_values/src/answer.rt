@@ -61,38 +61,55 @@ use crate::evaluations::put_evaluation;
 use crate::expressions::{put_expression, put_kinds, put_long_expression, put_tree};
 use crate::fields::Fields;
 use crate::orders::{put_broken, put_values};
-use crate::registry::MODEL;
+use crate::registry::{MODEL, registry};
 use crate::rows::{put_body, put_kept, put_row};
 use crate::texts::{put_day, put_moment};
 use crate::values::put_of_field;
 use ob_schema::Schema;
-use probe_parts::program::Probe;
 use probe_parts::told::Told;
 use std::alloc::Global;
 
-/// The probe, with the registry and the fields that it asks about.
+/// The registry and the fields that these words ask about.
 #[derive(Drop)]
-pub(crate) struct Values {
-    pub(crate) schema: Schema,
-    pub(crate) fields: Fields,
+pub struct Values {
+    schema: Schema,
+    fields: Fields,
 }
 
-impl Probe for Values {
-    fn answer(&self, alloc: Global, told: &mut Told, times: u32, name: &str, rest: &str) {
+impl Values {
+    /// Those of the lines; none where memory is wanting.
+    pub fn new(alloc: Global) -> Option<Values> {
+        match (registry(alloc), Fields::new(alloc)) {
+            (Some(schema), Ok(fields)) => Some(Values { schema, fields }),
+            _ => None,
+        }
+    }
+
+    /// Tells the answer to a line of this word, whose call is made so many times; false where
+    /// the word isn't one of these.
+    pub fn put_answer(
+        &self,
+        alloc: Global,
+        told: &mut Told,
+        times: u32,
+        word: &str,
+        rest: &str,
+    ) -> bool {
         let schema = &self.schema;
         let Some(model) = schema.model(MODEL) else {
-            return told.put("no model");
+            return false;
         };
-        match name {
+        match word {
             "row" => put_row(alloc, told, schema, model, times, rest),
             "body" => put_body(alloc, told, schema, model, times, rest),
             "kept" => put_kept(alloc, told, rest),
             "value" | "given" | "order" | "targets" => {
-                put_of_field(alloc, told, schema, model, times, name, rest);
+                put_of_field(alloc, told, schema, model, times, word, rest);
             }
             "arguments" => put_arguments_of(alloc, told, schema, model, rest),
-            _ => put_of_expressions(alloc, told, &self.fields, times, name, rest),
+            _ => return put_of_expressions(alloc, told, &self.fields, times, word, rest),
         }
+        true
     }
 }
 
@@ -104,7 +121,7 @@ fn put_of_expressions(
     times: u32,
     name: &str,
     rest: &str,
-) {
+) -> bool {
     match name {
         "expression" => put_expression(alloc, told, times, rest),
         "long" => put_long_expression(alloc, told, rest),
@@ -112,12 +129,13 @@ fn put_of_expressions(
         "kinds" => put_kinds(alloc, told, fields, times, false, rest),
         "swapped" => put_kinds(alloc, told, fields, times, true, rest),
         "evaluate" => put_evaluation(alloc, told, fields, times, rest),
-        _ => put_of_base(alloc, told, name, rest),
+        _ => return put_of_base(alloc, told, name, rest),
     }
+    true
 }
 
 /// Tells the answer to a line about the words that all libraries speak.
-fn put_of_base(alloc: Global, told: &mut Told, name: &str, rest: &str) {
+fn put_of_base(alloc: Global, told: &mut Told, name: &str, rest: &str) -> bool {
     match name {
         "word" => put_word(alloc, told, rest),
         "sequence" => put_sequence(alloc, told, rest),
@@ -128,18 +146,20 @@ fn put_of_base(alloc: Global, told: &mut Told, name: &str, rest: &str) {
         "broken" => put_broken(alloc, told, rest),
         "below" => put_below(alloc, told, rest),
         "id" => put_id_of(alloc, told, rest),
-        _ => put_rest(alloc, told, name, rest),
+        _ => return put_rest(alloc, told, name, rest),
     }
+    true
 }
 
 /// Tells the answer to a line of one of the other words.
-fn put_rest(alloc: Global, told: &mut Told, name: &str, rest: &str) {
+fn put_rest(alloc: Global, told: &mut Told, name: &str, rest: &str) -> bool {
     match name {
         "day" => put_day(alloc, told, rest),
         "moment" => put_moment(alloc, told, rest),
         "operations" => put_operations(told),
         "limits" => put_limits(told),
         "laws" => call_laws(told),
-        _ => told.put("no word"),
+        _ => return false,
     }
+    true
 }

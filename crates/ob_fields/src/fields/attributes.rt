@@ -14,7 +14,7 @@ ghost use Rattle.ob_schema.specs.Models.{model_at};
 use ob_base::NoMemory;
 use ob_call::{Given, Json, put_member};
 use ob_definition::{Choice, FieldType};
-use ob_orm::is_readonly;
+use ob_rows::is_readonly;
 use ob_schema::{FieldInfo, ModelInfo, Schema};
 use serde_json::Map;
 use std::alloc::Global;

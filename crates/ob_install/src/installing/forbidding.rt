@@ -13,7 +13,8 @@ ghost use Rattle.ob_schema.specs.Models.{HasField, field_at, is_given_from};
 use crate::installing::owners::owner;
 use crate::installing::placing::{Placed, tables_of};
 use ob_base::{Broken, BrokenKind, Cell, FieldNo, ModelNo, NoMemory, Value, value_eq};
-use ob_orm::{Maker, id_cell, is_readonly};
+use ob_orm::Maker;
+use ob_rows::{id_cell, is_readonly};
 use ob_schema::{Delegation, FieldInfo, Origin, PresetRow, Schema};
 use ob_tables::Edit;
 

@@ -15,17 +15,16 @@ ghost use Rattle.ob_orm.specs.GivenValues.{formed, formed_values, given_to, keye
 ghost use Rattle.ob_orm.specs.NewRowSteps.{HasTargetKeys, IsTyped};
 ghost use Rattle.ob_orm.specs.ObjectSteps.{object_place, object_view};
 ghost use Rattle.ob_orm.specs.RowValues.{valued};
-ghost use Rattle.ob_orm.specs.Values as spec;
-ghost use Rattle.ob_orm.specs.Values.{first_key, is_settable_name, new_values_fault};
+ghost use Rattle.ob_rows.specs.Values.{first_key, is_settable_name, new_values_fault};
 ghost use Rattle.ob_schema.specs.Fields.{Holds, columns};
 ghost use Rattle.ob_schema.specs.Models.{HasField, HasModel, field_at, model_at};
 
 use crate::objects::ObjectSpot;
 use crate::row_values::{given_value, push_valued};
-use crate::values::is_free;
 use ob_base::{FieldNo, ModelNo, NoMemory, Place, Refusal, Sequence, Value};
 use ob_call::{Below, Form, Json};
-use ob_schema::{FieldInfo, Origin, Schema};
+use ob_rows::is_settable;
+use ob_schema::{FieldInfo, Schema};
 use serde_json::Map;
 use std::alloc::Global;
 
@@ -39,7 +38,7 @@ pub(crate) struct NewValues<'s> {
 
 impl Form for NewValues<'_> {
     ghost use Rattle.ob_call.specs.Forms.{fields_at};
-    ghost use Rattle.ob_orm.specs.Values.{new_values_fault};
+    ghost use Rattle.ob_rows.specs.Values.{new_values_fault};
 
     ghost fault = { λ values json. new_values_fault values.schema.now (fields_at values.schema.now values.model) json };
 
@@ -77,20 +76,6 @@ fn is_given(schema: &Schema, model: ModelNo, name: &str) -> bool
     match schema.field(model, name) {
         Some(number) => is_settable(schema, schema.info(model, number)),
         None => false,
-    }
-}
-
-/// Whether `create` and `write` give values to a field of a row: it is free, which is plain, no list
-/// of rows and not managed, or delegated to a parent's free field that isn't fixed.
-pub fn is_settable(schema: &Schema, field: &FieldInfo) -> bool
-    ensures { result ≡ spec.is_settable schema.now field.now }
-{
-    match &field.origin {
-        Origin::Delegated(at) => match schema.find_field(at.model, at.field) {
-            Some(target) => is_free(target) && !target.fixed,
-            None => false,
-        },
-        _ => is_free(field),
     }
 }
 

@@ -13,7 +13,7 @@ ghost use Rattle.ob_orm.specs.GivenValues.{object_from};
 ghost use Rattle.ob_orm.specs.Objects.{items_at, objects_fault};
 ghost use Rattle.ob_orm.specs.ObjectSteps.{object_place, object_view};
 ghost use Rattle.ob_orm.specs.NewRowSteps.{IsTyped};
-ghost use Rattle.ob_orm.specs.Values.{new_values_fault};
+ghost use Rattle.ob_rows.specs.Values.{new_values_fault};
 ghost use Rattle.ob_schema.specs.Models.{HasModel, model_at};
 
 use crate::creating::given::{GivenObject, NewValues, given_object};

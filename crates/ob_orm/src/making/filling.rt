@@ -3,7 +3,7 @@
 
 ghost use Rattle.std.specs.Prelude.{◌≡◌, ◌++◌, All, IfOk, IfSome, option_map};
 ghost use Rattle.ob_base.specs.Times.{IsMoment};
-ghost use Rattle.ob_orm.specs.CreateSteps.{IsMakeable};
+ghost use Rattle.ob_rows.specs.Makeable.{IsMakeable};
 ghost use Rattle.ob_orm.specs.NewRows as spec;
 ghost use Rattle.ob_orm.specs.NewRows.{filled_value, value_for};
 ghost use Rattle.ob_orm.specs.NewRowSteps.{IsTyped};
@@ -11,10 +11,10 @@ ghost use Rattle.ob_schema.specs.Fields.{HasFieldType};
 ghost use Rattle.ob_schema.specs.Models.{HasField, HasModel, field_at};
 ghost use Rattle.ob_tables.specs.Fitting.{AreFitIn};
 
-use crate::author::{is_stamp, stamp};
 use crate::making::Maker;
 use crate::row_values::{default_value, push_valued};
 use ob_base::{FieldNo, ModelNo, NoMemory, Sequence, Value};
+use ob_rows::{is_stamp, stamp};
 
 /// The values of the plain fields of a row, made (`made`) or changed by the author, that get one:
 /// what the author stamps, else what is given, else in a row that is made the default. `given` has

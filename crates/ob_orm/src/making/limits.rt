@@ -6,18 +6,17 @@ ghost use Rattle.ob_base.specs.Tally.{ticked_times};
 ghost use Rattle.ob_cache.specs.Calls.{Refuses, settled_over};
 ghost use Rattle.ob_cache.specs.Standing.{IsAtRest, RestsAt, Stands};
 ghost use Rattle.ob_io.specs.Cause.{Rose};
-ghost use Rattle.ob_orm.specs.CreateSteps.{BreaksField, IsBrokenBy};
+ghost use Rattle.ob_rows.specs.Settling.{BreaksField, IsBrokenBy};
 ghost use Rattle.ob_orm.specs.NewRowSteps.{IsReady, MakesRow, MakesWithin, so_far};
 ghost use Rattle.ob_schema.specs.Models.{HasModel, field_at, is_id_from};
 ghost use Rattle.ob_schema.specs.Tables.{Tables};
 
-use crate::ids::id_cell;
 use crate::making::next_ids::Making;
-use crate::settling::settle_edits;
 use ob_base::limits::MAX_ID;
 use ob_base::{Broken, BrokenKind, FieldNo, Ledger, Refusal, RowKey, Steps};
 use ob_cache::Engine;
 use ob_io::Keeper;
+use ob_rows::{id_cell, settle_edits};
 use ob_schema::Schema;
 use ob_tables::Edit;
 

@@ -73,8 +73,9 @@ fn make_parent(
 }
 
 /// The edits that set what is given behind links that are given by an id in the rows that they
-/// name.
-pub(crate) fn parent_changes(
+/// name. The caller sees to it that the registry has the model, that each value is one of its field,
+/// and that the moment lies within the years 0001 to 9999.
+pub fn parent_changes(
     maker: &Maker<'_>,
     model: ModelNo,
     given: &[(FieldNo, Value)],
@@ -120,7 +121,7 @@ fn push_change(
 }
 
 /// The row that a link names, where it is given by an id.
-fn linked(given: &[(FieldNo, Value)], link: FieldNo) -> Option<RecId>
+pub fn linked(given: &[(FieldNo, Value)], link: FieldNo) -> Option<RecId>
     ensures { result ≡ linked given.now link }
 {
     match value_for(given, link) {
@@ -129,8 +130,10 @@ fn linked(given: &[(FieldNo, Value)], link: FieldNo) -> Option<RecId>
     }
 }
 
-/// The values that are given to fields of a parent, by the parent's numbers.
-pub(crate) fn behind(
+/// The values that are given to fields of a parent, by the parent's numbers. The caller sees to it
+/// that the registry has the model, that the parent is one of it, and that each value is one of its
+/// field.
+pub fn behind(
     maker: &Maker<'_>,
     model: ModelNo,
     parent: ParentInfo,

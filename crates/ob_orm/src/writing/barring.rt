@@ -11,22 +11,21 @@ ghost use Rattle.ob_call.specs.Places.{IsMalformedAt};
 ghost use Rattle.ob_io.specs.Cause.{Rose};
 ghost use Rattle.ob_orm.specs.NewRowSteps.{IsTyped};
 ghost use Rattle.ob_orm.specs.ObjectSteps.{object_view};
-ghost use Rattle.ob_orm.specs.Rights as rights;
+ghost use Rattle.ob_rows.specs.Rights as rights;
 ghost use Rattle.ob_orm.specs.Writable.{withheld};
 ghost use Rattle.ob_orm.specs.Write.{BarsWrite, IsAdmissible, MayBarWrite};
 ghost use Rattle.ob_orm.specs.WriteSteps.{TestsWritable, asked_change};
 ghost use Rattle.ob_schema.specs.Models.{HasModel};
 ghost use Rattle.ob_schema.specs.Tables.{Tables};
 
-use crate::asking::{Caller, first_unwritable, may, test_rules};
 use crate::creating::given::GivenObject;
 use crate::making::Maker;
-use crate::there::missing_id;
 use crate::writing::change::Change;
 use crate::writing::touched::{given_parents, touched_rows};
 use ob_base::{ModelNo, NoMemory, Op, Place, RecId, Refusal, RowKey};
 use ob_cache::Engine;
 use ob_io::Keeper;
+use ob_rows::{Caller, first_unwritable, may, missing_id, test_rules};
 use ob_schema::ParentInfo;
 use std::alloc::Global;
 

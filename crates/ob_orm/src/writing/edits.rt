@@ -24,13 +24,13 @@ ghost use Rattle.ob_tables.specs.Fitting.{IsFitId};
 use crate::making::Maker;
 use crate::making::filling::{filled, value_for};
 use crate::making::parents::behind;
-use crate::settled::settled_value;
 use crate::writing::change::Change;
 use crate::writing::push_row_edits;
 use ob_base::limits::MAX_ID;
 use ob_base::{Cell, FieldNo, ModelNo, NoMemory, RecId, Refusal, Value};
 use ob_cache::Engine;
 use ob_io::Keeper;
+use ob_rows::settled_value;
 use ob_schema::ParentInfo;
 use ob_tables::Edit;
 

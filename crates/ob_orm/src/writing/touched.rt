@@ -10,9 +10,9 @@ ghost use Rattle.ob_cache.specs.Standing.{RestsAt, Stays};
 ghost use Rattle.ob_cache.specs.Telling.{TellsFacts};
 ghost use Rattle.ob_cache.specs.declared.stages.Phase.TheVariants as phase;
 ghost use Rattle.ob_io.specs.Cause.{Rose};
-ghost use Rattle.ob_orm.specs.AskingSteps.{AreKnown};
+ghost use Rattle.ob_rows.specs.AskingSteps.{AreKnown};
 ghost use Rattle.ob_orm.specs.NewRowSteps.{IsTyped};
-ghost use Rattle.ob_orm.specs.Rights.{rows_named};
+ghost use Rattle.ob_rows.specs.Rights.{rows_named};
 ghost use Rattle.ob_orm.specs.WriteSteps.{AreOfModels};
 ghost use Rattle.ob_orm.specs.Touched.{given_parents, parent_row, parent_rows, touched, touched_models};
 ghost use Rattle.ob_schema.specs.Facts.{OfAllTold};
@@ -21,12 +21,12 @@ ghost use Rattle.ob_schema.specs.Tables.{Tables, key_of};
 
 use crate::making::Maker;
 use crate::making::parents::behind;
-use crate::there::is_there;
 use crate::writing::change::Change;
 use crate::writing::edits::linked_row;
 use ob_base::{FieldNo, ModelNo, NoMemory, RecId, Refusal, RowKey, Value};
 use ob_cache::Engine;
 use ob_io::Keeper;
+use ob_rows::is_there;
 use ob_schema::ParentInfo;
 
 /// The parents of a model for whose fields something is given.

@@ -1,23 +1,22 @@
 //! What is told of the rows of a group beside their number, as a call names it: an aggregate of
 //! what they hold for a field.
 
-ghost use Rattle.std.specs.Prelude.{◌≡◌, ◌++◌, [], map, option_and_then, option_map, option_to_list, All, IfOk, IfSome, List, None, Some, ℕ, true};
+ghost use Rattle.std.specs.Prelude.{◌≡◌, ◌++◌, [], map, option_and_then, option_map, option_to_list, All, IfOk, IfSome, List, None, Some, ℕ, bytes_eq, if◌then◌else◌, not, true};
 ghost use Rattle.std.specs.List.{filter_map, list_all};
-ghost use Rattle.std.specs.String.{string_bytes};
+ghost use Rattle.std.specs.BTreeSet.{contains_text};
 ghost use Rattle.std.specs.Option.{option_map_or};
 ghost use Rattle.serde_json.specs.View.{view};
 ghost use Rattle.ob_call.specs.ArgumentsSteps.{given_of};
 ghost use Rattle.ob_call.specs.Forms.{fields_at};
 ghost use Rattle.ob_call.specs.Places.{below_steps};
 ghost use Rattle.ob_query.specs.GroupForms.{aggregates_fault, aggregates_in, amount_named, bracketed, entry_from, entry_of, first_wrong_entry, has_amount, has_integers, is_free, is_name, is_name_byte, named_entry, plain_entry, coloned_entry, taken_keys, told_entry, with_key};
-ghost use Rattle.ob_query.specs.GroupParts.{AreTaken, IsEntryOver, aggregate_view, entry_view, parts_view, text_of, written_view};
+ghost use Rattle.ob_query.specs.GroupParts.{AreTaken, IsEntryOver, aggregate_view, entry_view, parts_view, written_view};
 ghost use Rattle.ob_query.specs.Callers.{is_first};
 ghost use Rattle.ob_query.specs.NamedFields.{entry_field, entry_fields};
 ghost use Rattle.ob_schema.specs.Models.{HasField, HasModel};
 ghost use Rattle.ob_schema.specs.Paths.{step_at};
 
 use crate::grouping::amounts::Amount;
-use crate::grouping::groupings::Grouping;
 use crate::grouping::parted::parted;
 use crate::grouping::written::{Written, count_key};
 use crate::naming::{Naming, step_at};
@@ -62,24 +61,28 @@ pub(crate) fn aggregates_fault<'j>(
     first_wrong_entry(alloc, schema, model, taken, items.as_slice())
 }
 
-/// The keys that groups have without aggregates: the groupings as they are written, and the one
-/// of the count.
+/// The keys that no aggregate may have: the one of the count, and the texts that are written for
+/// groupings.
 fn taken_keys(alloc: Global, written: &Written<'_>) -> Result<BTreeSet<String>, NoMemory>
     ensures { IfOk result (AreTaken (taken_keys (written_view written.now))) }
 {
     let mut taken = BTreeSet::new(alloc);
     taken.insert(count_key(alloc, written)?)?;
-    for grouping in written.groupings.as_slice() {
-        taken.insert(text_of(alloc, grouping)?)?;
+    for item in written.items {
+        if let Some(text) = item.as_str() {
+            take_key(alloc, text, &mut taken)?;
+        }
     }
     Ok(taken)
 }
 
-/// A grouping as it is written.
-fn text_of(alloc: Global, grouping: &Grouping<'_>) -> Result<String, NoMemory>
-    ensures { IfOk result (λ text. string_bytes text ≡ text_of grouping.now) }
+/// Takes a key, and answers whether it wasn't taken.
+fn take_key(alloc: Global, key: &str, taken: &mut BTreeSet<String>) -> Result<bool, NoMemory>
+    ensures free { IfOk result (λ free. free ≡ not (contains_text taken.old key.now)) }
+    ensures taken { IfOk result (λ _. (name : List ℕ) → contains_text taken.new name ≡ (if bytes_eq key.now name then true else contains_text taken.old name)) }
 {
-    Ok(String::from_str(alloc, grouping.text)?)
+    let key = String::from_str(alloc, key)?;
+    Ok(taken.insert(key)?)
 }
 
 /// The first item that stands for nothing, or for an aggregate under a key that is taken.
@@ -115,10 +118,7 @@ fn takes_key(
     ensures taken { IfOk result (λ free. (keys : List (List ℕ)) → AreTaken keys taken.old → AreTaken (with_key (entry_view entry.entry) keys) taken.new) }
 {
     match entry {
-        Entry::Told(aggregate) => {
-            let key = String::from_str(alloc, aggregate.key)?;
-            Ok(taken.insert(key)?)
-        }
+        Entry::Told(aggregate) => take_key(alloc, aggregate.key, taken),
         Entry::PassedOver => Ok(true),
     }
 }

@@ -16,7 +16,7 @@ use crate::caller::Caller;
 use crate::grouping::aggregates::{Aggregate, aggregates_in};
 use crate::grouping::groupings::Grouping;
 use crate::grouping::terms::{GroupTerm, group_terms};
-use crate::grouping::written::{Written, count_key, is_lazy, none_written, used, written_by};
+use crate::grouping::written::{Written, count_key, used, written_in};
 use crate::searching::sought::{Arguments, Sought, count_given, sought_by};
 use ob_base::{ModelNo, NoMemory};
 use ob_call::{Call, Given, Json};
@@ -111,11 +111,9 @@ fn written_given<'j>(
         ≡ written_in (fields_at schema.now model) (json_of (option_map given_of arguments.entry.groupby)) (json_of (option_map given_of arguments.entry.lazy))) }
     ensures there { IfOk result (IsWrittenOver schema.now model) }
 {
-    let lazy = is_lazy(json_of(arguments.lazy));
-    match arguments.groupby {
-        Some(given) => written_by(alloc, schema, model, given.json, lazy),
-        None => Ok(none_written(alloc, lazy)),
-    }
+    let groupby = json_of(arguments.groupby);
+    let lazy = json_of(arguments.lazy);
+    written_in(alloc, schema, model, groupby, lazy)
 }
 
 /// The value of an argument.

@@ -2,7 +2,6 @@
 //! behind a colon. By which fields rows can be grouped stands in `specs/GroupForms`.
 
 ghost use Rattle.std.specs.Prelude.{◌≡◌, ◌++◌, [], map, option_map, option_to_list, All, IfOk, IfSome, None, Some, true};
-ghost use Rattle.std.specs.List.{filter_map};
 ghost use Rattle.std.specs.Option.{option_map_or};
 ghost use Rattle.serde_json.specs.View.{view};
 ghost use Rattle.ob_call.specs.ArgumentsSteps.{given_of};
@@ -98,48 +97,15 @@ pub(crate) fn is_written(text: &str, groupings: &[Grouping<'_>]) -> bool
     false
 }
 
-/// The groupings that are given, those alone that are of their form.
-pub(crate) fn groupings_in<'j>(
-    alloc: Global,
-    schema: &Schema,
-    model: ModelNo,
-    json: &'j Json,
-) -> Result<Vec<Grouping<'j>>, NoMemory>
-    requires { HasModel schema.now model }
-    ensures groupings { IfOk result (λ groupings. map grouping_view groupings.items ≡ groupings_in (fields_at schema.now model) (view json.now)) }
-    ensures there { IfOk result (λ groupings. All (λ grouping. HasField schema.now model grouping.field) groupings.items) }
-{
-    match json {
-        Json::Array(items) => groupings_of(alloc, schema, model, items.as_slice()),
-        _ => one_grouping(alloc, schema, model, json),
-    }
-}
-
-/// The grouping for which a value stands, if it does for one.
-fn one_grouping<'j>(
-    alloc: Global,
-    schema: &Schema,
-    model: ModelNo,
-    json: &'j Json,
-) -> Result<Vec<Grouping<'j>>, NoMemory>
-    requires { HasModel schema.now model }
-    ensures groupings { IfOk result (λ groupings. map grouping_view groupings.items ≡ option_to_list (grouping_from (fields_at schema.now model) (view json.now))) }
-    ensures there { IfOk result (λ groupings. All (λ grouping. HasField schema.now model grouping.field) groupings.items) }
-{
-    let mut groupings = Vec::new(alloc);
-    add_grouping(&mut groupings, grouping_from(schema, model, json))?;
-    Ok(groupings)
-}
-
 /// The groupings for which items stand.
-fn groupings_of<'j>(
+pub(crate) fn groupings_in<'j>(
     alloc: Global,
     schema: &Schema,
     model: ModelNo,
     items: &'j [Json],
 ) -> Result<Vec<Grouping<'j>>, NoMemory>
     requires { HasModel schema.now model }
-    ensures groupings { IfOk result (λ groupings. map grouping_view groupings.items ≡ filter_map (grouping_from (fields_at schema.now model)) (map view items.now)) }
+    ensures groupings { IfOk result (λ groupings. map grouping_view groupings.items ≡ groupings_in (fields_at schema.now model) (map view items.now)) }
     ensures there { IfOk result (λ groupings. All (λ grouping. HasField schema.now model grouping.field) groupings.items) }
 {
     let mut groupings = Vec::new(alloc);
@@ -172,7 +138,11 @@ fn grouping_from<'j>(schema: &Schema, model: ModelNo, json: &'j Json) -> Option<
 }
 
 /// The grouping for which a text stands.
-fn grouping_of<'j>(schema: &Schema, model: ModelNo, text: &'j str) -> Option<Grouping<'j>>
+pub(crate) fn grouping_of<'j>(
+    schema: &Schema,
+    model: ModelNo,
+    text: &'j str,
+) -> Option<Grouping<'j>>
     requires { HasModel schema.now model }
     ensures grouping { option_map grouping_view result ≡ grouping_of (fields_at schema.now model) text.now }
     ensures there { IfSome result (λ grouping. HasField schema.now model grouping.field) }

@@ -17,7 +17,7 @@ use ob_base::Value;
 const SECONDS_OF_A_DAY: i64 = 86_400;
 
 /// How far the days of a group reach.
-#[derive(Clone, Copy, Debug, PartialEq, Eq)]
+#[derive(Clone, Copy)]
 pub(crate) enum Period {
     Day,
     Week,

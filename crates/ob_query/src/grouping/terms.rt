@@ -14,7 +14,7 @@ use ob_definition::{OrderEntry, order_entries};
 use std::alloc::Global;
 
 /// A grouping that is used, by its number from 0, and whether groups fall by it.
-#[derive(Clone, Copy, Debug, PartialEq, Eq)]
+#[derive(Clone, Copy)]
 pub(crate) struct GroupTerm {
     pub(crate) number: usize,
     pub(crate) descending: bool,

@@ -2,24 +2,27 @@
 //! arguments are judged, since neither the key of an aggregate may be that of a grouping or of the
 //! count, nor an order go by another grouping than those that are used.
 
-ghost use Rattle.std.specs.Prelude.{◌≡◌, [], map, IfOk};
+ghost use Rattle.std.specs.Prelude.{◌≡◌, map, option_map, IfOk, Some};
 ghost use Rattle.std.specs.String.{string_bytes};
 ghost use Rattle.serde_json.specs.View.{view};
 ghost use Rattle.ob_call.specs.Context.{value_of_key};
 ghost use Rattle.ob_call.specs.Forms.{fields_at};
-ghost use Rattle.ob_query.specs.GroupForms.{count_key, groupings_in, is_lazy, item_at, not_null, written_argument, written_of};
+ghost use Rattle.ob_query.specs.GroupForms.{count_key, first_in, is_lazy, item_at, items_in, not_null, written_argument, written_in, written_of};
 ghost use Rattle.ob_query.specs.GroupParts.{IsWrittenOver, grouping_view, json_view, used_of, written_view};
 ghost use Rattle.ob_schema.specs.Models.{HasModel};
 
-use crate::grouping::groupings::{Grouping, groupings_in};
+use crate::grouping::groupings::{Grouping, grouping_of, groupings_in};
 use ob_base::{ModelNo, NoMemory};
 use ob_call::Json;
 use ob_schema::Schema;
 use std::alloc::Global;
 
-/// The groupings that are written, and whether the first alone is used.
+/// What is given for groupings, the grouping for which the first text of it stands, if it does for
+/// one, all groupings, and whether the first alone is used.
 #[derive(Drop)]
 pub(crate) struct Written<'j> {
+    pub(crate) items: &'j [Json],
+    pub(crate) first: Option<Grouping<'j>>,
     pub(crate) groupings: Vec<Grouping<'j>>,
     pub(crate) lazy: bool,
 }
@@ -36,43 +39,68 @@ pub(crate) fn written_of<'j>(
     ensures written { IfOk result (λ written. written_view written ≡ written_of (fields_at schema.now model) (view args.now) (view kw.now)) }
     ensures there { IfOk result (IsWrittenOver schema.now model) }
 {
-    let lazy = is_lazy(written_argument(args, kw, 6, "lazy"));
-    match written_argument(args, kw, 2, "groupby") {
-        Some(groupby) => written_by(alloc, schema, model, groupby, lazy),
-        None => Ok(none_written(alloc, lazy)),
-    }
+    let groupby = written_argument(args, kw, 2, "groupby");
+    let lazy = written_argument(args, kw, 6, "lazy");
+    written_in(alloc, schema, model, groupby, lazy)
 }
 
-/// What groupings are that are given.
-pub(crate) fn written_by<'j>(
+/// What is written by what is given for groupings and for `lazy`.
+pub(crate) fn written_in<'j>(
     alloc: Global,
     schema: &Schema,
     model: ModelNo,
-    groupby: &'j Json,
-    lazy: bool,
+    groupby: Option<&'j Json>,
+    lazy: Option<&Json>,
 ) -> Result<Written<'j>, NoMemory>
     requires { HasModel schema.now model }
-    ensures groupings { IfOk result (λ written. map grouping_view written.groupings.items ≡ groupings_in (fields_at schema.now model) (view groupby.now)) }
-    ensures lazy { IfOk result (λ written. written.lazy ≡ lazy) }
+    ensures written { IfOk result (λ written. written_view written ≡ written_in (fields_at schema.now model) (json_view groupby.entry) (json_view lazy.entry)) }
     ensures there { IfOk result (IsWrittenOver schema.now model) }
 {
-    let groupings = groupings_in(alloc, schema, model, groupby)?;
-    Ok(Written { groupings, lazy })
+    let items = items_in(groupby);
+    let groupings = groupings_in(alloc, schema, model, items)?;
+    Ok(Written {
+        items,
+        first: first_in(schema, model, items),
+        groupings,
+        lazy: is_lazy(lazy),
+    })
 }
 
-/// No groupings.
-pub(crate) fn none_written<'j>(alloc: Global, lazy: bool) -> Written<'j>
-    ensures groupings { result.groupings.items ≡ [] }
-    ensures lazy { result.lazy ≡ lazy }
+/// What is given for groupings: the items of a list, or another value alone.
+fn items_in<'j>(groupby: Option<&'j Json>) -> &'j [Json]
+    ensures { map view result.now ≡ items_in (json_view groupby.entry) }
 {
-    Written {
-        groupings: Vec::new(alloc),
-        lazy,
+    match groupby {
+        Some(json) => items_of(json),
+        None => &[],
     }
 }
 
+/// The items of a list, or another value alone.
+fn items_of(json: &Json) -> &[Json]
+    ensures { map view result.now ≡ items_in (Some (view json.now)) }
+{
+    match json {
+        Json::Array(items) => items.as_slice(),
+        _ => std::slice::from_ref(json),
+    }
+}
+
+/// The grouping for which the first text among items stands, if it does for one.
+fn first_in<'j>(schema: &Schema, model: ModelNo, items: &'j [Json]) -> Option<Grouping<'j>>
+    requires { HasModel schema.now model }
+    ensures { option_map grouping_view result ≡ first_in (fields_at schema.now model) (map view items.now) }
+{
+    for item in items {
+        if let Some(text) = item.as_str() {
+            return grouping_of(schema, model, text);
+        }
+    }
+    None
+}
+
 /// Whether the first grouping alone is used: unless `false` is given.
-pub(crate) fn is_lazy(lazy: Option<&Json>) -> bool
+fn is_lazy(lazy: Option<&Json>) -> bool
     ensures { result ≡ is_lazy (json_view lazy.entry) }
 {
     match lazy {
@@ -96,7 +124,7 @@ pub(crate) fn used<'w, 'j>(written: &'w Written<'j>) -> &'w [Grouping<'j>]
 pub(crate) fn count_key(alloc: Global, written: &Written<'_>) -> Result<String, NoMemory>
     ensures { IfOk result (λ key. string_bytes key ≡ count_key (written_view written.now)) }
 {
-    match written.groupings.as_slice().first() {
+    match written.first {
         Some(grouping) if written.lazy => {
             let mut key = String::from_str(alloc, grouping.name)?;
             key.push_str("_count")?;

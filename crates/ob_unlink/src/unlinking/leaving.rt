@@ -10,14 +10,14 @@ ghost use Rattle.ob_io.specs.Cause.{Rose};
 ghost use Rattle.ob_unlink.specs.Deletion as spec;
 ghost use Rattle.ob_unlink.specs.Deletion.{leads_to_gone, row_of_cell};
 ghost use Rattle.ob_unlink.specs.DeletionSteps.{IsFitCell, IsMakingNone, gone_edits, left_edit, staying};
-ghost use Rattle.ob_orm.specs.TouchSteps.{has_key};
+ghost use Rattle.ob_rows.specs.RowSets.{has_key};
 ghost use Rattle.ob_schema.specs.Models.{HasField};
 ghost use Rattle.ob_schema.specs.Tables.{Tables, kept_at};
 
 use ob_base::{Cell, NoMemory, RecId, RefList, Refusal, RowKey, Value};
 use ob_cache::Engine;
 use ob_io::Keeper;
-use ob_orm::settled_value;
+use ob_rows::settled_value;
 use ob_schema::{FieldInfo, OnDelete, Schema};
 use ob_tables::Edit;
 use std::alloc::Global;

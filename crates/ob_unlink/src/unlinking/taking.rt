@@ -3,10 +3,10 @@
 
 ghost use Rattle.std.specs.Prelude.{◌≡◌, Contains, IfOk, true};
 ghost use Rattle.ob_unlink.specs.DeletionSteps.{AddsCells, KeepsCount, TakesMore, cell_by};
-ghost use Rattle.ob_orm.specs.Rights.{rows_named};
+ghost use Rattle.ob_rows.specs.Rights.{rows_named};
 
 use ob_base::{Cell, ModelNo, NoMemory, RecId, RowKey};
-use ob_orm::KeptRelation;
+use ob_rows::KeptRelation;
 use std::collections::BTreeSet;
 
 /// Takes the named rows.

@@ -11,7 +11,7 @@ use Rattle.ob_commands.proofs.GivenArguments.{GivesCreate}
 use Rattle.ob_commands.proofs.SettledCalls.{asks-at_rest, asks-still, ends-asked, ends-either}
 use Rattle.ob_commands.specs.Asked.{objects_fault}
 use Rattle.ob_commands.specs.Changes.{CreateMayCome, TellsFor}
-use Rattle.ob_commands.specs.declared.asking.Caller.{Caller}
+use Rattle.ob_effect.specs.declared.asking.Caller.{Caller}
 use Rattle.ob_commands.proofs.creating.create_asked.Goals as goal
 use Rattle.ob_schema.specs.Models.{HasModel, model_at}
 use Rattle.ob_schema.specs.declared.info.ModelInfo.{ModelInfo}

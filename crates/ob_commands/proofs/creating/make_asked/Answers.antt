@@ -2,14 +2,13 @@
 use Rattle.std.proofs.lemmas.Result.{err_from_is_err_and}
 use Rattle.serde_json.specs.View.{view}
 use Rattle.ob_call.specs.Places.{spot_place}
-use Rattle.ob_commands.proofs.CallSteps.{keeps_none}
+use Rattle.ob_effect.proofs.CallerLemmas.{keeps_none, keeps_then}
 use Rattle.ob_commands.proofs.CallStops.{found-refused, judged-refused, lacks-refused}
 use Rattle.ob_commands.proofs.JudgedEdits.{whatever-refused}
-use Rattle.ob_commands.proofs.Questions.{keeps_then}
 use Rattle.ob_commands.proofs.SettledCalls.{edits-settle}
 use Rattle.ob_commands.proofs.WriterPassed.{noted-at}
 use Rattle.ob_commands.specs.Changes.{TellsFor}
-use Rattle.ob_commands.specs.Effect.{Keeps}
+use Rattle.ob_effect.specs.Effect.{Keeps}
 use Rattle.ob_commands.proofs.creating.make_asked.Goals as goal
 
 pub returns-in_err-relations-clause-kept : goal.returns-in_err-relations-clause-kept

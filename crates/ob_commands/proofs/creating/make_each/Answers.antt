@@ -1,7 +1,6 @@
 use Rattle.std.proofs.Common.{arith}
-use Rattle.ob_commands.proofs.CallSteps.{Goes, edits_none, fails, goes_stepped, starves, stopped}
+use Rattle.ob_effect.proofs.CallerLemmas.{edits_none, edits_then, fails, Goes, goes_stepped, starves, stopped}
 use Rattle.ob_commands.proofs.FoundLists.{placed-found}
-use Rattle.ob_commands.proofs.Questions.{edits_then}
 use Rattle.ob_commands.proofs.TakenIds.{take-more, take-none}
 use Rattle.ob_commands.proofs.creating.make_each.Goals as goal
 

@@ -1,5 +1,5 @@
 use Rattle.std.proofs.Common.{◌≡◌, vec_len}
-use Rattle.ob_commands.specs.Effect.{Edits, IsNoted}
+use Rattle.ob_effect.specs.Effect.{Edits, IsNoted}
 use Rattle.ob_commands.specs.Finding.{IsFound}
 use Rattle.ob_commands.specs.Making.{TakeAll}
 use Rattle.ob_commands.proofs.creating.make_each.Given as goal

@@ -2,7 +2,7 @@
 use Rattle.std.proofs.Common.{◌≡◌, length, map, sym, vec_len, ◌∙◌, arith}
 use Rattle.serde_json.specs.View.{view}
 use Rattle.ob_call.specs.Forms.{fields_at}
-use Rattle.ob_commands.proofs.CallSteps.{edits_none, fails, starved, starves}
+use Rattle.ob_effect.proofs.CallerLemmas.{edits_none, fails, starved, starves}
 use Rattle.ob_commands.proofs.TakenIds.{tells-list, tells-one, told-plain}
 use Rattle.ob_commands.proofs.WrongObjects.{all-objects, objects-alone, objects-listed, right-object}
 use Rattle.ob_commands.proofs.creating.make_told.Goals as goal

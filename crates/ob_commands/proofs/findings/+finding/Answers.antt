@@ -1,5 +1,5 @@
 use Rattle.std.proofs.Common.{rules}
-use Rattle.ob_commands.proofs.CommandDepths.{command-next, held-next}
+use Rattle.ob_effect.proofs.CallerLemmas.{command-next, held-next}
 use Rattle.ob_commands.proofs.FoundLists.{list-leads, list-model}
 use Rattle.ob_commands.proofs.findings.+finding.Goals as goal
 

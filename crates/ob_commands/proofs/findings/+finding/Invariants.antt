@@ -3,7 +3,7 @@ use Rattle.std.proofs.Common.{◌+◌, ◌*◌, ◌<◌}
 use Rattle.serde_json.specs.Data.{depth, members_depth}
 use Rattle.serde_json.specs.View.{members_view, view}
 use Rattle.ob_commands.specs.Finding.{IsFound}
-use Rattle.ob_commands.specs.Objects.{command_depth, deepest}
+use Rattle.ob_effect.specs.Objects.{command_depth, deepest}
 use Rattle.ob_commands.proofs.findings.+finding.Given as goal
 
 abbrev pub decreases-findings_in : goal.decreases-findings_in

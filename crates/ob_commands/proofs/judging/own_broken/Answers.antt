@@ -1,4 +1,4 @@
-use Rattle.ob_commands.proofs.Questions.{asks_then}
+use Rattle.ob_effect.proofs.CallerLemmas.{asks_then}
 use Rattle.ob_commands.proofs.WriterPassed.{noted-asked}
 use Rattle.ob_commands.proofs.judging.own_broken.Goals as goal
 

@@ -1,4 +1,4 @@
-use Rattle.ob_commands.proofs.Questions.{asks_then}
+use Rattle.ob_effect.proofs.CallerLemmas.{asks_then}
 use Rattle.ob_commands.proofs.judging.restricting.Goals as goal
 use Rattle.ob_commands.proofs.judging.restricting.Goals.{then-eq+then-matches+in_ok-ids+in_default-first, else-eq}
 

@@ -1,4 +1,4 @@
-use Rattle.ob_commands.specs.Effect.{Asks}
+use Rattle.ob_effect.specs.Effect.{Asks}
 use Rattle.ob_commands.proofs.judging.restricting.Given as goal
 
 -- the engine was only asked

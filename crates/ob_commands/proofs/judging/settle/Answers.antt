@@ -2,8 +2,8 @@
 use Rattle.std.proofs.Common.{◌≤◌, arith}
 use Rattle.ob_cache.specs.Standing.{max_next_id}
 use Rattle.ob_commands.proofs.JudgedEdits.{asks-settles, causes-later, engine-settles, judges-before, made-judges, settles-asks, whatever-done, whatever-refused}
-use Rattle.ob_commands.proofs.Questions.{asks_edits, asks_keeps, asks_then, keeps_then, spoiled_keeps}
-use Rattle.ob_commands.specs.Effect.{Keeps}
+use Rattle.ob_effect.proofs.CallerLemmas.{asks_edits, asks_keeps, asks_then, keeps_then, spoiled_keeps}
+use Rattle.ob_effect.specs.Effect.{Keeps}
 use Rattle.ob_commands.specs.Judging.{DeniesMade, Judges, Settles}
 use Rattle.ob_commands.proofs.judging.settle.Goals as goal
 

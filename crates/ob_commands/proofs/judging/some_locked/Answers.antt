@@ -1,8 +1,8 @@
 use Rattle.std.specs.Map.Iter.{deref}
 use Rattle.std.proofs.lemmas.List.Elements.{All-rest}
 use Rattle.std.proofs.lemmas.Map.Iter.{rest_more}
-use Rattle.ob_commands.proofs.Questions.{asks_then}
-use Rattle.ob_commands.specs.declared.notes.Touch.{Touch}
+use Rattle.ob_effect.proofs.CallerLemmas.{asks_then}
+use Rattle.ob_effect.specs.declared.notes.Touch.{Touch}
 use Rattle.ob_schema.specs.Models.{HasModel}
 use Rattle.ob_commands.proofs.judging.some_locked.Goals as goal
 

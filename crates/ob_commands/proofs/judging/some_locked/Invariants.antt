@@ -1,5 +1,5 @@
 use Rattle.std.specs.Prelude.{All}
-use Rattle.ob_commands.specs.Effect.{Asks}
+use Rattle.ob_effect.specs.Effect.{Asks}
 use Rattle.ob_schema.specs.Models.{HasModel}
 use Rattle.ob_commands.proofs.judging.some_locked.Given as goal
 

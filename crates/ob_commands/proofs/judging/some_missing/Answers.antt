@@ -1,4 +1,4 @@
-use Rattle.ob_commands.proofs.Questions.{asks_then}
+use Rattle.ob_effect.proofs.CallerLemmas.{asks_then}
 use Rattle.ob_commands.proofs.judging.some_missing.Goals as goal
 
 pub returns-in_err-is_there-clause-asked : goal.returns-in_err-is_there-clause-asked

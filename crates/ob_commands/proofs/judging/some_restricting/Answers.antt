@@ -1,4 +1,4 @@
-use Rattle.ob_commands.proofs.Questions.{asks_then}
+use Rattle.ob_effect.proofs.CallerLemmas.{asks_then}
 use Rattle.ob_commands.proofs.judging.some_restricting.Goals as goal
 
 pub returns-in_err-cell-clause-asked : goal.returns-in_err-cell-clause-asked

@@ -5,7 +5,7 @@ use Rattle.std.proofs.lemmas.Result.{err_from_is_err_and}
 use Rattle.std.specs.Map.Iter.{deref}
 use Rattle.ob_base.specs.declared.id.RowKey.{RowKey}
 use Rattle.ob_commands.proofs.JudgedEdits.{asked-denies, next-holds, set-holds, told-behind}
-use Rattle.ob_commands.proofs.Questions.{asks_none, asks_then}
+use Rattle.ob_effect.proofs.CallerLemmas.{asks_none, asks_then}
 use Rattle.ob_schema.specs.Facts.{Told}
 use Rattle.ob_schema.specs.Models.{HasModel}
 use Rattle.ob_schema.specs.declared.info.ModelInfo.{ModelInfo}

@@ -4,8 +4,8 @@ use Rattle.std.proofs.lemmas.Map.Iter.{rest_more}
 use Rattle.std.proofs.lemmas.Result.{err_from_is_err_and}
 use Rattle.std.specs.Map.Iter.{deref}
 use Rattle.ob_commands.proofs.JudgedEdits.{asked-judges, told-behind}
-use Rattle.ob_commands.proofs.Questions.{asks_then}
-use Rattle.ob_commands.specs.declared.notes.Touch.{Touch}
+use Rattle.ob_effect.proofs.CallerLemmas.{asks_then}
+use Rattle.ob_effect.specs.declared.notes.Touch.{Touch}
 use Rattle.ob_schema.specs.Facts.{Told}
 use Rattle.ob_schema.specs.Models.{HasModel}
 use Rattle.ob_commands.proofs.judging.test_touched.Goals as goal

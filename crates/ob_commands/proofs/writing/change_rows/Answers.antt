@@ -8,11 +8,11 @@ use Rattle.ob_call.specs.Forms.{fields_at}
 use Rattle.ob_call.specs.Places.{spot_place}
 use Rattle.ob_commands.proofs.CallStops.{found-refused, lacks-refused, memory-refused, write-judged, write-stopped}
 use Rattle.ob_commands.proofs.JudgedEdits.{settled-usable, whatever-refused}
-use Rattle.ob_commands.proofs.Questions.{asks_edits, asks_keeps, edits_then, keeps_then, refused_later}
+use Rattle.ob_effect.proofs.CallerLemmas.{asks_edits, asks_keeps, edits_then, keeps_then, refused_later}
 use Rattle.ob_commands.proofs.SettledCalls.{edits-come, edits-settle}
 use Rattle.ob_commands.proofs.WriterPassed.{noted-at}
 use Rattle.ob_commands.proofs.WrongObjects.{right-object}
-use Rattle.ob_commands.specs.Effect.{Keeps, LacksRight}
+use Rattle.ob_effect.specs.Effect.{Keeps, LacksRight}
 use Rattle.ob_commands.specs.Making.{StopsWrite}
 use Rattle.ob_commands.proofs.writing.change_rows.Goals as goal
 use Rattle.ob_io.specs.Cause.{Rose}

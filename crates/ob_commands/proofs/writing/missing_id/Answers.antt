@@ -1,8 +1,8 @@
 use Rattle.std.proofs.Common.{get_or}
 use Rattle.std.proofs.lemmas.List.Elements.{Contains-get_or}
-use Rattle.ob_commands.proofs.Questions.{asks_then}
+use Rattle.ob_effect.proofs.CallerLemmas.{asks_then}
 use Rattle.ob_commands.proofs.TakenIds.{least-known, misses-one}
-use Rattle.ob_commands.specs.Effect.{Asks}
+use Rattle.ob_effect.specs.Effect.{Asks}
 use Rattle.ob_commands.specs.Making.{MissesSome}
 use Rattle.ob_commands.proofs.writing.missing_id.Goals as goal
 use Rattle.ob_commands.proofs.writing.missing_id.Goals.{then-not-there, else-not-there}

@@ -1,5 +1,5 @@
 use Rattle.std.specs.Prelude.{IfSome}
-use Rattle.ob_commands.specs.Effect.{Asks}
+use Rattle.ob_effect.specs.Effect.{Asks}
 use Rattle.ob_commands.specs.Making.{MissesSome}
 use Rattle.ob_commands.proofs.writing.missing_id.Given as goal
 

@@ -11,8 +11,8 @@ use Rattle.ob_commands.proofs.GivenArguments.{GivesWrite}
 use Rattle.ob_commands.proofs.SettledCalls.{asks-at_rest, asks-still, ends-asked, ends-back, ends-settled}
 use Rattle.ob_commands.specs.Asked.{object_fault}
 use Rattle.ob_commands.specs.Changes.{WriteMayCome}
-use Rattle.ob_commands.specs.declared.asking.Caller.{Caller}
-use Rattle.ob_orm.proofs.CallerLemmas.{view-Bool}
+use Rattle.ob_effect.specs.declared.asking.Caller.{Caller}
+use Rattle.ob_rows.proofs.CallerLemmas.{view-Bool}
 use Rattle.ob_commands.proofs.writing.write_asked.Goals as goal
 use Rattle.ob_schema.specs.Models.{HasModel, model_at}
 use Rattle.ob_schema.specs.declared.info.ModelInfo.{ModelInfo}

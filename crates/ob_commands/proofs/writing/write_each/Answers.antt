@@ -1,4 +1,4 @@
-use Rattle.ob_commands.proofs.CallSteps.{Goes, fails, goes_stepped, stopped}
+use Rattle.ob_effect.proofs.CallerLemmas.{Goes, fails, goes_stepped, stopped}
 use Rattle.ob_commands.proofs.writing.write_each.Goals as goal
 
 pub returns-in_err-write_row : goal.returns-in_err-write_row

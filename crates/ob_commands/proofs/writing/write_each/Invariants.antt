@@ -1,4 +1,4 @@
-use Rattle.ob_commands.specs.Effect.{Edits, IsNoted}
+use Rattle.ob_effect.specs.Effect.{Edits, IsNoted}
 use Rattle.ob_commands.proofs.writing.write_each.Given as goal
 
 -- the rows so far were written and noted

@@ -1,6 +1,6 @@
 use Rattle.std.proofs.Common.{◌≡◌, ◌++◌, ◌∷◌, [], List, ap, get_or, rules, sym, ◌∙◌}
 use Rattle.ob_base.specs.declared.id.FieldNo.{FieldNo}
-use Rattle.ob_orm.proofs.CallerLemmas.{kept-more, passed-over}
+use Rattle.ob_rows.proofs.CallerLemmas.{kept-more, passed-over}
 use Rattle.ob_fields.specs.FieldsGetSteps.{may_read}
 use Rattle.ob_fields.proofs.fields.readable.Goals as goal
 use Rattle.ob_fields.proofs.fields.readable.Goals.{then-may_read+in_ok-push, else-may_read}

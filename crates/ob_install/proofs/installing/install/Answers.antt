@@ -4,7 +4,7 @@ use Rattle.std.proofs.lemmas.Result.{on_err_weaker, on_ok_weaker}
 use Rattle.ob_cache.specs.Calls.{settled_over, standpoint}
 use Rattle.ob_cache.specs.Standing.{RestsAt, Stands}
 use Rattle.ob_io.specs.Cause.{Rose}
-use Rattle.ob_orm.proofs.CallerLemmas.{moment_passed, rose_from}
+use Rattle.ob_rows.proofs.CallerLemmas.{moment_passed, rose_from}
 use Rattle.ob_install.proofs.InstalledRows.{kept-installs, none-installed}
 use Rattle.ob_install.proofs.NewStores.{resting-sound}
 use Rattle.ob_install.proofs.installing.install.Goals as goal

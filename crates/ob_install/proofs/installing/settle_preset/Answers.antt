@@ -2,10 +2,10 @@ use Rattle.std.proofs.Common.{◌≡◌, List, None, Some, ap, length, subst, �
 use Rattle.ob_cache.specs.Calls.{Refuses, settled_over}
 use Rattle.ob_cache.specs.Standing.{RestsAt, Stands, max_next_id}
 use Rattle.ob_io.specs.Cause.{Rose}
-use Rattle.ob_orm.proofs.CallerLemmas.{author_passed, sound_in}
+use Rattle.ob_rows.proofs.CallerLemmas.{author_passed, sound_in}
 use Rattle.ob_install.proofs.InstalledRows.{all-installed, all-so-far, broken-refused, course-is, forbidden-refused, handed_on, last-tables, rests-still}
 use Rattle.ob_install.proofs.installing.settle_preset.Goals as goal
-use Rattle.ob_orm.specs.CreateSteps.{IsBrokenBy}
+use Rattle.ob_rows.specs.Settling.{IsBrokenBy}
 use Rattle.ob_install.specs.Install.{Course, IsRefused, RefusesRows, course, installed, system_at}
 use Rattle.ob_install.specs.InstallSteps.{Finds, IsWhole, course_of}
 use Rattle.ob_orm.specs.NewRowSteps.{HoldsNextIds, so_far}

@@ -9,10 +9,11 @@ use Rattle.std.proofs.lemmas.Option.{slice_get_within}
 use Rattle.toml.specs.View.{table_view, view}
 use Rattle.toml.specs.declared.value.Value.{Value}
 use Rattle.ob_load.specs.Dependencies.{DependsOn}
-use Rattle.ob_load.specs.Meaning.{depends_of, text_of}
-use Rattle.ob_load.specs.Rooms.{TakesOn, modules_in}
+use Rattle.ob_module.specs.Meaning.{depends_of, text_of}
+use Rattle.ob_load.specs.Rooms.{TakesOn}
+use Rattle.ob_module.specs.Rooms.{modules_in}
 use Rattle.ob_load.proofs.Adding.{map-take_all, map-take_more}
-use Rattle.ob_load.proofs.Numbered.{Contains-at}
+use Rattle.ob_module.proofs.CallerLemmas.{Contains-at}
 use Rattle.ob_load.proofs.Taking.{Contains-map, TakesOn-append, TakesOn-known, TakesOn-new, TakesOn-none, chain-shorter, document-at, left-some, whole-depends}
 use Rattle.ob_load.proofs.dependencies.+take.Goals as goal
 

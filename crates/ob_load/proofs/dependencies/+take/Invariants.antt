@@ -1,8 +1,9 @@
 -- Chains get shorter; the names that were passed are taken.
 use Rattle.std.proofs.Common.{map, take}
 use Rattle.toml.specs.View.{view}
-use Rattle.ob_load.specs.Meaning.{text_of}
-use Rattle.ob_load.specs.Rooms.{TakesOn, modules_in}
+use Rattle.ob_module.specs.Meaning.{text_of}
+use Rattle.ob_load.specs.Rooms.{TakesOn}
+use Rattle.ob_module.specs.Rooms.{modules_in}
 use Rattle.ob_load.proofs.dependencies.+take.Given as goal
 
 abbrev pub decreases-take : goal.decreases-take

@@ -2,9 +2,10 @@
 use Rattle.std.proofs.Common.{◌≡◌, ◌+◌, ◌<◌, ◌≤◌, ◌∷◌, [], ◌++◌, false, List, ℕ, length, map, take, sym, ap, subst, ◌∙◌, arith}
 use Rattle.toml.specs.View.{table_view, view}
 use Rattle.toml.specs.declared.value.Value.{Value}
-use Rattle.ob_load.specs.Meaning.{depends_of, text_of}
-use Rattle.ob_load.specs.Reading.{has_module}
-use Rattle.ob_load.specs.Rooms.{AddsOnce, modules_in}
+use Rattle.ob_module.specs.Meaning.{depends_of, text_of}
+use Rattle.ob_module.specs.Modules.{has_module}
+use Rattle.ob_load.specs.Rooms.{AddsOnce}
+use Rattle.ob_module.specs.Rooms.{modules_in}
 use Rattle.ob_load.proofs.Adding.{Adds, Adds-known, Adds-unknown, ReachedBy-from, map-take_all, map-take_more}
 use Rattle.ob_load.proofs.dependencies.add_depends.Goals as goal
 use Rattle.ob_load.proofs.dependencies.add_depends.Goals.{in-Some+in_ok-add_number, in_default}

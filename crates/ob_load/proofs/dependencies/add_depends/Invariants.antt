@@ -1,8 +1,8 @@
 -- The names that were passed are added.
 use Rattle.std.proofs.Common.{map, take}
 use Rattle.toml.specs.View.{view}
-use Rattle.ob_load.specs.Meaning.{text_of}
-use Rattle.ob_load.specs.Rooms.{modules_in}
+use Rattle.ob_module.specs.Meaning.{text_of}
+use Rattle.ob_module.specs.Rooms.{modules_in}
 use Rattle.ob_load.proofs.Adding.{Adds}
 use Rattle.ob_load.proofs.dependencies.add_depends.Given as goal
 

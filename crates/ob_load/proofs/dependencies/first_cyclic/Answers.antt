@@ -1,7 +1,7 @@
 use Rattle.std.proofs.Common.{◌≡◌, ◌<◌, length, arith}
-use Rattle.ob_load.specs.Rooms.{modules_in}
+use Rattle.ob_module.specs.Rooms.{modules_in}
 use Rattle.ob_load.proofs.Circles.{first-cyclic, none-cyclic}
-use Rattle.ob_load.proofs.Numbered.{element-at}
+use Rattle.ob_module.proofs.CallerLemmas.{element-at}
 use Rattle.ob_load.proofs.dependencies.first_cyclic.Goals as goal
 
 pub returns-then-branch-clause-found : goal.returns-then-branch-clause-found

@@ -1,5 +1,5 @@
 -- None of the modules that were passed depends on itself.
-use Rattle.ob_load.specs.Rooms.{modules_in}
+use Rattle.ob_module.specs.Rooms.{modules_in}
 use Rattle.ob_load.proofs.Circles.{NoneBefore}
 use Rattle.ob_load.proofs.dependencies.first_cyclic.Given as goal
 

@@ -3,8 +3,9 @@ use Rattle.std.proofs.Common.{◌≡◌, ◌<◌, ◌≤◌, ◌∷◌, [], List
 use Rattle.std.specs.Prelude.{codes}
 use Rattle.std.proofs.lemmas.List.{take_all}
 use Rattle.ob_load.specs.Dependencies.{Takes}
-use Rattle.ob_load.specs.Loading.{wanted}
-use Rattle.ob_load.specs.Rooms.{TakesOn, modules_in}
+use Rattle.ob_module.specs.Modules.{wanted}
+use Rattle.ob_load.specs.Rooms.{TakesOn}
+use Rattle.ob_module.specs.Rooms.{modules_in}
 use Rattle.ob_load.proofs.Adding.{take_one_more}
 use Rattle.ob_load.proofs.Taking.{TakesOn-append, whole-named, whole-short}
 use Rattle.ob_load.proofs.dependencies.in_order.Goals as goal

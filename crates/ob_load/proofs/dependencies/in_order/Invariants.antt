@@ -1,7 +1,8 @@
 -- The names that were passed are taken, behind those that are taken in any case.
 use Rattle.std.proofs.Common.{[], ◌∷◌, take}
 use Rattle.std.specs.Prelude.{codes}
-use Rattle.ob_load.specs.Rooms.{TakesOn, modules_in}
+use Rattle.ob_load.specs.Rooms.{TakesOn}
+use Rattle.ob_module.specs.Rooms.{modules_in}
 use Rattle.ob_load.proofs.dependencies.in_order.Given as goal
 
 abbrev pub invariant-loop-name : goal.invariant-loop-name

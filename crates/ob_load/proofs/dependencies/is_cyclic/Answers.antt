@@ -5,8 +5,9 @@ use Rattle.std.specs.List.{IsAnyAnswer}
 use Rattle.std.specs.Vec.{vec_len}
 use Rattle.std.proofs.lemmas.List.Elements.{All-contains}
 use Rattle.std.proofs.lemmas.Option.{slice_get_read, slice_get_within}
-use Rattle.ob_load.specs.Rooms.{ReachedBy, modules_in}
-use Rattle.ob_load.proofs.Numbered.{Contains-at}
+use Rattle.ob_load.specs.Rooms.{ReachedBy}
+use Rattle.ob_module.specs.Rooms.{modules_in}
+use Rattle.ob_module.proofs.CallerLemmas.{Contains-at}
 use Rattle.ob_load.proofs.Reached.{AreReached-first, AreReached-more, Is, reached-few, reached-test}
 use Rattle.ob_load.proofs.dependencies.is_cyclic.Goals as goal
 

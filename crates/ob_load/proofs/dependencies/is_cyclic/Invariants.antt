@@ -1,5 +1,5 @@
 -- What is reached, and at how many of it was looked.
-use Rattle.ob_load.specs.Rooms.{modules_in}
+use Rattle.ob_module.specs.Rooms.{modules_in}
 use Rattle.ob_load.proofs.Reached.{AreReached}
 use Rattle.ob_load.proofs.dependencies.is_cyclic.Given as goal
 

@@ -3,8 +3,8 @@ use Rattle.std.proofs.Common.{◌≡◌, ◌+◌, ◌<◌, ◌≤◌, List, leng
 use Rattle.std.proofs.lemmas.List.{get_or_default}
 use Rattle.ob_definition.specs.declared.definition.ModelDef.{ModelDef}
 use Rattle.toml.specs.View.{table_view}
-use Rattle.ob_load.specs.Meaning.{models_of}
-use Rattle.ob_load.specs.Rooms.{modules_in}
+use Rattle.ob_module.specs.Meaning.{models_of}
+use Rattle.ob_module.specs.Rooms.{modules_in}
 use Rattle.ob_load.proofs.Owners.{AreSoFar, AreSoFar-end, AreSoFar-first, AreSoFar-next, numbered-low}
 use Rattle.ob_load.proofs.Taking.{document-at}
 use Rattle.ob_load.proofs.loading.all_models.Goals as goal

@@ -1,5 +1,5 @@
 -- The models of the modules that were passed.
-use Rattle.ob_load.specs.Rooms.{modules_in}
+use Rattle.ob_module.specs.Rooms.{modules_in}
 use Rattle.ob_load.proofs.Owners.{AreSoFar}
 use Rattle.ob_load.proofs.loading.all_models.Given as goal
 

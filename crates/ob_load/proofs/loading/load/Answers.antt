@@ -8,10 +8,10 @@ use Rattle.ob_load.specs.declared.fault.LoadFault.TheVariants as load
 use Rattle.ob_load.specs.Access.{declared_policy}
 use Rattle.ob_load.specs.Loading.{all_models}
 use Rattle.ob_load.specs.Preset.{declared_preset}
-use Rattle.ob_load.specs.Reading.{Module}
+use Rattle.ob_module.specs.Modules.{Module, numbered}
 use Rattle.ob_load.specs.declared.loading.Loaded.{Loaded}
 use Rattle.ob_load.specs.RowFaults.{modules_fault}
-use Rattle.ob_load.specs.Rooms.{modules_in, numbered}
+use Rattle.ob_module.specs.Rooms.{modules_in}
 use Rattle.ob_load.proofs.Loads.{access-told, cycle-refused, loaded-by, models-there, models-told, reading-told}
 use Rattle.ob_load.proofs.Told.{err_is, no-file, told-of-text}
 use Rattle.ob_load.proofs.loading.load.Goals as goal

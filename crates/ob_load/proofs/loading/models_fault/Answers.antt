@@ -3,7 +3,7 @@ use Rattle.std.proofs.Common.{◌≡◌, ◌<◌, List, ℕ, length, sym, ap, su
 use Rattle.std.proofs.lemmas.Option.{slice_get_within}
 use Rattle.ob_definition.specs.Ranking.{rank}
 use Rattle.ob_load.specs.Loading.{all_models, model_place}
-use Rattle.ob_load.specs.Rooms.{modules_in}
+use Rattle.ob_module.specs.Rooms.{modules_in}
 use Rattle.ob_load.proofs.Loads.{told-there}
 use Rattle.ob_load.proofs.Owners.{owner-is}
 use Rattle.ob_load.proofs.loading.models_fault.Goals as goal

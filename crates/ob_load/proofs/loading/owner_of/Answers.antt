@@ -3,9 +3,9 @@ use Rattle.std.proofs.Common.{◌≡◌, ◌<◌, ◌≤◌, Some, length, get_o
 use Rattle.std.specs.Prelude.{slice_get}
 use Rattle.std.proofs.lemmas.List.{get_or_default}
 use Rattle.toml.specs.View.{table_view}
-use Rattle.ob_load.specs.Meaning.{models_of}
-use Rattle.ob_load.specs.Reading.{Module}
-use Rattle.ob_load.specs.Rooms.{modules_in}
+use Rattle.ob_module.specs.Meaning.{models_of}
+use Rattle.ob_module.specs.Modules.{Module}
+use Rattle.ob_module.specs.Rooms.{modules_in}
 use Rattle.ob_load.proofs.Owners.{IsLeft-end, IsLeft-first, IsLeft-found, IsLeft-next, models-count, numbered-low}
 use Rattle.ob_load.proofs.Taking.{document-at}
 use Rattle.ob_load.proofs.loading.owner_of.Goals as goal

@@ -1,5 +1,5 @@
 -- The entry is so many behind in the modules that are left.
-use Rattle.ob_load.specs.Rooms.{modules_in}
+use Rattle.ob_module.specs.Rooms.{modules_in}
 use Rattle.ob_load.proofs.Owners.{IsLeft}
 use Rattle.ob_load.proofs.loading.owner_of.Given as goal
 

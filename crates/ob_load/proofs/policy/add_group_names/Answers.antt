@@ -2,8 +2,8 @@ use Rattle.std.proofs.Common.{◌++◌, map, take, codes, List, ℕ, refl, ap, �
 use Rattle.toml.specs.Data.{table}
 use Rattle.toml.specs.View.{table_view, view}
 use Rattle.ob_load.specs.Access.{name_of}
-use Rattle.ob_load.specs.Meaning.{items_at}
-use Rattle.ob_load.proofs.Documents.{map-whole}
+use Rattle.ob_module.specs.Meaning.{items_at}
+use Rattle.ob_module.proofs.CallerLemmas.{map-whole}
 use Rattle.ob_load.proofs.policy.add_group_names.Goals as goal
 
 pub returns : goal.returns

@@ -7,7 +7,8 @@ use Rattle.toml.specs.View.{table_view}
 use Rattle.ob_load.specs.Access.{entries_of, group_from, line_from, name_of, ref_name, rule_from}
 use Rattle.ob_load.specs.Preset.{group_rows}
 use Rattle.ob_load.specs.RowFaults.{whole_fault}
-use Rattle.ob_load.specs.Rooms.{BringsOn, GrowsBy, modules_in}
+use Rattle.ob_load.specs.Rooms.{BringsOn, GrowsBy}
+use Rattle.ob_module.specs.Rooms.{modules_in}
 use Rattle.ob_load.specs.declared.access.Declared.{Declared}
 use Rattle.ob_load.specs.declared.rows.Brought.{Brought}
 use Rattle.ob_load.specs.declared.fault.LoadFault.TheVariants as load

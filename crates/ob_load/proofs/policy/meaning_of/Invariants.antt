@@ -1,7 +1,7 @@
 -- What the modules so far declare is a part of what all do.
 use Rattle.std.proofs.Common.{List}
-use Rattle.ob_load.specs.Reading.{Module}
-use Rattle.ob_load.specs.Rooms.{modules_in, numbered}
+use Rattle.ob_module.specs.Modules.{Module, numbered}
+use Rattle.ob_module.specs.Rooms.{modules_in}
 use Rattle.ob_load.proofs.DeclaredTo.{IsDeclaredTo}
 use Rattle.ob_load.proofs.policy.meaning_of.Given as goal
 

@@ -4,8 +4,9 @@ use Rattle.std.proofs.lemmas.List.{append-nil, take-append-drop}
 use Rattle.std.proofs.lemmas.List.Elements.{All-nil}
 use Rattle.toml.specs.View.{table_view}
 use Rattle.ob_load.specs.Preset.{group_rows}
-use Rattle.ob_load.specs.Reading.{Module}
-use Rattle.ob_load.specs.Rooms.{FitsAnywhere, modules_in}
+use Rattle.ob_module.specs.Modules.{Module}
+use Rattle.ob_load.specs.Rooms.{FitsAnywhere}
+use Rattle.ob_module.specs.Rooms.{modules_in}
 use Rattle.ob_load.proofs.GroupRowSteps.{groups-next}
 use Rattle.ob_load.proofs.Loads.{name-of}
 use Rattle.ob_load.proofs.NextModules.{end-at, low-at, next-at}

@@ -1,8 +1,9 @@
 -- The rows of the groups of the modules that were passed.
 use Rattle.std.proofs.Common.{◌≡◌, All, List, take}
 use Rattle.ob_load.specs.Preset.{group_rows}
-use Rattle.ob_load.specs.Reading.{Module}
-use Rattle.ob_load.specs.Rooms.{FitsAnywhere, modules_in, numbered}
+use Rattle.ob_module.specs.Modules.{Module, numbered}
+use Rattle.ob_load.specs.Rooms.{FitsAnywhere}
+use Rattle.ob_module.specs.Rooms.{modules_in}
 use Rattle.ob_load.proofs.preset.rows_of.Given as goal
 
 abbrev pub invariant-loop-number : goal.invariant-loop-number

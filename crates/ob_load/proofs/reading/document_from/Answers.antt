@@ -7,7 +7,7 @@ use Rattle.toml.specs.Parse.{parse_document}
 use Rattle.toml.specs.View.{table_view}
 use Rattle.ob_load.specs.declared.fault.LoadFault.TheVariants as load
 use Rattle.ob_load.specs.declared.fault.ModuleFault.TheVariants as fault
-use Rattle.ob_load.specs.Keys.{document}
+use Rattle.ob_module.specs.Keys.{document}
 use Rattle.ob_load.specs.Reading.{whole}
 use Rattle.ob_load.proofs.ModuleTexts.{document_of-none, document_of-some, module_from-form, module_from-right, module_from-toml}
 use Rattle.ob_load.proofs.Told.{err_is, refused-is}

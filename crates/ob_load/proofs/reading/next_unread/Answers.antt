@@ -1,7 +1,7 @@
 -- A name that was read is passed over; another is the next one.
 use Rattle.std.proofs.Common.{◌≡◌, true, length, ap, arith}
-use Rattle.ob_load.specs.Reading.{has_module}
-use Rattle.ob_load.specs.Rooms.{modules_in}
+use Rattle.ob_module.specs.Modules.{has_module}
+use Rattle.ob_module.specs.Rooms.{modules_in}
 use Rattle.ob_load.proofs.Passing.{PassedTo-more, PassedTo-none, Passes-none, Passes-some}
 use Rattle.ob_load.proofs.reading.next_unread.Goals as goal
 

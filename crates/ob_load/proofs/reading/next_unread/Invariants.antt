@@ -1,6 +1,6 @@
 -- The names that were passed were read; each pass leaves one less.
 use Rattle.std.proofs.Common.{length}
-use Rattle.ob_load.specs.Rooms.{modules_in}
+use Rattle.ob_module.specs.Rooms.{modules_in}
 use Rattle.ob_load.proofs.Passing.{PassedTo}
 use Rattle.ob_load.proofs.reading.next_unread.Given as goal
 

@@ -5,8 +5,9 @@ use Rattle.toml.specs.View.{table_view}
 use Rattle.ob_load.specs.declared.fault.FaultyModule.{FaultyModule}
 use Rattle.ob_load.specs.declared.fault.LoadFault.TheVariants as load
 use Rattle.ob_load.specs.declared.fault.ModuleFault.TheVariants as fault
-use Rattle.ob_load.specs.Reading.{Module, next_module, whole}
-use Rattle.ob_load.specs.Rooms.{modules_in}
+use Rattle.ob_module.specs.Modules.{Module}
+use Rattle.ob_load.specs.Reading.{next_module, whole}
+use Rattle.ob_module.specs.Rooms.{modules_in}
 use Rattle.ob_load.specs.Texts.{text_in}
 use Rattle.ob_load.proofs.ReadingSteps.{Comes, IsReading-first, IsReading-more, reading-ended, reading-full, reading-refused, reading-whole}
 use Rattle.ob_load.proofs.Told.{err_is, refused-is, told-same}

@@ -1,6 +1,6 @@
 -- How far reading is, and that files tell what they told and have failed no less often.
 use Rattle.std.proofs.Common.{◌≡◌, ◌≤◌}
-use Rattle.ob_load.specs.Rooms.{modules_in}
+use Rattle.ob_module.specs.Rooms.{modules_in}
 use Rattle.ob_load.proofs.ReadingSteps.{IsReading}
 use Rattle.ob_load.proofs.reading.read_modules.Given as goal
 

@@ -2,7 +2,7 @@ use Rattle.ob_cache.specs.Calls.{models_at, standpoint}
 use Rattle.ob_call.specs.Called.{called_by, result_view}
 use Rattle.ob_call.proofs.CallerLemmas.{IfErr-result_view}
 use Rattle.ob_orm.specs.Create.{CreateCause, Creates}
-use Rattle.ob_orm.proofs.CalledFound.{IsCalled-found}
+use Rattle.ob_rows.proofs.CallerLemmas.{IsCalled-found}
 use Rattle.ob_orm.proofs.creating.create.Goals as goal
 use Rattle.ob_schema.specs.Models.{model_at}
 

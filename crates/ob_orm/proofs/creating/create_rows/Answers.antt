@@ -3,10 +3,9 @@ use Rattle.std.proofs.lemmas.Result.{err_from_is_err_and}
 use Rattle.ob_access.specs.Policies.{IsPolicyOver}
 use Rattle.ob_call.specs.Called.{result_view}
 use Rattle.ob_cache.specs.Calls.{standpoint}
-use Rattle.ob_orm.proofs.CreateAnswer.{grouped_answer, grouped_cause, rose_from, ungrouped_answer, ungrouped_cause}
-use Rattle.ob_orm.proofs.Questions.{stays-at_rest, stays-itself}
-use Rattle.ob_orm.proofs.WriteMissing.{stays-rests}
-use Rattle.ob_orm.specs.declared.asking.Caller.{Caller}
+use Rattle.ob_orm.proofs.CreateAnswer.{grouped_answer, grouped_cause, ungrouped_answer, ungrouped_cause}
+use Rattle.ob_rows.proofs.CallerLemmas.{rose_from, stays-at_rest, stays-itself, stays-rests}
+use Rattle.ob_rows.specs.declared.asking.Caller.{Caller}
 use Rattle.ob_orm.proofs.creating.create_rows.Goals as goal
 use Rattle.ob_schema.specs.Models.{HasModel}
 use Rattle.ob_schema.specs.declared.info.ModelInfo.{ModelInfo}

@@ -5,7 +5,7 @@ use Rattle.ob_base.specs.declared.id.FieldNo.{FieldNo}
 use Rattle.ob_orm.proofs.AdmittedRows.{err-of}
 use Rattle.ob_orm.proofs.AskedRows.{asked-cause, asked-refused, rows-made, settling-causes, settling-refused, within-models, within-parents}
 use Rattle.ob_orm.proofs.creating.make_asked.Goals as goal
-use Rattle.ob_orm.specs.Author.{author_by}
+use Rattle.ob_rows.specs.Author.{author_by}
 use Rattle.ob_orm.specs.CreateSteps.{IsAllowedBy, rows_view}
 use Rattle.ob_orm.specs.TouchSteps.{AreOfModels}
 use Rattle.ob_schema.specs.declared.info.ModelInfo.{ModelInfo}

@@ -1,11 +1,11 @@
 use Rattle.std.proofs.Common.{◌≡◌, List, subst, sym, ◌∙◌}
 use Rattle.std.specs.Prelude.{All}
 use Rattle.serde_json.specs.View.{view}
-use Rattle.ob_orm.specs.Author.{author_by}
+use Rattle.ob_rows.specs.Author.{author_by}
 use Rattle.ob_orm.specs.NewRowSteps.{IsReady}
 use Rattle.ob_orm.specs.Touches.{may_touch}
 use Rattle.ob_orm.specs.TouchSteps.{MayDo}
-use Rattle.ob_orm.proofs.CreateAnswer.{author_passed}
+use Rattle.ob_rows.proofs.CallerLemmas.{author_passed}
 use Rattle.ob_orm.proofs.PlannedRows.{rows-planned, rows-within}
 use Rattle.ob_orm.proofs.creating.planned.Goals as goal
 use Rattle.ob_schema.specs.declared.info.ModelInfo.{ModelInfo}

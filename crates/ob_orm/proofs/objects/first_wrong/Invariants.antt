@@ -2,7 +2,7 @@ use Rattle.std.proofs.Common.{◌≡◌, drop, map}
 use Rattle.serde_json.specs.View.{view}
 use Rattle.ob_call.specs.Forms.{fields_at}
 use Rattle.ob_orm.specs.Objects.{first_wrong}
-use Rattle.ob_orm.specs.Values.{new_values_fault}
+use Rattle.ob_rows.specs.Values.{new_values_fault}
 use Rattle.ob_orm.proofs.objects.first_wrong.Given as goal
 
 -- the first item that is wrong is the first of those that are left

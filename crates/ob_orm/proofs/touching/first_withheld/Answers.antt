@@ -2,9 +2,9 @@ use Rattle.std.proofs.Common.{◌≡◌, ◌∙◌, Bool, List, get_or, ap, sym,
 use Rattle.std.specs.Prelude.{find, not}
 use Rattle.std.proofs.lemmas.List.{drop_all}
 use Rattle.ob_base.specs.declared.refusal.Op.TheVariants as op
-use Rattle.ob_orm.specs.AskingSteps.{may_by}
-use Rattle.ob_orm.specs.Rights.{Asking}
-use Rattle.ob_orm.proofs.FoundFirst.{found-here, found-later}
+use Rattle.ob_rows.specs.AskingSteps.{may_by}
+use Rattle.ob_rows.specs.Rights.{Asking}
+use Rattle.ob_rows.proofs.CallerLemmas.{found-here, found-later}
 use Rattle.ob_orm.proofs.touching.first_withheld.Goals as goal
 
 abbrev none : Asking

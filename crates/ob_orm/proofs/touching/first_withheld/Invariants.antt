@@ -1,6 +1,6 @@
 use Rattle.std.proofs.Common.{◌≡◌, drop}
 use Rattle.std.specs.Prelude.{find, not}
-use Rattle.ob_orm.specs.AskingSteps.{may_by}
+use Rattle.ob_rows.specs.AskingSteps.{may_by}
 use Rattle.ob_orm.proofs.touching.first_withheld.Given as goal
 
 -- none so far is withheld

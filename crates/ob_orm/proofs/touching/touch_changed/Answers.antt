@@ -1,6 +1,7 @@
 use Rattle.std.proofs.Common.{◌≡◌, refl, sym, true, false, ◌∙◌}
 use Rattle.ob_orm.proofs.EditTouches.{adds-changed, adds-made_changed, or-left, or-right, set-more, within-changed, within-asked}
-use Rattle.ob_orm.specs.TouchSteps.{has_key, is_there_by, knows_row}
+use Rattle.ob_rows.specs.RowSets.{has_key}
+use Rattle.ob_orm.specs.TouchSteps.{is_there_by, knows_row}
 use Rattle.ob_orm.proofs.touching.touch_changed.Goals as goal
 use Rattle.ob_orm.proofs.touching.touch_changed.Goals.{then-branch+in_ok-insert, else-branch+else-not-contains}
 

@@ -6,7 +6,7 @@ use Rattle.ob_cache.proofs.CallerLemmas.{stays-then}
 use Rattle.ob_orm.proofs.TouchedRules.{doing-more, doing-none}
 use Rattle.ob_orm.proofs.touching.touched_by.Goals as goal
 use Rattle.ob_orm.specs.NewRowSteps.{MayFit}
-use Rattle.ob_orm.specs.Rights.{Asking}
+use Rattle.ob_rows.specs.Rights.{Asking}
 use Rattle.ob_orm.specs.TouchSteps.{IsTouched}
 use Rattle.ob_schema.specs.declared.info.ModelInfo.{ModelInfo}
 use Rattle.ob_tables.specs.declared.edit.Edit.{Edit}

@@ -6,16 +6,14 @@ use Rattle.ob_cache.proofs.CallerLemmas.{stays-then}
 use Rattle.ob_cache.specs.Calls.{Refuses}
 use Rattle.ob_cache.specs.Standing.{RestsAt, max_next_id}
 use Rattle.ob_io.specs.Cause.{Rose}
-use Rattle.ob_orm.specs.Author.{author_by}
+use Rattle.ob_rows.specs.Author.{author_by}
 use Rattle.ob_orm.specs.NewRowSteps.{IsTyped}
 use Rattle.ob_orm.specs.Write.{BarsWrite, IsAdmissible, MayBarWrite, MayStopWrite, edits_of}
 use Rattle.ob_orm.specs.WriteSteps.{SetsFit, asked_change}
-use Rattle.ob_orm.specs.declared.author.Author.{Author}
-use Rattle.ob_orm.proofs.CreateAnswer.{author_passed, rose_from}
-use Rattle.ob_orm.proofs.Questions.{nothing_later, stays-at_rest, stays-itself}
+use Rattle.ob_rows.specs.declared.author.Author.{Author}
+use Rattle.ob_rows.proofs.CallerLemmas.{author_passed, nothing_later, rose_from, stays-at_rest, stays-itself, stays-rests}
 use Rattle.ob_orm.proofs.WriteCarried.{barred-cause, barred-stops, edits-causes, edits-settle, edits-stopped, unasked-stops}
 use Rattle.ob_orm.proofs.WriteEdits.{sets-asked, sets-below}
-use Rattle.ob_orm.proofs.WriteMissing.{stays-rests}
 use Rattle.ob_orm.proofs.writing.carry_out.Goals as goal
 use Rattle.ob_schema.specs.Models.{HasModel}
 use Rattle.ob_schema.specs.Tables.{Tables}

@@ -5,10 +5,9 @@ use Rattle.ob_cache.specs.Calls.{Refuses, standpoint}
 use Rattle.ob_cache.specs.Stages.{resting, settled_of, with_edits}
 use Rattle.ob_cache.specs.Standing.{IsAtRest, RestsAt, Stands}
 use Rattle.ob_io.specs.Cause.{Rose}
-use Rattle.ob_orm.proofs.Questions.{refused_later}
-use Rattle.ob_orm.proofs.WriteAnswer.{GivesChange, change_answer, change_cause, stopped_answer, stopped_cause, untold_answer, untold_cause, view-Bool, written_answer}
-use Rattle.ob_orm.proofs.WriteMissing.{stays-rests}
-use Rattle.ob_orm.specs.Author.{author_by}
+use Rattle.ob_rows.proofs.CallerLemmas.{refused_later, stays-rests, view-Bool}
+use Rattle.ob_orm.proofs.WriteAnswer.{GivesChange, change_answer, change_cause, stopped_answer, stopped_cause, untold_answer, untold_cause, written_answer}
+use Rattle.ob_rows.specs.Author.{author_by}
 use Rattle.ob_orm.specs.Write.{IsAdmissible, MayStopWrite, StopsWrite, edits_of}
 use Rattle.ob_orm.specs.WriteSteps.{asked_change}
 use Rattle.ob_orm.proofs.writing.change_rows.Goals as goal

@@ -4,10 +4,10 @@ use Rattle.std.specs.Prelude.{All, IfOk, IsSome}
 use Rattle.std.proofs.lemmas.Result.{err_from_is_err_and}
 use Rattle.ob_base.specs.declared.id.Cell.{Cell}
 use Rattle.ob_cache.specs.Standing.{RestsAt}
-use Rattle.ob_orm.proofs.CallerLemmas.{err-map, unasked-cause, whatever}
+use Rattle.ob_rows.proofs.CallerLemmas.{err-map, unasked-cause, whatever}
 use Rattle.ob_unlink.proofs.Deleted.{cells-fields, cells-fit, restricts-told}
 use Rattle.ob_unlink.specs.DeletionSteps.{IsRestricting, RestrictsBy, left_edit, staying}
-use Rattle.ob_orm.specs.TouchSteps.{has_key}
+use Rattle.ob_rows.specs.RowSets.{has_key}
 use Rattle.ob_unlink.proofs.unlinking.cell_edits.Goals as goal
 use Rattle.ob_schema.specs.Tables.{Tables, kept_at}
 

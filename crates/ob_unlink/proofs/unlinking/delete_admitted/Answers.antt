@@ -5,12 +5,12 @@ use Rattle.ob_base.specs.declared.refusal.Op.TheVariants as op
 use Rattle.ob_cache.specs.Calls.{Refuses}
 use Rattle.ob_cache.specs.Telling.{TellsFacts}
 use Rattle.ob_io.specs.Cause.{Rose}
-use Rattle.ob_orm.proofs.CallerLemmas.{err-later, err-map, refused_later, rests-tells, stays-at_rest, stays-itself, stays-rests}
+use Rattle.ob_rows.proofs.CallerLemmas.{err-later, err-map, refused_later, rests-tells, stays-at_rest, stays-itself, stays-rests}
 use Rattle.ob_unlink.proofs.Stopped.{broken-may, denied-back, denied-may, stopped-back}
-use Rattle.ob_orm.specs.AskingSteps.{AdmitsBy, AreKnown, DeniesBy}
-use Rattle.ob_orm.specs.CreateSteps.{BreaksField}
+use Rattle.ob_rows.specs.AskingSteps.{AdmitsBy, AreKnown, DeniesBy}
+use Rattle.ob_rows.specs.Settling.{BreaksField}
 use Rattle.ob_unlink.specs.DeletionSteps.{HoldsBack, IsStoppedBy, MayHoldBack, SettlesDeletion}
-use Rattle.ob_orm.specs.Rights.{DeniesOne, rows_named}
+use Rattle.ob_rows.specs.Rights.{DeniesOne, rows_named}
 use Rattle.ob_unlink.proofs.unlinking.delete_admitted.Goals as goal
 use Rattle.ob_cache.proofs.CallerLemmas.{Refuses-weaker}
 use Rattle.ob_base.specs.declared.id.RowKey.{RowKey}

@@ -3,11 +3,11 @@ use Rattle.std.proofs.Common.{◌≡◌, List, subst, sym, ◌∙◌, arith}
 use Rattle.std.specs.Prelude.{All}
 use Rattle.std.proofs.lemmas.Result.{err_from_is_err_and, on_ok_weaker}
 use Rattle.ob_cache.proofs.CallerLemmas.{stays-then}
-use Rattle.ob_orm.proofs.CallerLemmas.{err-later, err-map, refused_later, rose_from, stays-at_rest, stays-itself, stays-rests, unasked-cause}
+use Rattle.ob_rows.proofs.CallerLemmas.{err-later, err-map, refused_later, rose_from, stays-at_rest, stays-itself, stays-rests, unasked-cause}
 use Rattle.ob_unlink.proofs.Deleted.{bars-stop, covers-of, edits-below, edits-fit, settles-all, stops-all}
-use Rattle.ob_orm.specs.CreateSteps.{BreaksField}
+use Rattle.ob_rows.specs.Settling.{BreaksField}
 use Rattle.ob_unlink.specs.DeletionSteps.{AreFit, Covers, IsBarredBy, IsMakingNone, IsStoppedBy, MayAllGo, deletion_edits}
-use Rattle.ob_orm.specs.Rights.{rows_named}
+use Rattle.ob_rows.specs.Rights.{rows_named}
 use Rattle.ob_unlink.proofs.unlinking.delete_all.Goals as goal
 use Rattle.ob_schema.specs.Models.{IsRegistry}
 use Rattle.ob_schema.specs.declared.info.ModelInfo.{ModelInfo}

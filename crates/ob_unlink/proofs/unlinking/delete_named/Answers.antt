@@ -4,12 +4,12 @@ use Rattle.std.proofs.lemmas.Result.{err_from_is_err_and}
 use Rattle.ob_access.specs.Policies.{IsPolicyOver}
 use Rattle.ob_base.specs.declared.refusal.Op.TheVariants as op
 use Rattle.ob_cache.specs.Calls.{standpoint}
-use Rattle.ob_orm.proofs.CallerLemmas.{refused_later, stays-at_rest, stays-itself, stays-rests, view-Bool}
+use Rattle.ob_rows.proofs.CallerLemmas.{refused_later, stays-at_rest, stays-itself, stays-rests, view-Bool}
 use Rattle.ob_unlink.proofs.UnlinkAnswer.{deleted_answer, ids_answer, ids_cause, stopped_cause, stopped_unlink, ungrouped_answer, ungrouped_cause}
-use Rattle.ob_orm.specs.AskingSteps.{AdmitsBy}
+use Rattle.ob_rows.specs.AskingSteps.{AdmitsBy}
 use Rattle.ob_unlink.specs.DeletionSteps.{MayStopUnlink, SettlesDeletion, StopsUnlink}
-use Rattle.ob_orm.specs.Rights.{rows_named}
-use Rattle.ob_orm.specs.declared.asking.Caller.{Caller}
+use Rattle.ob_rows.specs.Rights.{rows_named}
+use Rattle.ob_rows.specs.declared.asking.Caller.{Caller}
 use Rattle.ob_unlink.proofs.unlinking.delete_named.Goals as goal
 use Rattle.ob_schema.specs.Facts.{told_by}
 use Rattle.ob_schema.specs.Models.{HasModel}

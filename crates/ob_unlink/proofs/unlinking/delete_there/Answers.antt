@@ -3,12 +3,12 @@ use Rattle.std.proofs.Common.{List, Option, ℕ, refl, subst, sym, ◌∙◌}
 use Rattle.std.proofs.lemmas.Result.{err_from_is_err_and, on_ok_weaker}
 use Rattle.ob_access.specs.Policies.{IsPolicyOver}
 use Rattle.ob_base.specs.declared.refusal.Op.TheVariants as op
-use Rattle.ob_orm.proofs.CallerLemmas.{err-later, err-map, refused_later, stays-at_rest, stays-itself, stays-rests, told-sooner, unasked-cause}
+use Rattle.ob_rows.proofs.CallerLemmas.{err-later, err-map, refused_later, stays-at_rest, stays-itself, stays-rests, told-sooner, unasked-cause}
 use Rattle.ob_unlink.proofs.Stopped.{may-stop, missing-asked, stopped-unlink}
-use Rattle.ob_orm.specs.AskingSteps.{AdmitsBy, AreKnown}
+use Rattle.ob_rows.specs.AskingSteps.{AdmitsBy, AreKnown}
 use Rattle.ob_unlink.specs.DeletionSteps.{HoldsBack, MayHoldBack, MayStopUnlink, SettlesDeletion, StopsUnlink}
-use Rattle.ob_orm.specs.Rights.{rows_named}
-use Rattle.ob_orm.specs.WriteSteps.{MissesOnly}
+use Rattle.ob_rows.specs.Rights.{rows_named}
+use Rattle.ob_rows.specs.There.{MissesOnly}
 use Rattle.ob_unlink.proofs.unlinking.delete_there.Goals as goal
 use Rattle.ob_schema.specs.Facts.{told_by}
 use Rattle.ob_schema.specs.Models.{HasModel}

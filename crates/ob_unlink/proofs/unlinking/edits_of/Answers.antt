@@ -7,11 +7,11 @@ use Rattle.ob_base.specs.declared.id.Cell.{Cell}
 use Rattle.ob_base.specs.declared.id.RowKey.{RowKey}
 use Rattle.ob_base.specs.declared.refusal.Refusal.{Refusal}
 use Rattle.ob_cache.proofs.CallerLemmas.{Refuses-weaker, stays-then}
-use Rattle.ob_orm.proofs.CallerLemmas.{refused_later, stays-rests}
+use Rattle.ob_rows.proofs.CallerLemmas.{refused_later, stays-rests}
 use Rattle.ob_unlink.proofs.Deleted.{all-kept, all-there, gone-fit, none-bars, restricts-bars, restricts-field, row-bars, rows-fit, rows-models}
-use Rattle.ob_orm.specs.CreateSteps.{BreaksField}
+use Rattle.ob_rows.specs.Settling.{BreaksField}
 use Rattle.ob_unlink.specs.DeletionSteps.{AreFit, BarsRow, IsBarredBy, IsFitRow, IsMakingNone, IsRestricting, MayGo, RestrictsBy, gone_edits, left_edit, staying}
-use Rattle.ob_orm.specs.TouchSteps.{has_key}
+use Rattle.ob_rows.specs.RowSets.{has_key}
 use Rattle.ob_unlink.proofs.unlinking.edits_of.Goals as goal
 use Rattle.ob_schema.specs.Tables.{row_at}
 use Rattle.ob_schema.specs.declared.info.ModelInfo.{ModelInfo}

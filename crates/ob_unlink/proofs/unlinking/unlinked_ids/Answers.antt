@@ -6,8 +6,8 @@ use Rattle.ob_call.specs.Arguments.{arguments_of}
 use Rattle.ob_call.specs.ArgumentsSteps.{all_given_of}
 use Rattle.ob_call.specs.declared.arguments.Given.{Given}
 use Rattle.ob_unlink.specs.Unlink.{unlink_expects}
-use Rattle.ob_orm.specs.Write.{ids_expected}
-use Rattle.ob_orm.proofs.CallerLemmas.{sole_are}
+use Rattle.ob_rows.specs.There.{ids_expected}
+use Rattle.ob_rows.proofs.CallerLemmas.{sole_are}
 use Rattle.ob_unlink.proofs.UnlinkAnswer.{denied_ids, taken_ids}
 use Rattle.ob_unlink.proofs.unlinking.unlinked_ids.Goals as goal
 

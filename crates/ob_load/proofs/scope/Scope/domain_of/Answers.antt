@@ -6,7 +6,8 @@ use Rattle.ob_base.specs.declared.place.PathStep.{PathStep}
 use Rattle.ob_base.specs.declared.place.PathStep.TheVariants.{Item, Key}
 use Rattle.ob_domain.specs.Trees.{tree_of_domain}
 use Rattle.ob_domain.specs.declared.fault.DomainFault.TheVariants as domain
-use Rattle.ob_load.specs.Access.{domain_in, word_at}
+use Rattle.ob_load.specs.Access.{domain_in}
+use Rattle.ob_module.specs.Meaning.{word_at}
 use Rattle.ob_load.specs.Rooms.{Refuses}
 use Rattle.ob_load.specs.declared.fault.LoadFault.TheVariants as load
 use Rattle.ob_load.specs.declared.fault.ModuleFault.TheVariants as fault

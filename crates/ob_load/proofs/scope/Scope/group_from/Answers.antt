@@ -6,7 +6,7 @@ use Rattle.std.proofs.lemmas.Result.{err_from_is_err_and}
 use Rattle.toml.specs.View.{view}
 use Rattle.ob_load.specs.Access.{group_ids}
 use Rattle.ob_load.specs.AccessFaults.{groups_at, name_fits}
-use Rattle.ob_load.specs.Meaning.{texts_at}
+use Rattle.ob_module.specs.Meaning.{texts_at}
 use Rattle.ob_load.specs.declared.fault.LoadFault.TheVariants as load
 use Rattle.ob_load.proofs.AccessForms.{entry-first, entry-second}
 use Rattle.ob_load.proofs.EntryParts.{group-fits, group-made, listed-none, listed-some}

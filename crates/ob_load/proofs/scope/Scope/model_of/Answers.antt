@@ -3,7 +3,7 @@ use Rattle.std.proofs.Common.{◌≡◌, [], ◌∷◌, None, sym, ap, ◌∙◌
 use Rattle.std.specs.Prelude.{codes}
 use Rattle.toml.specs.View.{view}
 use Rattle.ob_base.specs.declared.place.PathStep.TheVariants.{Key}
-use Rattle.ob_load.specs.Access.{word_at}
+use Rattle.ob_module.specs.Meaning.{word_at}
 use Rattle.ob_load.specs.AccessFaults.{model_is_there}
 use Rattle.ob_load.specs.declared.fault.LoadFault.TheVariants as load
 use Rattle.ob_load.proofs.AccessForms.{entry-told}

@@ -7,9 +7,9 @@ use Rattle.toml.specs.Data.{Data, array}
 use Rattle.toml.specs.View.{items_view, view}
 use Rattle.toml.specs.declared.value.Value.{Value}
 use Rattle.ob_base.specs.declared.id.FieldNo.{FieldNo}
-use Rattle.ob_load.specs.Meaning.{listed}
+use Rattle.ob_module.specs.Meaning.{listed}
 use Rattle.ob_load.specs.Preset.{references, rising, rows_given}
-use Rattle.ob_load.proofs.Documents.{listed-view}
+use Rattle.ob_module.proofs.CallerLemmas.{listed-view}
 use Rattle.ob_load.proofs.values.RowScope.rows_given.Goals as goal
 use Rattle.ob_schema.specs.declared.preset.PresetValue.TheVariants as preset
 

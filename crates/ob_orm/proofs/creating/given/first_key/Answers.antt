@@ -1,7 +1,7 @@
 use Rattle.std.proofs.Common.{◌≡◌, ap, ◌∙◌}
 use Rattle.std.specs.Map.{keys_of}
 use Rattle.ob_call.specs.Forms.{fields_at}
-use Rattle.ob_orm.specs.Values.{is_settable_name}
+use Rattle.ob_rows.specs.Values.{is_settable_name}
 use Rattle.ob_orm.proofs.Expected.{first_key-entries, first_refused}
 use Rattle.ob_orm.proofs.creating.given.first_key.Goals as goal
 

@@ -2,7 +2,7 @@ use Rattle.std.proofs.Common.{◌≡◌}
 use Rattle.serde_json.specs.View.{members_view}
 use Rattle.ob_call.specs.Arguments.{entries}
 use Rattle.ob_call.specs.Forms.{fields_at}
-use Rattle.ob_orm.specs.Values.{first_key, is_settable_name}
+use Rattle.ob_rows.specs.Values.{first_key, is_settable_name}
 use Rattle.ob_orm.proofs.Expected.{first_refused}
 use Rattle.ob_orm.proofs.creating.given.first_key.Given as goal
 

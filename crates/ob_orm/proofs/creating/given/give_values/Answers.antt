@@ -1,7 +1,7 @@
 use Rattle.std.proofs.Common.{arith, refl, ◌∙◌}
 use Rattle.serde_json.specs.View.{members_view}
 use Rattle.ob_orm.specs.ObjectSteps.{object_place}
-use Rattle.ob_orm.proofs.CreateFields.{field_there}
+use Rattle.ob_rows.proofs.CallerLemmas.{field_there}
 use Rattle.ob_orm.proofs.GivenFields.{keys_at, so_far-all, so_far-more, so_far-none, so_far-typed}
 use Rattle.ob_orm.proofs.creating.given.give_values.Goals as goal
 

@@ -1,5 +1,5 @@
 use Rattle.std.proofs.Common.{◌∙◌}
-use Rattle.ob_orm.proofs.OwnFields.{settable_by_name}
+use Rattle.ob_rows.proofs.CallerLemmas.{settable_by_name}
 use Rattle.ob_orm.proofs.creating.given.is_given.Goals as goal
 
 pub returns-in-Some : goal.returns-in-Some

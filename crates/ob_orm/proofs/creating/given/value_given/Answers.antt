@@ -5,7 +5,7 @@ use Rattle.ob_definition.specs.Types.{is_list}
 use Rattle.ob_schema.specs.Models.{field_at}
 use Rattle.ob_orm.specs.NewRowSteps.{HasTargetKeys}
 use Rattle.ob_orm.specs.ObjectSteps.{object_place}
-use Rattle.ob_orm.proofs.CreateFields.{tell, told}
+use Rattle.ob_rows.proofs.CallerLemmas.{tell, told}
 use Rattle.ob_orm.proofs.GivenFields.{given-none, given-value, given-wrong}
 use Rattle.ob_orm.proofs.creating.given.value_given.Goals as goal
 

@@ -6,7 +6,7 @@ use Rattle.ob_call.specs.Forms.{fields_at}
 use Rattle.ob_call.specs.declared.arguments.Given.{Given}
 use Rattle.ob_orm.specs.Objects.{objects_expected}
 use Rattle.ob_orm.proofs.CreateAnswer.{denied_rows, must_be_given, rows_passed, rows_unread}
-use Rattle.ob_orm.proofs.FirstArguments.{sole_are, sole_fits}
+use Rattle.ob_rows.proofs.CallerLemmas.{sole_are, sole_fits}
 use Rattle.ob_orm.proofs.creating.rows.asked_rows.Goals as goal
 
 pub unreachable-requires : goal.unreachable-requires

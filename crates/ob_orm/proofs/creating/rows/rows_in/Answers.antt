@@ -7,7 +7,7 @@ use Rattle.ob_call.specs.Places.{spot_place}
 use Rattle.ob_schema.specs.Models.{model_at}
 use Rattle.ob_orm.specs.CreateSteps.{rows_view}
 use Rattle.ob_orm.specs.ObjectSteps.{object_view}
-use Rattle.ob_orm.specs.Values.{new_values_fault}
+use Rattle.ob_rows.specs.Values.{new_values_fault}
 use Rattle.ob_orm.proofs.CreateRows.{asked-alone, listed-rows}
 use Rattle.ob_orm.proofs.ObjectPlaces.{all-right, objects-alone, objects-listed}
 use Rattle.ob_orm.proofs.creating.rows.rows_in.Goals as goal

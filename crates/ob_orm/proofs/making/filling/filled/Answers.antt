@@ -1,6 +1,6 @@
 use Rattle.std.proofs.Common.{arith, sym, ◌∙◌}
 use Rattle.ob_orm.proofs.FilledRows.{so_far-all, so_far-fit, so_far-more, so_far-none, so_far-passed}
-use Rattle.ob_orm.proofs.Stamps.{makeable_at}
+use Rattle.ob_rows.proofs.CallerLemmas.{makeable_at}
 use Rattle.ob_orm.proofs.making.filling.filled.Goals as goal
 use Rattle.ob_orm.proofs.making.filling.filled.Goals.{then-is_plain_kept+in_ok-value+in_ok-push_valued, else-is_plain_kept}
 

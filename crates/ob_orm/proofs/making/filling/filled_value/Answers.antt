@@ -1,7 +1,7 @@
 use Rattle.std.proofs.Common.{sym, ◌∙◌}
 use Rattle.ob_schema.specs.Models.{field_at}
 use Rattle.ob_orm.proofs.ParentFields.{value-typed}
-use Rattle.ob_orm.proofs.Stamps.{stamp_typed}
+use Rattle.ob_rows.proofs.CallerLemmas.{stamp_typed}
 use Rattle.ob_orm.proofs.making.filling.filled_value.Goals as goal
 
 pub returns-then-is_stamp-clause-typed : goal.returns-then-is_stamp-clause-typed

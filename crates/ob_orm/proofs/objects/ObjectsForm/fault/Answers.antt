@@ -3,7 +3,7 @@ use Rattle.std.proofs.lemmas.Result.{IfOk-weaker}
 use Rattle.serde_json.specs.View.{view}
 use Rattle.ob_call.specs.Forms.{fields_at}
 use Rattle.ob_orm.specs.Objects.{first_wrong}
-use Rattle.ob_orm.specs.Values.{new_values_fault}
+use Rattle.ob_rows.specs.Values.{new_values_fault}
 use Rattle.ob_orm.proofs.ObjectPlaces.{objects-listed}
 use Rattle.ob_orm.proofs.objects.ObjectsForm.fault.Goals as goal
 

@@ -1,6 +1,6 @@
 use Rattle.std.proofs.Common.{◌≡◌, drop, map}
 use Rattle.ob_base.specs.declared.refusal.Op.TheVariants as op
-use Rattle.ob_orm.specs.Rights.{first_withheld}
+use Rattle.ob_rows.specs.Rights.{first_withheld}
 use Rattle.ob_orm.proofs.writing.barring.first_withheld.Given as goal
 
 -- the first of all is that of the rest

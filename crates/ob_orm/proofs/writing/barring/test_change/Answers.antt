@@ -7,18 +7,17 @@ use Rattle.ob_cache.proofs.CallerLemmas.{stays-then}
 use Rattle.ob_cache.specs.Calls.{Refuses}
 use Rattle.ob_call.specs.Ids.{IsLeastMissing}
 use Rattle.ob_io.specs.Cause.{Rose}
-use Rattle.ob_orm.proofs.CreateAnswer.{rose_from}
-use Rattle.ob_orm.proofs.Questions.{err-later, err-map}
+use Rattle.ob_rows.proofs.CallerLemmas.{err-later, err-map, rose_from, stays-rests, told-sooner}
 use Rattle.ob_orm.proofs.TouchedRows.{told-at}
 use Rattle.ob_orm.proofs.WriteBarred.{missing-bars, nothing-bars, rule-cause, rules-bar, tests-bar, tests-cause}
-use Rattle.ob_orm.proofs.WriteMissing.{stays-rests, told-sooner}
-use Rattle.ob_orm.specs.AskingSteps.{AdmitsBy, AreKnown, DeniesBy}
+use Rattle.ob_rows.specs.AskingSteps.{AdmitsBy, AreKnown, DeniesBy}
 use Rattle.ob_orm.specs.NewRows.{Values}
-use Rattle.ob_orm.specs.Rights.{DeniesOne, rows_named}
+use Rattle.ob_rows.specs.Rights.{DeniesOne, rows_named}
 use Rattle.ob_orm.specs.Touched.{given_parents, touched_models}
-use Rattle.ob_orm.specs.Write.{AreThere, MayBarWrite}
+use Rattle.ob_rows.specs.There.{AreThere, MissesOnly}
+use Rattle.ob_orm.specs.Write.{MayBarWrite}
 use Rattle.ob_orm.specs.Writable.{IsWritable}
-use Rattle.ob_orm.specs.WriteSteps.{MissesOnly, asked_change}
+use Rattle.ob_orm.specs.WriteSteps.{asked_change}
 use Rattle.ob_orm.proofs.writing.barring.test_change.Goals as goal
 use Rattle.ob_schema.specs.Tables.{Tables}
 use Rattle.ob_schema.specs.declared.info.ModelInfo.{ModelInfo}

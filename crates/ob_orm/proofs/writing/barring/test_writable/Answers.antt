@@ -2,7 +2,7 @@ use Rattle.std.proofs.Common.{◌∙◌, ap, option_map, sym}
 use Rattle.ob_base.specs.declared.id.ModelNo.{ModelNo}
 use Rattle.ob_base.specs.declared.refusal.Op.TheVariants as op
 use Rattle.ob_orm.proofs.Withheld.{wrong-tests}
-use Rattle.ob_orm.specs.Rights.{first_unwritable}
+use Rattle.ob_rows.specs.Rights.{first_unwritable}
 use Rattle.ob_orm.specs.ObjectSteps.{object_view}
 use Rattle.ob_orm.proofs.writing.barring.test_writable.Goals as goal
 

@@ -5,7 +5,7 @@ use Rattle.std.proofs.lemmas.List.Elements.{All-map}
 use Rattle.ob_base.specs.declared.id.ModelNo.{ModelNo}
 use Rattle.ob_base.specs.declared.refusal.Op.TheVariants as op
 use Rattle.ob_orm.proofs.Withheld.{withheld-none}
-use Rattle.ob_orm.specs.Rights.{may}
+use Rattle.ob_rows.specs.Rights.{may}
 use Rattle.ob_orm.proofs.writing.barring.withheld.Goals as goal
 use Rattle.ob_schema.specs.declared.info.ParentInfo.{ParentInfo}
 

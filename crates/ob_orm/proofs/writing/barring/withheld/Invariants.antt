@@ -1,7 +1,7 @@
 use Rattle.std.proofs.Common.{◌≡◌, take, true}
 use Rattle.std.specs.Prelude.{All}
 use Rattle.ob_base.specs.declared.refusal.Op.TheVariants as op
-use Rattle.ob_orm.specs.Rights.{may}
+use Rattle.ob_rows.specs.Rights.{may}
 use Rattle.ob_orm.proofs.writing.barring.withheld.Given as goal
 
 -- he may write rows of the parents so far

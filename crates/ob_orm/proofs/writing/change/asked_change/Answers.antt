@@ -6,9 +6,10 @@ use Rattle.ob_call.specs.Arguments.{IsFit}
 use Rattle.ob_call.specs.ArgumentsSteps.{all_given_of, given_of}
 use Rattle.ob_call.specs.Forms.{fields_at}
 use Rattle.ob_call.specs.declared.arguments.Given.{Given}
-use Rattle.ob_orm.specs.Write.{ids_expected, vals_expected}
+use Rattle.ob_rows.specs.There.{ids_expected}
+use Rattle.ob_orm.specs.Write.{vals_expected}
 use Rattle.ob_orm.proofs.CreateAnswer.{must_be_given}
-use Rattle.ob_orm.proofs.FirstArguments.{pair_are, second_fit}
+use Rattle.ob_rows.proofs.CallerLemmas.{pair_are, second_fit}
 use Rattle.ob_orm.proofs.WriteAnswer.{denied_change, taken_change}
 use Rattle.ob_orm.proofs.writing.change.asked_change.Goals as goal
 

@@ -6,9 +6,8 @@ use Rattle.std.proofs.lemmas.List.{take_all}
 use Rattle.std.proofs.lemmas.List.Elements.{All-nil}
 use Rattle.ob_base.specs.Limits.{max_id}
 use Rattle.ob_cache.proofs.CallerLemmas.{stays-then}
-use Rattle.ob_orm.proofs.Questions.{stays-none}
+use Rattle.ob_rows.proofs.CallerLemmas.{stays-none, stays-rests}
 use Rattle.ob_orm.proofs.WriteEdits.{flat-more}
-use Rattle.ob_orm.proofs.WriteMissing.{stays-rests}
 use Rattle.ob_orm.specs.NewRows.{Values}
 use Rattle.ob_orm.specs.NewRowSteps.{IsTyped}
 use Rattle.ob_orm.specs.Write.{edits_of_row}

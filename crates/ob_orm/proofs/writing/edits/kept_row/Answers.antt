@@ -1,5 +1,5 @@
 use Rattle.std.proofs.Common.{subst}
-use Rattle.ob_orm.proofs.Questions.{rests-sound}
+use Rattle.ob_rows.proofs.CallerLemmas.{rests-sound}
 use Rattle.ob_orm.proofs.LinkedRows.{link-there, link-told}
 use Rattle.ob_orm.proofs.writing.edits.kept_row.Goals as goal
 use Rattle.ob_schema.specs.Models.{IsRegistry}

@@ -4,9 +4,8 @@ use Rattle.std.specs.List.{flat_map}
 use Rattle.std.specs.Option.{option_map_or}
 use Rattle.std.proofs.lemmas.List.{take_all}
 use Rattle.ob_cache.proofs.CallerLemmas.{stays-then}
-use Rattle.ob_orm.proofs.Questions.{stays-none}
+use Rattle.ob_rows.proofs.CallerLemmas.{stays-none, stays-rests}
 use Rattle.ob_orm.proofs.WriteEdits.{flat-more}
-use Rattle.ob_orm.proofs.WriteMissing.{stays-rests}
 use Rattle.ob_orm.specs.NewRows.{filled, parents_of, row_edits}
 use Rattle.ob_orm.specs.Write.{parent_edits}
 use Rattle.ob_orm.proofs.writing.edits.push_row.Goals as goal

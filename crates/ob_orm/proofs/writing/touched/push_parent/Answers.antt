@@ -5,7 +5,7 @@ use Rattle.std.proofs.lemmas.List.Elements.{All-push}
 use Rattle.ob_base.specs.declared.id.RowKey.{RowKey}
 use Rattle.ob_cache.proofs.CallerLemmas.{stays-then}
 use Rattle.ob_orm.proofs.TouchedRows.{parent-model, row-gone, row-pushed, row-unnamed, told-at}
-use Rattle.ob_orm.specs.AskingSteps.{AreKnown}
+use Rattle.ob_rows.specs.AskingSteps.{AreKnown}
 use Rattle.ob_orm.proofs.writing.touched.push_parent.Goals as goal
 use Rattle.ob_schema.specs.Models.{HasModel}
 use Rattle.ob_schema.specs.Tables.{key_of}

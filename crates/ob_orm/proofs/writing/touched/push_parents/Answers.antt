@@ -5,9 +5,8 @@ use Rattle.std.specs.List.{filter_map}
 use Rattle.std.proofs.lemmas.List.{take_all}
 use Rattle.ob_base.specs.declared.id.RowKey.{RowKey}
 use Rattle.ob_cache.proofs.CallerLemmas.{stays-then}
-use Rattle.ob_orm.proofs.Questions.{stays-none}
+use Rattle.ob_rows.proofs.CallerLemmas.{stays-none, stays-rests}
 use Rattle.ob_orm.proofs.TouchedRows.{chosen-more, no_parent}
-use Rattle.ob_orm.proofs.WriteMissing.{stays-rests}
 use Rattle.ob_orm.specs.NewRowSteps.{IsTyped}
 use Rattle.ob_orm.specs.Touched.{parent_row}
 use Rattle.ob_orm.proofs.writing.touched.push_parents.Goals as goal

@@ -4,7 +4,7 @@ use Rattle.std.specs.List.{filter_map}
 use Rattle.ob_base.specs.declared.id.ModelNo.{ModelNo}
 use Rattle.ob_cache.specs.Standing.{RestsAt, Stays}
 use Rattle.ob_cache.specs.Telling.{TellsFacts}
-use Rattle.ob_orm.specs.AskingSteps.{AreKnown}
+use Rattle.ob_rows.specs.AskingSteps.{AreKnown}
 use Rattle.ob_orm.specs.Touched.{parent_row}
 use Rattle.ob_orm.specs.WriteSteps.{AreOfModels}
 use Rattle.ob_orm.proofs.writing.touched.push_parents.Given as goal

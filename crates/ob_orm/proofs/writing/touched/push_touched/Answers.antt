@@ -6,10 +6,9 @@ use Rattle.std.proofs.lemmas.Result.{on_ok_weaker}
 use Rattle.std.proofs.lemmas.List.Elements.{All-push}
 use Rattle.ob_base.specs.declared.id.RowKey.{RowKey}
 use Rattle.ob_cache.proofs.CallerLemmas.{stays-then}
-use Rattle.ob_orm.proofs.Questions.{err-later}
+use Rattle.ob_rows.proofs.CallerLemmas.{err-later, rests-tells, stays-rests}
 use Rattle.ob_orm.proofs.TouchedRows.{touched-gone, touched-there}
-use Rattle.ob_orm.proofs.WriteMissing.{rests-tells, stays-rests}
-use Rattle.ob_orm.specs.AskingSteps.{AreKnown}
+use Rattle.ob_rows.specs.AskingSteps.{AreKnown}
 use Rattle.ob_orm.specs.NewRowSteps.{IsTyped}
 use Rattle.ob_orm.specs.Touched.{parent_row}
 use Rattle.ob_orm.proofs.writing.touched.push_touched.Goals as goal

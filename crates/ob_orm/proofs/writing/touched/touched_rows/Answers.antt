@@ -5,13 +5,12 @@ use Rattle.std.proofs.lemmas.List.{take_all}
 use Rattle.std.proofs.lemmas.List.Elements.{All-nil}
 use Rattle.ob_base.specs.declared.id.RowKey.{RowKey}
 use Rattle.ob_cache.proofs.CallerLemmas.{stays-then}
-use Rattle.ob_orm.proofs.Questions.{stays-none}
+use Rattle.ob_rows.proofs.CallerLemmas.{stays-none, stays-rests}
 use Rattle.ob_orm.proofs.TouchedRows.{known-at, of-models, own-model, rows-more}
-use Rattle.ob_orm.proofs.WriteMissing.{stays-rests}
-use Rattle.ob_orm.specs.AskingSteps.{AreKnown}
+use Rattle.ob_rows.specs.AskingSteps.{AreKnown}
 use Rattle.ob_orm.specs.NewRows.{Values}
 use Rattle.ob_orm.specs.NewRowSteps.{IsTyped}
-use Rattle.ob_orm.specs.Rights.{rows_named}
+use Rattle.ob_rows.specs.Rights.{rows_named}
 use Rattle.ob_orm.specs.WriteSteps.{AreOfModels}
 use Rattle.ob_orm.specs.Touched.{given_parents, parent_rows, touched, touched_models}
 use Rattle.ob_orm.proofs.writing.touched.touched_rows.Goals as goal

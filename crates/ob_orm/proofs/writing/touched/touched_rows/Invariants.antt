@@ -2,8 +2,8 @@ use Rattle.std.proofs.Common.{◌≡◌, ◌≤◌, take}
 use Rattle.std.specs.Prelude.{All, Contains}
 use Rattle.ob_cache.specs.Standing.{RestsAt, Stays}
 use Rattle.ob_cache.specs.Telling.{TellsFacts}
-use Rattle.ob_orm.specs.AskingSteps.{AreKnown}
-use Rattle.ob_orm.specs.Rights.{rows_named}
+use Rattle.ob_rows.specs.AskingSteps.{AreKnown}
+use Rattle.ob_rows.specs.Rights.{rows_named}
 use Rattle.ob_orm.specs.Touched.{touched, touched_models}
 use Rattle.ob_orm.proofs.writing.touched.touched_rows.Given as goal
 use Rattle.ob_schema.specs.Facts.{OfAllTold}

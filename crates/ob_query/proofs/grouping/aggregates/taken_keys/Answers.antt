@@ -1,41 +1,44 @@
-use Rattle.std.proofs.Common.{◌≡◌, ◌<◌, ◌+◌, ◌∷◌, ◌||◌, [], ℕ, List, Bool, true, false, cond, length, get_or, drop, map, string_bytes, refl, sym, ap, subst, ◌∙◌, arith}
-use Rattle.std.specs.Str.{bytes_eq}
+use Rattle.std.proofs.Common.{◌≡◌, ◌+◌, ◌∷◌, [], ℕ, List, Bor, Some, None, true, get_or, option_map, drop, map, string_bytes, sym, ap, subst, rules, arith, ◌∙◌}
+use Rattle.std.proofs.lemmas.Grind.{common_steps}
 use Rattle.std.proofs.lemmas.Map.Text.{btree_set_updates_text}
-use Rattle.ob_query.proofs.GroupItems.{map-left, map-map, map-past}
-use Rattle.ob_query.proofs.GroupTexts.{AreTakenTo, AreTakenTo-all, AreTakenTo-first, AreTakenTo-more}
-use Rattle.ob_query.specs.GroupForms as forms
-use Rattle.ob_query.specs.GroupForms.{count_key, taken_keys}
-use Rattle.ob_query.specs.GroupParts.{grouping_view, text_of, written_view}
-use Rattle.ob_query.specs.declared.grouping.groupings.Grouping.{Grouping}
+use Rattle.ob_query.proofs.GroupItems.{map-past}
+use Rattle.ob_query.proofs.GroupTexts.{AreTakenTo, AreTakenTo-all, AreTakenTo-first, AreTakenTo-more, texts-none, texts-some}
+use Rattle.ob_query.specs.GroupForms.{count_key, taken_keys, texts_in}
+use Rattle.ob_query.specs.GroupParts.{written_view}
+use Rattle.serde_json.specs.Find.{as_str}
+use Rattle.serde_json.specs.View.{view}
 use Rattle.ob_query.proofs.grouping.aggregates.taken_keys.Goals as goal
+use Rattle.ob_query.proofs.grouping.aggregates.taken_keys.Goals.{in-Some+in_ok-take_key, in_default}
 
-pub loop-grouping-init : goal.loop-grouping-init
-loop-grouping-init c =
+pub loop-item-init : goal.loop-item-init
+loop-item-init c =
     let written = c.args.written.now in
-    let gs = written.groupings.items in
     let own = c.in_ok-count_key.field-0 in
     let updates = λ (name : List ℕ). rw c.in_ok-count_key.ensures at (btree_set_updates_text (string_bytes own) c.new-taken.result c.insert.new.self true c.in_ok-insert.ensures.updates name) in
-    AreTakenTo-first (count_key (written_view written)) (map text_of gs) (map (λ (g : forms.Grouping). g.text) (map grouping_view gs)) c.new-taken.result c.insert.new.self (map-map (λ (g : forms.Grouping). g.text) grouping_view gs) c.new-taken.ensures.empty updates
+    AreTakenTo-first (count_key (written_view written)) (texts_in (map view written.items.now)) c.new-taken.result c.insert.new.self c.new-taken.ensures.empty updates
 
-pub loop-grouping-preserved : goal.loop-grouping-preserved
-loop-grouping-preserved c =
-    let written = c.args.written.now in
-    let gs = written.groupings.items in
-    let slice = c.as_slice-grouping-items.result.now in
-    let i = c.loop-grouping.grouping-index in
-    let own = c.in_ok-text_of.field-0 in
-    let same : slice ≡ gs = c.as_slice-grouping-items.ensures.value in
-    let updates = btree_set_updates_text (string_bytes own) c.loop-grouping.taken c.insert-in-loop-grouping.new.self true c.in_ok-insert-2.ensures.updates in
-    let left : map text_of (drop i gs) ≡ string_bytes own ∷ map text_of (drop (i + 1) gs) =
-    ap (λ (l : List Grouping). map text_of (drop i l)) (sym same) ∙ map-left text_of slice i _ c.loop-grouping-test.true ∙ ap (λ (text : List ℕ). text ∷ map text_of (drop (i + 1) slice)) (sym c.in_ok-text_of.ensures)
-    ∙ ap (λ (l : List Grouping). string_bytes own ∷ map text_of (drop (i + 1) l)) same in
-    AreTakenTo-more (taken_keys (written_view written)) (map text_of (drop (i + 1) gs)) (string_bytes own) c.loop-grouping.taken c.insert-in-loop-grouping.new.self
-    (subst (λ (l : List (List ℕ)). AreTakenTo (taken_keys (written_view written)) l c.loop-grouping.taken) left c.loop-grouping.invariant) updates
+pub loop-item-preserved : goal.loop-item-preserved
+loop-item-preserved c =
+    let all = taken_keys (written_view c.args.written.now) in
+    let items = c.args.written.now.items.now in
+    let i = c.loop-item.item-index in
+    let item = c.item-item.result in
+    let at : item ≡ get_or items i item = search rules in
+    let rest = texts_in (map view (drop (i + 1) items)) in
+    elim c.match-as_str.branch [
+      | in-Some+in_ok-take_key w ↦ (
+          let text : as_str (view item) ≡ Some w.in-Some.text.now = sym c.as_str.ensures ∙ ap (option_map (λ (s : Bor (List ℕ)). s.now)) w.in-Some.is in
+          let kept : w.take_key.new.taken ≡ c.match-as_str.taken = grind (arith, common_steps) in
+          subst (λ t. AreTakenTo all rest t) kept (AreTakenTo-more all rest w.in-Some.text.now c.loop-item.taken w.take_key.new.taken
+          (subst (λ (l : List (List ℕ)). AreTakenTo all l c.loop-item.taken) (texts-some items i item c.loop-item-test.true at w.in-Some.text.now text) c.loop-item.invariant) w.in_ok-take_key.ensures.taken))
+      | in_default w ↦ (
+          let none : as_str (view item) ≡ None = sym c.as_str.ensures ∙ ap (option_map (λ (s : Bor (List ℕ)). s.now)) w.in_default.is in
+          let kept : c.loop-item.taken ≡ c.match-as_str.taken = grind (arith, common_steps) in
+          subst (λ t. AreTakenTo all rest t) kept (subst (λ (l : List (List ℕ)). AreTakenTo all l c.loop-item.taken) (texts-none items i item c.loop-item-test.true at none) c.loop-item.invariant))
+    ]
 
 pub returns : goal.returns
 returns c =
-    let written = c.args.written.now in
-    let slice = c.as_slice-grouping-items.result.now in
-    let end : map text_of (drop c.loop-grouping.grouping-index written.groupings.items) ≡ [] =
-    ap (λ (l : List Grouping). map text_of (drop c.loop-grouping.grouping-index l)) (sym c.as_slice-grouping-items.ensures.value) ∙ map-past text_of slice c.loop-grouping.grouping-index c.loop-grouping-test.false in
-    AreTakenTo-all (taken_keys (written_view written)) c.loop-grouping.taken (subst (λ (l : List (List ℕ)). AreTakenTo (taken_keys (written_view written)) l c.loop-grouping.taken) end c.loop-grouping.invariant)
+    let all = taken_keys (written_view c.args.written.now) in
+    let end : texts_in (map view (drop c.loop-item.item-index c.args.written.now.items.now)) ≡ [] = ap texts_in (map-past view c.args.written.now.items.now c.loop-item.item-index c.loop-item-test.false) in
+    AreTakenTo-all all c.loop-item.taken (subst (λ (l : List (List ℕ)). AreTakenTo all l c.loop-item.taken) end c.loop-item.invariant)

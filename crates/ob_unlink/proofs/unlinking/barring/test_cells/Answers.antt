@@ -4,9 +4,9 @@ use Rattle.std.specs.Prelude.{All}
 use Rattle.std.proofs.lemmas.List.{take_all}
 use Rattle.std.proofs.lemmas.List.Elements.{All-more}
 use Rattle.ob_base.specs.declared.id.Cell.{Cell}
-use Rattle.ob_orm.proofs.CallerLemmas.{both_ways}
+use Rattle.ob_rows.proofs.CallerLemmas.{both_ways}
 use Rattle.ob_unlink.specs.DeletionSteps.{IsRestricting}
-use Rattle.ob_orm.specs.TouchSteps.{has_key}
+use Rattle.ob_rows.specs.RowSets.{has_key}
 use Rattle.ob_unlink.proofs.unlinking.barring.test_cells.Goals as goal
 
 pub loop-cell-preserved : goal.loop-cell-preserved

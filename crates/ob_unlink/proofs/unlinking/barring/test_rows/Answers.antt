@@ -7,8 +7,8 @@ use Rattle.std.proofs.lemmas.Result.{err_from_is_err_and}
 use Rattle.ob_base.specs.declared.id.RowKey.{RowKey}
 use Rattle.ob_base.specs.declared.refusal.Refusal.{Refusal}
 use Rattle.ob_cache.proofs.CallerLemmas.{stays-then}
-use Rattle.ob_orm.proofs.CallerLemmas.{any_is, refused_later, stays-none, stays-rests}
-use Rattle.ob_orm.specs.CreateSteps.{BreaksField}
+use Rattle.ob_rows.proofs.CallerLemmas.{any_is, refused_later, stays-none, stays-rests}
+use Rattle.ob_rows.specs.Settling.{BreaksField}
 use Rattle.ob_unlink.specs.DeletionSteps.{BarsRow, MayGo}
 use Rattle.ob_unlink.proofs.unlinking.barring.test_rows.Goals as goal
 use Rattle.ob_schema.specs.Models.{HasModel}

@@ -1,7 +1,7 @@
 -- The rows that name one by a relation, and their cells.
 use Rattle.std.proofs.Common.{subst, sym, ◌∙◌}
 use Rattle.std.specs.Prelude.{All}
-use Rattle.ob_orm.proofs.CallerLemmas.{both_ways}
+use Rattle.ob_rows.proofs.CallerLemmas.{both_ways}
 use Rattle.ob_unlink.proofs.FoundRows.{found-cells, found-fit, found-rows, kept-relation}
 use Rattle.ob_unlink.proofs.TakenRows.{adds-as, adds-none, takes-as, takes-none}
 use Rattle.ob_unlink.proofs.unlinking.deletion.add_by.Goals as goal

@@ -3,11 +3,11 @@ use Rattle.std.proofs.Common.{List, get_or, refl, rules, subst, sym, ◌∙◌, 
 use Rattle.std.specs.Prelude.{Any}
 use Rattle.std.proofs.lemmas.List.{take_all}
 use Rattle.ob_cache.proofs.CallerLemmas.{stays-then}
-use Rattle.ob_orm.proofs.CallerLemmas.{any_more, stays-none, stays-rests}
+use Rattle.ob_rows.proofs.CallerLemmas.{any_more, stays-none, stays-rests}
 use Rattle.ob_unlink.proofs.TakenRows.{adds-as, adds-none, adds-then, counts-none, counts-then, takes-as, takes-none, takes-then}
 use Rattle.ob_unlink.specs.DeletionSteps.{AddsCells, AreFit, LeadsBy, TakesBy, TakesMore}
-use Rattle.ob_orm.specs.Relations.{IsRelation}
-use Rattle.ob_orm.specs.declared.relations.KeptRelation.{KeptRelation}
+use Rattle.ob_rows.specs.Relations.{IsRelation}
+use Rattle.ob_rows.specs.declared.relations.KeptRelation.{KeptRelation}
 use Rattle.ob_unlink.proofs.unlinking.deletion.add_holders.Goals as goal
 use Rattle.ob_schema.proofs.CallerLemmas.{Any-none}
 use Rattle.ob_schema.specs.declared.info.ModelInfo.{ModelInfo}

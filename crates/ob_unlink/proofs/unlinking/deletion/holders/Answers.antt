@@ -2,7 +2,7 @@
 use Rattle.std.proofs.Common.{subst, ◌∙◌}
 use Rattle.std.proofs.lemmas.Result.{err_from_is_err_and}
 use Rattle.ob_cache.specs.Stages.{resting}
-use Rattle.ob_orm.proofs.CallerLemmas.{fault_refuses, rests-sound}
+use Rattle.ob_rows.proofs.CallerLemmas.{fault_refuses, rests-sound}
 use Rattle.ob_unlink.proofs.OnePage.{page-all}
 use Rattle.ob_unlink.proofs.unlinking.deletion.holders.Goals as goal
 use Rattle.ob_schema.specs.Models.{IsRegistry}

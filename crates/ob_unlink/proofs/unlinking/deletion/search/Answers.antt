@@ -4,14 +4,14 @@ use Rattle.std.specs.Prelude.{All, Contains}
 use Rattle.std.proofs.lemmas.List.{nil_from_length}
 use Rattle.ob_base.specs.declared.id.RowKey.{RowKey}
 use Rattle.ob_cache.proofs.CallerLemmas.{stays-then}
-use Rattle.ob_orm.proofs.CallerLemmas.{all_among, no_row, stays-none, stays-rests}
+use Rattle.ob_rows.proofs.CallerLemmas.{all_among, no_row, stays-none, stays-rests}
 use Rattle.ob_unlink.proofs.FoundRows.{named-fit, named-row}
 use Rattle.ob_unlink.proofs.NamingRows.{leads-all, takes-all}
 use Rattle.ob_unlink.proofs.Searched.{begun, ended, searched}
 use Rattle.ob_unlink.proofs.TakenRows.{adds-as, takes-as}
 use Rattle.ob_unlink.specs.DeletionSteps.{AreFit, TakesMore}
-use Rattle.ob_orm.specs.Relations.{IsRelation}
-use Rattle.ob_orm.specs.Rights.{rows_named}
+use Rattle.ob_rows.specs.Relations.{IsRelation}
+use Rattle.ob_rows.specs.Rights.{rows_named}
 use Rattle.ob_unlink.proofs.unlinking.deletion.search.Goals as goal
 use Rattle.ob_schema.specs.declared.info.ModelInfo.{ModelInfo}
 

@@ -2,7 +2,7 @@
 use Rattle.std.proofs.Common.{◌≡◌, ◌+◌, ◌-◌, ◌*◌, ◌^◌, ◌≤◌, length}
 use Rattle.ob_cache.specs.Standing.{RestsAt, Stays}
 use Rattle.ob_unlink.specs.DeletionSteps.{AreFit}
-use Rattle.ob_orm.specs.Rights.{rows_named}
+use Rattle.ob_rows.specs.Rights.{rows_named}
 use Rattle.ob_unlink.proofs.Searched.{IsSearch}
 use Rattle.ob_unlink.proofs.unlinking.deletion.search.Given as goal
 use Rattle.ob_schema.specs.Tables.{Tables}

@@ -5,10 +5,10 @@ use Rattle.std.proofs.lemmas.List.{take_all}
 use Rattle.std.proofs.lemmas.List.Elements.{All-nil}
 use Rattle.ob_base.specs.declared.id.Cell.{Cell}
 use Rattle.ob_cache.proofs.CallerLemmas.{stays-then}
-use Rattle.ob_orm.proofs.CallerLemmas.{stays-none, stays-rests}
+use Rattle.ob_rows.proofs.CallerLemmas.{stays-none, stays-rests}
 use Rattle.ob_unlink.proofs.LeftEdits.{edits-more, edits_for}
 use Rattle.ob_unlink.specs.DeletionSteps.{IsFitCell, IsMakingNone}
-use Rattle.ob_orm.specs.TouchSteps.{has_key}
+use Rattle.ob_rows.specs.RowSets.{has_key}
 use Rattle.ob_unlink.proofs.unlinking.leaving.left_edits.Goals as goal
 use Rattle.ob_schema.specs.declared.info.ModelInfo.{ModelInfo}
 use Rattle.ob_tables.specs.declared.edit.Edit.{Edit}

@@ -4,7 +4,7 @@ use Rattle.std.specs.Prelude.{All, IsSome}
 use Rattle.ob_base.specs.declared.id.Cell.{Cell}
 use Rattle.ob_cache.specs.Standing.{RestsAt, Stays}
 use Rattle.ob_unlink.specs.DeletionSteps.{IsMakingNone}
-use Rattle.ob_orm.specs.TouchSteps.{has_key}
+use Rattle.ob_rows.specs.RowSets.{has_key}
 use Rattle.ob_unlink.proofs.LeftEdits.{edits_for}
 use Rattle.ob_unlink.proofs.unlinking.leaving.left_edits.Given as goal
 use Rattle.ob_schema.specs.Tables.{Tables, kept_at}

@@ -2,7 +2,7 @@
 use Rattle.std.proofs.Common.{◌≡◌, false, subst, sym, ◌∙◌}
 use Rattle.ob_unlink.proofs.LeftEdits.{pushed, pushed-fit}
 use Rattle.ob_unlink.specs.Deletion.{row_of_cell}
-use Rattle.ob_orm.specs.TouchSteps.{has_key}
+use Rattle.ob_rows.specs.RowSets.{has_key}
 use Rattle.ob_unlink.proofs.unlinking.leaving.push_left.Goals as goal
 use Rattle.ob_schema.specs.Models.{IsRegistry}
 

@@ -3,7 +3,7 @@ use Rattle.std.proofs.Common.{◌≡◌, ◌++◌, ◌∷◌, [], List, false, t
 use Rattle.std.proofs.lemmas.List.{take_all}
 use Rattle.ob_base.specs.declared.id.RecId.{RecId}
 use Rattle.ob_unlink.specs.Deletion.{leads_to_gone}
-use Rattle.ob_orm.specs.TouchSteps.{has_key}
+use Rattle.ob_rows.specs.RowSets.{has_key}
 use Rattle.ob_unlink.proofs.LeftTargets.{below-here, kept-more, passed-over}
 use Rattle.ob_unlink.proofs.unlinking.leaving.remaining.Goals as goal
 use Rattle.ob_unlink.proofs.unlinking.leaving.remaining.Goals.{then-not-leads_to_gone+in_ok-push, else-not-leads_to_gone}

@@ -1,5 +1,5 @@
 -- The cells, and maybe the rows.
-use Rattle.ob_orm.proofs.CallerLemmas.{both_ways, denied}
+use Rattle.ob_rows.proofs.CallerLemmas.{both_ways, denied}
 use Rattle.ob_unlink.proofs.TakenRows.{takes-none}
 use Rattle.ob_unlink.proofs.unlinking.taking.add_found.Goals as goal
 

@@ -1,7 +1,7 @@
 -- One row.
-use Rattle.ob_orm.proofs.CallerLemmas.{row-one}
+use Rattle.ob_rows.proofs.CallerLemmas.{row-one}
 use Rattle.ob_unlink.proofs.TakenRows.{takes-again, takes-new, was_false, was_true}
-use Rattle.ob_orm.specs.TouchSteps.{has_key}
+use Rattle.ob_rows.specs.RowSets.{has_key}
 use Rattle.ob_unlink.proofs.unlinking.taking.take.Goals as goal
 
 pub returns-then-not-branch-clause-rows : goal.returns-then-not-branch-clause-rows

@@ -3,7 +3,7 @@ use Rattle.std.proofs.Common.{List, ℕ, [], refl, subst}
 use Rattle.std.specs.Prelude.{Contains}
 use Rattle.std.proofs.lemmas.List.{take_all}
 use Rattle.ob_unlink.specs.DeletionSteps.{TakesMore}
-use Rattle.ob_orm.specs.Rights.{rows_named}
+use Rattle.ob_rows.specs.Rights.{rows_named}
 use Rattle.ob_unlink.proofs.TakenRows.{counts-none, counts-then, takes-as, takes-none, takes-then}
 use Rattle.ob_unlink.proofs.TakenMore.{named-more, named-none}
 use Rattle.ob_unlink.proofs.unlinking.taking.take_named.Goals as goal

@@ -2,7 +2,7 @@
 use Rattle.std.proofs.Common.{take}
 use Rattle.std.specs.Prelude.{Contains}
 use Rattle.ob_unlink.specs.DeletionSteps.{KeepsCount, TakesMore}
-use Rattle.ob_orm.specs.Rights.{rows_named}
+use Rattle.ob_rows.specs.Rights.{rows_named}
 use Rattle.ob_unlink.proofs.unlinking.taking.take_named.Given as goal
 
 abbrev pub invariant-loop-id : goal.invariant-loop-id

@@ -1,7 +1,0 @@
-use Rattle.std.specs.Prelude.{All}
-use Rattle.ob_commands.specs.Objects.{IsTypedValue}
-use Rattle.ob_commands.proofs.effect.own.behind.Given as goal
-
--- the values so far are typed
-abbrev pub invariant-loop-one : goal.invariant-loop-one
-invariant-loop-one l = All (IsTypedValue l.schema l.parent.model) l.values.items

@@ -1,6 +1,0 @@
-use Rattle.ob_commands.specs.Effect.{KeepsNotes}
-use Rattle.ob_commands.proofs.rows.note_values.Given as goal
-
--- what the values so far give is noted
-abbrev pub invariant-loop-one : goal.invariant-loop-one
-invariant-loop-one l = KeepsNotes l.schema l.fn.notes l.notes

@@ -1,7 +1,0 @@
-use Rattle.std.specs.Prelude.{All}
-use Rattle.ob_commands.specs.Effect.{IsFitChange}
-use Rattle.ob_commands.proofs.rows.push_stamps.Given as goal
-
--- the edits so far may be asked for
-abbrev pub invariant-loop-index : goal.invariant-loop-index
-invariant-loop-index l = All (IsFitChange l.writer.schema.now) l.fn.edits.items → All (IsFitChange l.writer.schema.now) l.edits.items

@@ -1,0 +1,6 @@
+use Rattle.ob_effect.specs.Effect.{KeepsNotes}
+use Rattle.ob_effect.proofs.effect.parents.note_dangling.Given as goal
+
+-- what the values so far give is noted
+abbrev pub invariant-loop-one : goal.invariant-loop-one
+invariant-loop-one g l = KeepsNotes l.writer.schema.now l.fn.notes l.notes

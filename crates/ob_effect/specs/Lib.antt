@@ -1,0 +1,11 @@
+pub mod NextIds
+pub mod Rights
+pub mod Cells
+pub mod Faults
+pub mod Relations
+pub mod Objects
+pub mod Rows
+pub mod Lists
+pub mod Parents
+pub mod Deletion
+pub mod Effect

@@ -1,6 +1,0 @@
--- The names that were passed are to come.
-use Rattle.std.proofs.Common.{◌≡◌, drop, reverse}
-use Rattle.ob_load.proofs.coming.Coming.wanted.Given as goal
-
-abbrev pub invariant-loop-place : goal.invariant-loop-place
-invariant-loop-place l = reverse l.coming.items ≡ drop l.place l.names

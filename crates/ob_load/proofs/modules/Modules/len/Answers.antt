@@ -1,6 +1,0 @@
-use Rattle.toml.specs.View.{table_view}
-use Rattle.ob_load.proofs.Entries.{modules-apart}
-use Rattle.ob_load.proofs.modules.Modules.len.Goals as goal
-
-pub returns-clause-apart : goal.returns-clause-apart
-returns-clause-apart c = modules-apart table_view c.args.self.now.documents.entries c.len.ensures.unique

@@ -1,0 +1,5 @@
+pub mod CallerLemmas
+pub mod Documents
+pub mod Entries
+pub mod Numbered
+pub mod Wrongs

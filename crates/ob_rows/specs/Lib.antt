@@ -1,0 +1,13 @@
+pub mod There
+pub mod RowSets
+pub mod Settling
+pub mod Makeable
+pub mod AskingSteps
+pub mod Author
+pub mod Creatable
+pub mod Lasting
+pub mod LockSteps
+pub mod Locks
+pub mod Relations
+pub mod Rights
+pub mod Values

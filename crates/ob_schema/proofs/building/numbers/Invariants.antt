@@ -1,7 +1,0 @@
-use Rattle.std.proofs.Common.{◌≡◌, map, take}
-use Rattle.ob_schema.specs.ModelFields.{named_in, number_in}
-use Rattle.ob_schema.proofs.Somes.{somes}
-use Rattle.ob_schema.proofs.building.numbers.Given as goal
-
-abbrev pub invariant-loop-name : goal.invariant-loop-name
-invariant-loop-name l = l.numbers ≡ somes (map (number_in (named_in l.model.named l.model.members.items)) (take l.name-index l.names))

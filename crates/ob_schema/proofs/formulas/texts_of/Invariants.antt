@@ -1,6 +1,0 @@
-use Rattle.std.proofs.Common.{◌≡◌, take}
-use Rattle.ob_schema.specs.Telling.{texts_in}
-use Rattle.ob_schema.proofs.formulas.texts_of.Given as goal
-
-abbrev pub invariant-loop-name : goal.invariant-loop-name
-invariant-loop-name l = texts_in l.texts.items ≡ take l.name-index l.names

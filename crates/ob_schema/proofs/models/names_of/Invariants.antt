@@ -1,7 +1,0 @@
-use Rattle.std.proofs.Common.{take}
-use Rattle.ob_schema.specs.Modelling.{AreMemberNames}
-use Rattle.ob_schema.specs.ModelFields.{members_in}
-use Rattle.ob_schema.proofs.models.names_of.Given as goal
-
-abbrev pub invariant-loop-member : goal.invariant-loop-member
-invariant-loop-member l = AreMemberNames l.names (members_in (take l.member-index l.members))

@@ -1,7 +1,0 @@
-use Rattle.ob_definition.specs.Findings.{Adds}
-use Rattle.ob_schema.specs.Graphs.{IsLongWrong}
-use Rattle.ob_schema.proofs.StepFaults.{AreNodeFaults}
-use Rattle.ob_schema.proofs.strata.long_chains.Given as goal
-
-abbrev pub invariant-loop-node : goal.invariant-loop-node
-invariant-loop-node l = Adds (AreNodeFaults l.models (IsLongWrong l.models) l.node) l.initial.first l.first

@@ -1,7 +1,0 @@
-use Rattle.std.proofs.Common.{◌≡◌, take}
-use Rattle.ob_tables.specs.After.{after}
-use Rattle.ob_tables.proofs.tables.Tables.after.Given as goal
-
--- the edits so far are carried out
-abbrev pub invariant-loop-edit : goal.invariant-loop-edit
-invariant-loop-edit l = record { models : l.tables.models ≡ l.fn.self.models; done : l.tables.tables ≡ after l.fn.self.models l.fn.self.tables (take l.edit-index l.edits) }
