@@ -9,7 +9,7 @@ pub mod Asked
 pub mod Callers
 pub mod NamedBy
 pub mod NamingSteps
-pub mod Granted
+pub mod GrantedFields
 pub mod ToldColumns
 pub mod SearchFrom
 pub mod Refused
@@ -20,17 +20,7 @@ pub mod SearchLoops
 pub mod SearchFields
 pub mod SearchAnswers
 pub mod SearchReadAnswers
-pub mod PeriodDays
-pub mod Distinct
-pub mod Amounts
 pub mod GroupItems
-pub mod GroupTexts
-pub mod GroupKeys
-pub mod GatheredRows
-pub mod ToldGroups
 pub mod HeldTexts
-pub mod GroupsAsked
-pub mod GroupsAnswers
 pub mod CallerLemmas
 pub mod Isolation
-pub mod GroupIsolation

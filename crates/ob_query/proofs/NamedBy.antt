@@ -8,8 +8,7 @@ use Rattle.ob_call.specs.Called.{Called}
 use Rattle.ob_domain.specs.Naming.{named_fields}
 use Rattle.ob_query.specs.Callers.{Named, fields_named, in_turn, is_first, named_of}
 use Rattle.ob_query.specs.Callers as callers
-use Rattle.ob_query.specs.NamedFields.{Naming, domain_names, entries_name, entry_fields, groupings_name, is_positioned, name_fields, named_by, names_name, order_names}
-use Rattle.ob_query.specs.GroupForms.{groupings_in, items_in, json_of}
+use Rattle.ob_query.specs.NamedFields.{Naming, domain_names, is_positioned, name_fields, named_by, names_name, order_names}
 use Rattle.ob_query.specs.NamedFields as spec
 use Rattle.ob_query.specs.SearchForms.{order_fault, order_given, order_of, tree_given}
 use Rattle.ob_query.specs.declared.naming.Naming.{Naming as Own}
@@ -76,18 +75,10 @@ order_same c (Some g) fit = by (order_of c.info.fields g.json) fit where
   by None fit = absurd cc
   by (Some terms) fit = refl
 
--- a list of names, of entries, and groupings
+-- a list of names
 pub names_same : (c : Called) (given : Option Given) → map (step_at c.model) (option_map_or (λ g. name_fields c.info.fields g.json) given []) ≡ option_map_or (λ g. names_name c g.json) given []
 names_same c None = refl
 names_same c (Some g) = refl
-
-pub entries_same : (c : Called) (given : Option Given) → map (step_at c.model) (option_map_or (λ g. entry_fields c.info.fields g.json) given []) ≡ option_map_or (λ g. entries_name c g.json) given []
-entries_same c None = refl
-entries_same c (Some g) = refl
-
-pub groupings_same : (c : Called) (given : Option Given) → map (λ g. step_at c.model g.field) (groupings_in c.info.fields (items_in (json_of given))) ≡ option_map_or (λ g. groupings_name c g.json) given []
-groupings_same c None = refl
-groupings_same c (Some g) = refl
 
 -- ---- of all, as the code has them
 

@@ -23,7 +23,7 @@ use Rattle.ob_call.specs.declared.call.Call.{Call}
 use Rattle.ob_codec.specs.CommandForms.{id_json, list_json, number_json}
 use Rattle.ob_domain.specs.Naming.{named_fields}
 use Rattle.ob_query.proofs.Asked.{rose_later}
-use Rattle.ob_query.proofs.Granted.{everywhere}
+use Rattle.ob_query.proofs.GrantedFields.{everywhere}
 use Rattle.ob_query.proofs.NamedBy.{domain_same, named_same, order_same, same_pair}
 use Rattle.ob_query.proofs.Refused.{asked_causes, asked_may, asked_refuses}
 use Rattle.ob_query.proofs.SearchFrom.{as_sought, found_counted}

@@ -22,7 +22,7 @@ use Rattle.ob_call.specs.Forms.{fields_at}
 use Rattle.ob_call.specs.declared.arguments.Given.{Given}
 use Rattle.ob_call.specs.declared.call.Call.{Call}
 use Rattle.ob_domain.specs.Naming.{named_fields}
-use Rattle.ob_query.proofs.Granted.{everywhere}
+use Rattle.ob_query.proofs.GrantedFields.{everywhere}
 use Rattle.ob_query.proofs.NamedBy.{domain_same, named_same, names_same, order_same}
 use Rattle.ob_query.proofs.Refused.{asked_may}
 use Rattle.ob_query.proofs.SearchAnswers.{Four, four_are, four_given, four_last, from_view, order_fit, own_fit, stands_for, told_later}

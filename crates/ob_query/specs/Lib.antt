@@ -7,10 +7,6 @@ pub mod Read
 pub mod SearchForms
 pub mod SearchOrder
 pub mod Search
-pub mod GroupPeriods
-pub mod GroupAmounts
-pub mod GroupForms
-pub mod Groups
 pub mod Isolation
 -- Private: the words by which the rooms of the crate are joined.
 pub mod Callers
@@ -20,5 +16,3 @@ pub mod ReadRows
 pub mod SearchKeys
 pub mod SearchQuestions
 pub mod SearchParts
-pub mod GroupParts
-pub mod GroupValues

@@ -15,7 +15,6 @@ use Rattle.ob_codec.specs.Commands.{listed}
 use Rattle.ob_domain.specs.Naming.{named_fields}
 use Rattle.ob_domain.specs.Reading.{domain_from}
 use Rattle.ob_domain.specs.Trees.{constant}
-use Rattle.ob_query.specs.GroupForms.{Entry, entry_of, groupings_in, groups_expects, items_in, written_of}
 use Rattle.ob_query.specs.ReadArguments.{read_expects}
 use Rattle.ob_query.specs.SearchForms.{count_expects, order_of, search_expects, search_read_expects}
 use Rattle.ob_schema.specs.Models.{field_named}
@@ -43,26 +42,6 @@ domain_names models c d = named_fields c.model (unwrap_or (result_ok (domain_fro
 -- those by which an order goes
 abbrev pub order_names : Called → Data → List Step
 order_names c d = map (λ term. step_at c.model term.field) (unwrap_or (order_of c.info.fields d) [])
-
--- the field that an entry names; one that is passed over names it too
-abbrev pub entry_name : List FieldInfo → List ℕ → Entry → Option FieldNo
-entry_name fields text (Some a) = Some a.field
-entry_name fields text None = field_named fields text
-
-abbrev pub entry_field : List FieldInfo → Data → Option FieldNo
-entry_field fields d = option_and_then (λ text. option_and_then (entry_name fields text) (entry_of fields text)) (as_str d)
-
--- those that entries name
-abbrev pub entry_fields : List FieldInfo → Data → List FieldNo
-entry_fields fields (array items) = filter_map (entry_field fields) (listed items)
-entry_fields fields _ = []
-
-abbrev pub entries_name : Called → Data → List Step
-entries_name c d = map (step_at c.model) (entry_fields c.info.fields d)
-
--- those of groupings, also of such as aren't used
-abbrev pub groupings_name : Called → Data → List Step
-groupings_name c d = map (λ g. step_at c.model g.field) (groupings_in c.info.fields (items_in (Some d)))
 
 -- ---- of several, in the order in which their forms are tested
 
@@ -104,12 +83,6 @@ objects_names models c (domain ∷ fields ∷ offset ∷ limit ∷ order ∷ giv
     named_by (record { given = domain; names = domain_names models c } ∷ record { given = fields; names = names_name c } ∷ record { given = order; names = order_names c } ∷ [])
 objects_names models c _ = []
 
--- an order of groups goes by groupings, which are named
-abbrev pub groups_names : List ModelInfo → Called → List (Option Given) → List Step
-groups_names models c (domain ∷ fields ∷ groupby ∷ given) =
-    named_by (record { given = domain; names = domain_names models c } ∷ record { given = fields; names = entries_name c } ∷ record { given = groupby; names = groupings_name c } ∷ [])
-groups_names models c _ = []
-
 -- the fields that each call names, or the first place that is wrong
 abbrev pub read_named : Called → Result (List Step) (List PathStep)
 read_named c = arguments_of (read_expects c.info.fields) c.args c.kw >>= λ given. Ok (read_names c given)
@@ -122,6 +95,3 @@ count_named models c = arguments_of (count_expects models c.model) c.args c.kw >
 
 abbrev pub objects_named : List ModelInfo → Called → Result (List Step) (List PathStep)
 objects_named models c = arguments_of (search_read_expects models c.model c.info.fields) c.args c.kw >>= λ given. Ok (objects_names models c given)
-
-abbrev pub groups_named : List ModelInfo → Called → Result (List Step) (List PathStep)
-groups_named models c = arguments_of (groups_expects models c.model c.info.fields (written_of c.info.fields c.args c.kw)) c.args c.kw >>= λ given. Ok (groups_names models c given)

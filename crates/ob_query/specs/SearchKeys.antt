@@ -1,5 +1,5 @@
 -- Rows with what they hold for the terms of an order, as they are sorted.
-use Rattle.std.specs.Prelude.{◌≡◌, List, map, All, if◌then◌else◌}
+use Rattle.std.specs.Prelude.{◌≡◌, List, map, All, false, if◌then◌else◌}
 use Rattle.std.specs.Cmp.Lexicographic.{slice_cmp}
 use Rattle.std.specs.Cmp.{IsTotalOrder, back_total, bool_cmp_total, on_total, then_total}
 use Rattle.std.specs.Ordering.{bool_cmp, flip_args, nat_cmp, on, then_cmp}
@@ -44,3 +44,7 @@ unset_last_total = then_total (on_total is_unset bool_cmp_total) value_order_tot
 
 pub key_order_total : IsTotalOrder key_order
 key_order_total = then_total (on_total (λ key. key.descending) bool_cmp_total) (then_total (on_total rising_value unset_last_total) (on_total falling_value (back_total unset_last_total)))
+
+-- the key by which things rise by a value
+abbrev pub rising : Value → Key
+rising v = record { descending = false; value = v }

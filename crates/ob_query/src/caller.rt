@@ -20,21 +20,21 @@ use std::alloc::Global;
 
 /// Who calls: the policy, his groups, and his id.
 #[derive(Clone, Copy)]
-pub(crate) struct Caller<'c> {
-    pub(crate) policy: &'c Policy,
-    pub(crate) groups: &'c GroupSet,
-    pub(crate) user: RecId,
+pub struct Caller<'c> {
+    pub policy: &'c Policy,
+    pub groups: &'c GroupSet,
+    pub user: RecId,
 }
 
 /// Whether he may read the rows of a model.
-pub(crate) fn may_read(by: &Caller<'_>, model: ModelNo) -> bool
+pub fn may_read(by: &Caller<'_>, model: ModelNo) -> bool
     ensures { result ≡ may_read by.now model }
 {
     by.policy.right(by.groups, by.user, model, Op::Read)
 }
 
 /// Whether he may read a field.
-pub(crate) fn may_read_field(by: &Caller<'_>, field: Step) -> bool
+pub fn may_read_field(by: &Caller<'_>, field: Step) -> bool
     ensures { result ≡ may_read_field by.now field }
 {
     by.policy
@@ -43,7 +43,7 @@ pub(crate) fn may_read_field(by: &Caller<'_>, field: Step) -> bool
 
 /// Whether he may ask what a call asks: he may read the model's rows, and each field that
 /// arguments name. Refused is the first that he may not.
-pub(crate) fn granted(by: &Caller<'_>, model: ModelNo, namings: &[Naming]) -> Result<(), Refusal>
+pub fn granted(by: &Caller<'_>, model: ModelNo, namings: &[Naming]) -> Result<(), Refusal>
     ensures { IsGranted by.now model (fields_named namings.now) result }
 {
     if !may_read(by, model) {
@@ -67,7 +67,7 @@ fn first_denied(by: &Caller<'_>, namings: &[Naming]) -> Option<Step>
 }
 
 /// The groups of a user; none where the registry has no model of users.
-pub(crate) fn groups_of<K: Keeper>(
+pub fn groups_of<K: Keeper>(
     alloc: Global,
     engine: &mut Engine<'_, K>,
     policy: &Policy,
@@ -103,10 +103,7 @@ fn no_groups(alloc: Global, policy: &Policy) -> Result<GroupSet, Refusal>
 
 /// An answer about rows, told apart. Where nothing is told of rows, `other` stands in for it: an
 /// engine at rest whose keeper tells its rows tells of each that is known.
-pub(crate) fn answered<T: Drop>(
-    answer: Result<T, HoldFault<ReadFault>>,
-    other: T,
-) -> Result<T, KeepFault>
+pub fn answered<T: Drop>(answer: Result<T, HoldFault<ReadFault>>, other: T) -> Result<T, KeepFault>
     ensures { IsAnswered answer other result }
 {
     match answer {

@@ -1,6 +1,5 @@
 //! Laws of the calls that read, which take no engine: they speak of definitions alone.
 
-ghost use Rattle.ob_query.specs.Groups.{Groups};
 ghost use Rattle.ob_query.specs.Isolation.{GoesByView};
 ghost use Rattle.ob_query.specs.Read.{Reads};
 ghost use Rattle.ob_query.specs.Search.{SearchCounts, SearchReads, Searches};
@@ -14,7 +13,6 @@ pub fn reads_go_by_views()
     ensures searches { GoesByView Searches }
     ensures counts { GoesByView SearchCounts }
     ensures objects { GoesByView SearchReads }
-    ensures groups { GoesByView Groups }
 {
     domains_go_by_fields();
 }

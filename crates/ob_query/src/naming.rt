@@ -25,14 +25,14 @@ use std::alloc::Global;
 /// The fields that an argument names, and whether it is given by its position. One that isn't
 /// given names none.
 #[derive(Drop)]
-pub(crate) struct Naming {
-    pub(crate) positioned: bool,
-    pub(crate) fields: Vec<Step>,
+pub struct Naming {
+    pub positioned: bool,
+    pub fields: Vec<Step>,
 }
 
 impl Naming {
     /// What an argument names, if it is given.
-    pub(crate) fn of(given: &Option<Given<'_>>, fields: Vec<Step>) -> Naming
+    pub fn of(given: &Option<Given<'_>>, fields: Vec<Step>) -> Naming
         ensures positioned { result.positioned ≡ is_first (option_map given_of given.now) }
         ensures fields { result.fields ≡ fields }
     {
@@ -55,7 +55,7 @@ fn is_positioned(given: &Option<Given<'_>>) -> bool
 
 /// The first field that he may not read which arguments name that are given by position, or the
 /// others.
-pub(crate) fn first_where(by: &Caller<'_>, namings: &[Naming], positioned: bool) -> Option<Step>
+pub fn first_where(by: &Caller<'_>, namings: &[Naming], positioned: bool) -> Option<Step>
     ensures { result ≡ find (λ field. not (may_read_field by.now field)) (named_where positioned (map named_of namings.now)) }
 {
     for naming in namings {
@@ -81,7 +81,7 @@ fn first_denied(by: &Caller<'_>, fields: &[Step]) -> Option<Step>
 }
 
 /// What a domain names, which is given.
-pub(crate) fn domain_naming(
+pub fn domain_naming(
     alloc: Global,
     model: ModelNo,
     given: &Option<Given<'_>>,
@@ -94,7 +94,7 @@ pub(crate) fn domain_naming(
 }
 
 /// What an order names: the fields of its terms where it is given, and none of the model's own.
-pub(crate) fn order_naming(
+pub fn order_naming(
     alloc: Global,
     model: ModelNo,
     given: &Option<Given<'_>>,
@@ -113,7 +113,7 @@ pub(crate) fn order_naming(
 }
 
 /// What a list of names names.
-pub(crate) fn names_naming(
+pub fn names_naming(
     alloc: Global,
     schema: &Schema,
     model: ModelNo,
@@ -174,7 +174,7 @@ fn field_named(schema: &Schema, model: ModelNo, json: &Json) -> Option<FieldNo>
 }
 
 /// A field of a model.
-pub(crate) fn step_at(model: ModelNo, field: FieldNo) -> Step
+pub fn step_at(model: ModelNo, field: FieldNo) -> Step
     ensures { result ≡ step_at model field }
 {
     Step { model, field }

@@ -30,14 +30,14 @@ ghost use Rattle.ob_schema.specs.Paths.{step_at};
 ghost use Rattle.ob_schema.specs.Tables.{Tables};
 ghost use Rattle.ob_schema.specs.declared.info.ModelInfo.{ModelInfo};
 
-pub(crate) mod forms;
-pub(crate) mod found;
+pub mod forms;
+pub mod found;
 mod objects;
-pub(crate) mod order;
-pub(crate) mod questions;
-pub(crate) mod searched;
-pub(crate) mod sought;
-pub(crate) mod walk;
+pub mod order;
+pub mod questions;
+pub mod searched;
+pub mod sought;
+pub mod walk;
 
 use crate::caller::{Caller, granted, groups_of};
 use crate::naming::{domain_naming, names_naming, order_naming};
@@ -379,7 +379,7 @@ fn allowed_objects<'c>(
 }
 
 /// The JSON of ids.
-pub(crate) fn ids_json(alloc: Global, ids: &[RecId]) -> Result<Json, NoMemory>
+pub fn ids_json(alloc: Global, ids: &[RecId]) -> Result<Json, NoMemory>
     ensures { IfOk result (λ json. view json ≡ list_json (map id_json ids.now)) }
 {
     let mut items = Vec::new(alloc);

@@ -9,7 +9,7 @@ use Rattle.ob_io.specs.Cause.{Rose}
 use Rattle.ob_io.specs.Moments.{later}
 use Rattle.ob_fields.specs.FieldsGet.{GetsFields, GetsFieldsCause}
 use Rattle.ob_unlink.specs.Unlink.{UnlinkCause, Unlinks}
-use Rattle.ob_query.specs.Groups.{Groups, GroupsCause}
+use Rattle.ob_group.specs.Groups.{Groups, GroupsCause}
 use Rattle.ob_query.specs.Read.{ReadCause, Reads}
 use Rattle.ob_query.specs.Search.{SearchCause, SearchCountCause, SearchCounts, SearchReadCause, SearchReads, Searches}
 use Rattle.ob_rpc.specs.Envelope.{Envelope, Fault, element_place, envelope_of}

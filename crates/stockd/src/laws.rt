@@ -3,6 +3,7 @@
 ghost use Rattle.stockd.specs.Isolation.{BodiesGoByViews, RepliesGoByViews};
 ghost use Rattle.stockd.specs.Setup.{Setup};
 
+use ob_group::groups_go_by_views;
 use ob_query::reads_go_by_views;
 
 /// What a call that reads tells its caller goes by his view: over two databases that he sees alike
@@ -13,4 +14,5 @@ pub fn replies_go_by_views()
     ensures bodies { (setup : Setup) → BodiesGoByViews setup }
 {
     reads_go_by_views();
+    groups_go_by_views();
 }

@@ -24,7 +24,7 @@ const COUNT_END: u64 = 9_223_372_036_854_775_808;
 
 /// The form of an argument of a search.
 #[derive(Clone, Copy)]
-pub(crate) enum SearchForm<'s> {
+pub enum SearchForm<'s> {
     Domain(Searched<'s>),
     Count,
     Order(Searched<'s>),
@@ -90,7 +90,7 @@ fn count_fault(json: &Json) -> Option<Below<'_>>
 }
 
 /// A number of rows.
-pub(crate) fn count_of(json: &Json) -> Option<u64>
+pub fn count_of(json: &Json) -> Option<u64>
     ensures { result ≡ count_from (view json.now) }
 {
     match json.as_u64() {
@@ -117,7 +117,7 @@ fn order_fault<'j>(
 
 /// The terms of an order, none where it has another form or a field by which rows can't be
 /// ordered.
-pub(crate) fn order_of(
+pub fn order_of(
     alloc: Global,
     schema: &Schema,
     model: ModelNo,
@@ -181,7 +181,7 @@ fn can_order(field: &FieldInfo) -> bool
 }
 
 /// What a search is called with: a domain, from which row on, how many, and an order.
-pub(crate) fn search_parameters(schema: &Schema, model: ModelNo) -> [Parameter<SearchForm<'_>>; 4]
+pub fn search_parameters(schema: &Schema, model: ModelNo) -> [Parameter<SearchForm<'_>>; 4]
     requires { HasModel schema.now model }
     ensures expects { map (expected_of search_fault) result ≡ search_expects schema.now model (fields_at schema.now model) }
     ensures apart { are_apart (codes "context" ∷ names_of result) ≡ true }
@@ -211,7 +211,7 @@ pub(crate) fn search_parameters(schema: &Schema, model: ModelNo) -> [Parameter<S
 }
 
 /// What a count is called with: a domain, and how many rows are counted.
-pub(crate) fn count_parameters(schema: &Schema, model: ModelNo) -> [Parameter<SearchForm<'_>>; 2]
+pub fn count_parameters(schema: &Schema, model: ModelNo) -> [Parameter<SearchForm<'_>>; 2]
     requires { HasModel schema.now model }
     ensures expects { map (expected_of search_fault) result ≡ count_expects schema.now model }
     ensures apart { are_apart (codes "context" ∷ names_of result) ≡ true }
@@ -232,10 +232,7 @@ pub(crate) fn count_parameters(schema: &Schema, model: ModelNo) -> [Parameter<Se
 
 /// What a search that reads is called with: as a search, with fields behind the domain, which
 /// needn't be given.
-pub(crate) fn search_read_parameters(
-    schema: &Schema,
-    model: ModelNo,
-) -> [Parameter<SearchForm<'_>>; 5]
+pub fn search_read_parameters(schema: &Schema, model: ModelNo) -> [Parameter<SearchForm<'_>>; 5]
     requires { HasModel schema.now model }
     ensures expects { map (expected_of search_fault) result ≡ search_read_expects schema.now model (fields_at schema.now model) }
     ensures apart { are_apart (codes "context" ∷ names_of result) ≡ true }

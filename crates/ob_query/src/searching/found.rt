@@ -23,7 +23,7 @@ use std::alloc::Global;
 
 /// The ids of the rows that are sought, in their order, from the first that is asked for on and as
 /// many as are.
-pub(crate) fn sought_ids<K: Keeper>(
+pub fn sought_ids<K: Keeper>(
     alloc: Global,
     engine: &mut Engine<'_, K>,
     sought: &Sought<'_>,
@@ -94,7 +94,7 @@ fn first_found<K: Keeper>(
 }
 
 /// How many rows are found, counted no further than is asked for.
-pub(crate) fn count_found<K: Keeper>(
+pub fn count_found<K: Keeper>(
     alloc: Global,
     engine: &mut Engine<'_, K>,
     sought: &Sought<'_>,
@@ -172,7 +172,7 @@ fn keys_of<K: Keeper>(
 }
 
 /// The next row that is found.
-pub(crate) fn next_found<K: Keeper>(
+pub fn next_found<K: Keeper>(
     alloc: Global,
     engine: &mut Engine<'_, K>,
     sought: &Sought<'_>,

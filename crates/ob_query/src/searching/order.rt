@@ -12,7 +12,7 @@ ghost use Rattle.ob_base.specs.declared.id.FieldNo.{FieldNo};
 ghost use Rattle.ob_base.specs.declared.id.RecId.{RecId};
 ghost use Rattle.ob_base.specs.declared.value.Value.{Value};
 ghost use Rattle.ob_schema.specs.declared.info.OrderTerm.{OrderTerm};
-ghost use Rattle.ob_query.specs.GroupValues.{rising};
+ghost use Rattle.ob_query.specs.SearchKeys.{rising};
 ghost use Rattle.ob_query.specs.SearchKeys.{AreKeyed, key_order, key_order_total};
 ghost use Rattle.ob_query.specs.SearchOrder.{AreOrdered, unset_last, window};
 
@@ -22,9 +22,9 @@ use std::cmp::Ordering;
 
 /// What a row holds for a term of an order, and whether rows fall by it.
 #[derive(Drop)]
-pub(crate) struct Key {
-    pub(crate) descending: bool,
-    pub(crate) value: Value,
+pub struct Key {
+    pub descending: bool,
+    pub value: Value,
 }
 
 impl PartialEq for Key {
@@ -70,7 +70,7 @@ impl Ord for Key {
 }
 
 /// The key of a value by which rows rise.
-pub(crate) fn rising(value: Value) -> Key
+pub fn rising(value: Value) -> Key
     ensures { result ≡ rising value }
 {
     Key {
@@ -94,13 +94,13 @@ fn is_unset(value: &Value) -> bool
 
 /// A row that was found, with its keys.
 #[derive(Drop, PartialEq, Eq, PartialOrd, Ord)]
-pub(crate) struct Ranked {
-    pub(crate) keys: Vec<Key>,
-    pub(crate) id: RecId,
+pub struct Ranked {
+    pub keys: Vec<Key>,
+    pub id: RecId,
 }
 
 /// The ids of rows in their order: from one on, at most so many, 0 being no limit.
-pub(crate) fn ids_in_order(
+pub fn ids_in_order(
     alloc: Global,
     rows: Vec<Ranked>,
     offset: u64,
@@ -115,7 +115,7 @@ pub(crate) fn ids_in_order(
 }
 
 /// Some of these rows: from one on, at most so many, 0 being no limit.
-pub(crate) fn window_of<T>(rows: &[T], offset: u64, limit: u64) -> &[T]
+pub fn window_of<T>(rows: &[T], offset: u64, limit: u64) -> &[T]
     ensures { result.now ≡ window offset limit rows.now }
 {
     let rest = &rows[rows.len().min(offset as usize)..];

@@ -26,7 +26,7 @@ use ob_tables::initial_value;
 use std::alloc::Global;
 
 /// Whether an id exists, whoever asks.
-pub(crate) fn exists<K: Keeper>(
+pub fn exists<K: Keeper>(
     engine: &mut Engine<'_, K>,
     model: ModelNo,
     id: RecId,
@@ -45,7 +45,7 @@ pub(crate) fn exists<K: Keeper>(
 }
 
 /// Whether a caller sees a row.
-pub(crate) fn is_known<K: Keeper>(
+pub fn is_known<K: Keeper>(
     alloc: Global,
     engine: &mut Engine<'_, K>,
     by: &Caller<'_>,
@@ -65,7 +65,7 @@ pub(crate) fn is_known<K: Keeper>(
 }
 
 /// What a caller sees of a field of a row that he sees.
-pub(crate) fn value_in<K: Keeper>(
+pub fn value_in<K: Keeper>(
     alloc: Global,
     engine: &mut Engine<'_, K>,
     by: &Caller<'_>,
@@ -94,7 +94,7 @@ pub(crate) fn value_in<K: Keeper>(
 }
 
 /// Whether a row that a caller sees meets the domain that he seeks by.
-pub(crate) fn meets<K: Keeper>(
+pub fn meets<K: Keeper>(
     alloc: Global,
     engine: &mut Engine<'_, K>,
     sought: &Sought<'_>,

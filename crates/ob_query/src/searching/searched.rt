@@ -7,8 +7,8 @@ use ob_schema::Schema;
 
 /// A model of a registry.
 #[derive(Clone, Copy)]
-pub(crate) struct Searched<'s> {
-    pub(crate) schema: &'s Schema,
-    pub(crate) model: ModelNo,
+pub struct Searched<'s> {
+    pub schema: &'s Schema,
+    pub model: ModelNo,
     pub ghost known: { HasModel schema.now model },
 }

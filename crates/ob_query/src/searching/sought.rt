@@ -30,34 +30,34 @@ use std::alloc::Global;
 /// domain, and in which a field is true where it asks for one, in an order, from one on, at most so many
 /// (0 is no limit).
 #[derive(Drop)]
-pub(crate) struct Sought<'c> {
-    pub(crate) by: Caller<'c>,
-    pub(crate) model: ModelNo,
-    pub(crate) domain: Domain,
-    pub(crate) active: Option<FieldNo>,
-    pub(crate) order: Sequence<OrderTerm>,
-    pub(crate) offset: u64,
-    pub(crate) limit: u64,
+pub struct Sought<'c> {
+    pub by: Caller<'c>,
+    pub model: ModelNo,
+    pub domain: Domain,
+    pub active: Option<FieldNo>,
+    pub order: Sequence<OrderTerm>,
+    pub offset: u64,
+    pub limit: u64,
 }
 
 /// What is asked for of rows that are told: which rows, and the fields of their objects.
 #[derive(Drop)]
-pub(crate) struct SoughtObjects<'c> {
-    pub(crate) sought: Sought<'c>,
-    pub(crate) fields: Vec<FieldNo>,
+pub struct SoughtObjects<'c> {
+    pub sought: Sought<'c>,
+    pub fields: Vec<FieldNo>,
 }
 
 /// The arguments of a search, each where it is given.
 #[derive(Clone, Copy)]
-pub(crate) struct Arguments<'j> {
-    pub(crate) domain: Option<Given<'j>>,
-    pub(crate) offset: Option<Given<'j>>,
-    pub(crate) limit: Option<Given<'j>>,
-    pub(crate) order: Option<Given<'j>>,
+pub struct Arguments<'j> {
+    pub domain: Option<Given<'j>>,
+    pub offset: Option<Given<'j>>,
+    pub limit: Option<Given<'j>>,
+    pub order: Option<Given<'j>>,
 }
 
 /// What a call searches for by its arguments.
-pub(crate) fn sought_by<'c>(
+pub fn sought_by<'c>(
     alloc: Global,
     schema: &Schema,
     by: Caller<'c>,
@@ -88,7 +88,7 @@ pub(crate) fn sought_by<'c>(
 }
 
 /// What a call searches for by its arguments, and the fields that it names, or all.
-pub(crate) fn objects_by<'c>(
+pub fn objects_by<'c>(
     alloc: Global,
     schema: &Schema,
     by: Caller<'c>,
@@ -114,7 +114,7 @@ pub(crate) fn objects_by<'c>(
 
 /// The same search, in the order of the terms alone whose fields the caller may read: of a model's
 /// own order the others are passed over.
-pub(crate) fn in_told_order<'c>(alloc: Global, sought: Sought<'c>) -> Result<Sought<'c>, NoMemory>
+pub fn in_told_order<'c>(alloc: Global, sought: Sought<'c>) -> Result<Sought<'c>, NoMemory>
     ensures sought { IfOk result (λ told. sought_view told ≡ told_sought sought.entry.by sought.entry.model (sought_view sought.entry)) }
     ensures by { IfOk result (λ told. told.by ≡ sought.entry.by) }
     ensures model { IfOk result (λ told. told.model ≡ sought.entry.model) }
@@ -142,7 +142,7 @@ pub(crate) fn in_told_order<'c>(alloc: Global, sought: Sought<'c>) -> Result<Sou
 }
 
 /// The same search that reads, in the order and with the fields that the caller is told.
-pub(crate) fn told_objects<'c>(
+pub fn told_objects<'c>(
     alloc: Global,
     asked: SoughtObjects<'c>,
 ) -> Result<SoughtObjects<'c>, NoMemory>
@@ -155,7 +155,7 @@ pub(crate) fn told_objects<'c>(
 }
 
 /// Of some fields of a model those that the caller may read.
-pub(crate) fn told_fields(
+pub fn told_fields(
     alloc: Global,
     by: &Caller<'_>,
     model: ModelNo,
@@ -287,7 +287,7 @@ fn own_order(
 }
 
 /// The number of rows that is given; 0 where none is.
-pub(crate) fn count_given(given: Option<Given<'_>>) -> u64
+pub fn count_given(given: Option<Given<'_>>) -> u64
     ensures { result ≡ count_given (option_map given_of given.entry) }
 {
     match given {

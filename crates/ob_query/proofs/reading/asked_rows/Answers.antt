@@ -17,7 +17,7 @@ use Rattle.ob_call.specs.ArgumentsSteps.{all_given_of, given_of}
 use Rattle.ob_call.specs.Called.{called_by}
 use Rattle.ob_call.specs.Forms.{fields_at}
 use Rattle.ob_call.specs.declared.arguments.Given.{Given}
-use Rattle.ob_query.proofs.Granted.{allowed_in, denied_asked, denied_by, granted_allowed}
+use Rattle.ob_query.proofs.GrantedFields.{allowed_in, denied_asked, denied_by, granted_allowed}
 use Rattle.ob_query.proofs.ReadAnswers.{StandsForRead, IsToldRead, meant_by, named_read, read_pairs, read_stands, taken_read, three_are, three_given}
 use Rattle.ob_query.specs.Callers.{IsGranted, in_turn, is_first, may_read_field}
 use Rattle.ob_query.specs.NamedFields.{name_fields, read_named}

@@ -5,7 +5,7 @@ use Rattle.ob_cache.specs.Calls.{KeeperRose, standpoint}
 use Rattle.ob_call.specs.Called.{called_by, result_view}
 use Rattle.ob_query.proofs.Asked.{asked_then, rests_on, tells_tables}
 use Rattle.ob_query.proofs.Callers.{tells_tables_to}
-use Rattle.ob_query.proofs.Granted.{everywhere}
+use Rattle.ob_query.proofs.GrantedFields.{everywhere}
 use Rattle.ob_query.proofs.ReadAnswers.{StandsForRead, as_read, hidden_causes, hidden_here, least_here, missing_answered, missing_cause, read_cause, rows_answered, told_here}
 use Rattle.ob_query.proofs.SearchAnswers.{denied_cause_at, denied_view_at, fails_cause, fails_in, told_later}
 use Rattle.ob_query.specs.NamedFields.{read_named}

@@ -7,7 +7,7 @@ use Rattle.ob_call.specs.ArgumentsSteps.{given_of}
 use Rattle.ob_call.specs.Forms.{fields_at}
 use Rattle.ob_domain.specs.Naming.{named_fields}
 use Rattle.ob_domain.specs.Trees.{tree_of_domain}
-use Rattle.ob_query.proofs.Granted.{denied_allowed, granted_allowed}
+use Rattle.ob_query.proofs.GrantedFields.{denied_allowed, granted_allowed}
 use Rattle.ob_query.proofs.NamedBy.{named_is, three_names}
 use Rattle.ob_query.specs.Callers.{IsGranted, in_turn, is_first}
 use Rattle.ob_query.specs.NamedFields.{name_fields}

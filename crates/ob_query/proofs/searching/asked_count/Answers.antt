@@ -6,7 +6,7 @@ use Rattle.ob_base.specs.declared.id.ModelNo.{ModelNo}
 use Rattle.ob_call.specs.ArgumentsSteps.{all_given_of}
 use Rattle.ob_call.specs.Called.{called_by}
 use Rattle.ob_call.specs.declared.arguments.Given.{Given}
-use Rattle.ob_query.proofs.Granted.{allowed_in, allowed_ok, denied_by}
+use Rattle.ob_query.proofs.GrantedFields.{allowed_in, allowed_ok, denied_by}
 use Rattle.ob_query.proofs.SearchAnswers.{count_pairs, named_count, taken_count, two_are}
 use Rattle.ob_query.specs.Callers.{IsAllowed, in_turn}
 use Rattle.ob_query.specs.NamedFields.{count_named}

@@ -11,7 +11,7 @@ use Rattle.ob_call.specs.ArgumentsSteps.{all_given_of}
 use Rattle.ob_call.specs.Called.{called_by}
 use Rattle.ob_call.specs.Forms.{fields_at, names_fault}
 use Rattle.ob_call.specs.declared.arguments.Given.{Given}
-use Rattle.ob_query.proofs.Granted.{allowed_in, allowed_ok, denied_by}
+use Rattle.ob_query.proofs.GrantedFields.{allowed_in, allowed_ok, denied_by}
 use Rattle.ob_query.proofs.SearchReadAnswers.{StandsForObjects, five_are, five_first, five_given, five_last, named_objects, objects_pairs, taken_objects, told_stands}
 use Rattle.ob_query.specs.Callers.{IsAllowed, in_turn, may_read_field}
 use Rattle.ob_query.specs.NamedFields.{objects_named}

@@ -7,7 +7,7 @@ use Rattle.ob_call.specs.Called.{called_by}
 use Rattle.ob_call.specs.Arguments.{Expected}
 use Rattle.ob_call.specs.Forms.{fields_at}
 use Rattle.ob_call.specs.declared.arguments.Given.{Given}
-use Rattle.ob_query.proofs.Granted.{allowed_in, allowed_ok, denied_by}
+use Rattle.ob_query.proofs.GrantedFields.{allowed_in, allowed_ok, denied_by}
 use Rattle.ob_query.proofs.SearchAnswers.{StandsFor, four_are, four_given, four_last, named_search, search_pairs, taken_search}
 use Rattle.ob_query.specs.Callers.{IsAllowed, in_turn}
 use Rattle.ob_query.specs.NamedFields.{search_named}

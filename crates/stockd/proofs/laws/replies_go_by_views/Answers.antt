@@ -2,7 +2,7 @@
 use Rattle.std.proofs.Common.{◌≡◌, ℤ, List, Option, Some, None, Result, Ok, Err, IsSomeAnd, refl, subst, sym}
 use Rattle.ob_base.specs.declared.refusal.Refusal.{Refusal}
 use Rattle.ob_call.specs.Called.{Called}
-use Rattle.ob_query.specs.Groups.{Groups}
+use Rattle.ob_group.specs.Groups.{Groups}
 use Rattle.ob_query.specs.Isolation.{AreViewedAlike, GoesByView}
 use Rattle.ob_query.specs.Read.{Reads}
 use Rattle.ob_query.specs.Search.{SearchCounts, SearchReads, Searches}
@@ -43,7 +43,7 @@ pub returns-clause-calls : goal.returns-clause-calls
 returns-clause-calls c setup id call now one other is_reading alike reply answers =
     let law = c.reads_go_by_views.ensures in (
       answers.0,
-      means_alike law.reads law.searches law.counts law.objects law.groups setup call now one other alike is_reading answers.0 (model_at setup.models call.model) refl answers.1,
+      means_alike law.reads law.searches law.counts law.objects c.groups_go_by_views.ensures setup call now one other alike is_reading answers.0 (model_at setup.models call.model) refl answers.1,
       answers.2,
     )
 

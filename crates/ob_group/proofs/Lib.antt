@@ -1,0 +1,11 @@
+pub mod PeriodDays
+pub mod Distinct
+pub mod ToldAmounts
+pub mod GroupTexts
+pub mod GroupKeys
+pub mod GatheredRows
+pub mod ToldGroups
+pub mod GroupsAsked
+pub mod GroupsAnswers
+pub mod GroupIsolation
+pub mod NamedBy

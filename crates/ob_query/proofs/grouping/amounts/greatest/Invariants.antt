@@ -1,9 +1,0 @@
-use Rattle.std.proofs.Common.{◌≡◌, drop}
-use Rattle.ob_query.proofs.Amounts.{greater_of}
-use Rattle.ob_query.specs.GroupAmounts.{greatest}
-use Rattle.ob_query.specs.GroupValues.{column_of}
-use Rattle.ob_query.proofs.grouping.amounts.greatest.Given as goal
-
--- with what is left it is the greatest of all
-abbrev pub invariant-loop-row : goal.invariant-loop-row
-invariant-loop-row l = greater_of l.greatest (greatest (column_of l.number (drop l.row-index l.rows))) ≡ greatest (column_of l.number l.rows)
