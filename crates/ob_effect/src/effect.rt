@@ -3,8 +3,8 @@
 //! then those of its parents, then the commands on its lists, by byte order of names.
 //!
 //! Rooms: `parents` (what becomes of a row's parents), `own` (which values of an object are the
-//! row's own, and which a parent's), `listed` (the lists that commands on a row mean) and `named`
-//! (whether the rows that a command names are there).
+//! row's own, and which a parent's), `made` (which rows an object makes), `listed` (the lists that
+//! commands on a row mean) and `named` (whether the rows that a command names are there).
 
 ghost use Rattle.std.specs.Prelude.{◌≡◌, All, IfErr, IfOk, IfSome, List, true};
 ghost use Rattle.ob_cache.specs.Calls.{Refuses};
@@ -22,6 +22,7 @@ ghost use Rattle.ob_schema.specs.declared.info.ModelInfo.{ModelInfo};
 ghost use Rattle.serde_json.specs.View.{view};
 
 mod listed;
+mod made;
 mod named;
 pub(crate) mod own;
 mod parents;
@@ -29,6 +30,7 @@ mod parents;
 use crate::cells::row_of;
 use crate::deletion::delete;
 use crate::effect::listed::{Listed, is_gone, lists_of};
+use crate::effect::made::Made;
 use crate::effect::named::names_rows;
 use crate::effect::own::own_values;
 use crate::effect::parents::{change_parents, make_parents};
@@ -63,8 +65,8 @@ pub fn create_row<K: Keeper>(
     ensures step { IsStep K.Keeper writer.entry.now.by engine.old engine.new notes.new result }
     ensures taken { IfOk result (λ id. Takes K.Keeper model id engine.old engine.new) }
 {
-    let mut made = Vec::new(writer.alloc);
-    let links = make_parents(engine, writer, notes, model, object, back, &mut made)?;
+    let mut parents = Vec::new(writer.alloc);
+    let links = make_parents(engine, writer, notes, model, object, back, &mut parents)?;
     let own = own_values(writer.alloc, writer.schema, model, object, links.as_slice())?;
     let row = make_row(
         engine,
@@ -74,9 +76,9 @@ pub fn create_row<K: Keeper>(
         own.as_slice(),
         links.as_slice(),
     )?;
-    made.push(row)?;
-    change_parents(engine, writer, notes, row, object, made.as_slice())?;
-    carry_all(engine, writer, notes, row, object, made.as_slice())?;
+    let made = Made::Row(parents.as_slice());
+    change_parents(engine, writer, notes, row, object, made)?;
+    carry_all(engine, writer, notes, row, object, made)?;
     Ok(row.id)
 }
 
@@ -99,8 +101,8 @@ pub fn write_row<K: Keeper>(
     note_touch(notes, writer.schema, &writer.by, Op::Write, row)?;
     let own = own_values(writer.alloc, writer.schema, row.model, object, &[])?;
     set_values(engine, writer, notes, row, own.as_slice())?;
-    change_parents(engine, writer, notes, row, object, &[])?;
-    carry_all(engine, writer, notes, row, object, &[])
+    change_parents(engine, writer, notes, row, object, Made::Nothing)?;
+    carry_all(engine, writer, notes, row, object, Made::Nothing)
 }
 
 /// Carries out the commands on the lists of a row and of its parents, of the rows that its links
@@ -112,7 +114,7 @@ fn carry_all<K: Keeper>(
     notes: &mut Notes,
     row: RowKey,
     object: &Object,
-    made: &[RowKey],
+    made: Made<'_>,
 ) -> Result<(), Refusal>
     requires writer { IsWriterOver engine.old.held.models writer.now }
     requires usable { IsUsable engine.old.held.phase }
@@ -135,7 +137,7 @@ fn carry_field<K: Keeper>(
     notes: &mut Notes,
     row: RowKey,
     one: Listed<'_>,
-    made: &[RowKey],
+    made: Made<'_>,
 ) -> Result<(), Refusal>
     requires writer { IsWriterOver engine.old.held.models writer.now }
     requires usable { IsUsable engine.old.held.phase }
@@ -150,18 +152,18 @@ fn carry_field<K: Keeper>(
     }
     let list = list_of(writer.schema, one.cell);
     let commands = one.orders.commands.as_slice();
-    if is_kept_fixed(writer, one.cell, made) {
+    if is_kept_fixed(writer, one, made) {
         carry_fixed(engine, writer, notes, list, commands)
     } else {
         carry_list(engine, writer, notes, list, commands)
     }
 }
 
-/// Whether a list is fixed: its field is, and its row isn't one of those that are just made.
-fn is_kept_fixed(writer: &Writer<'_>, cell: Cell, made: &[RowKey]) -> bool
-    requires { HasField writer.now.schema.now cell.model cell.field }
+/// Whether a list is fixed: its field is, and its row isn't one that the object makes.
+fn is_kept_fixed(writer: &Writer<'_>, one: Listed<'_>, made: Made<'_>) -> bool
+    requires { HasField writer.now.schema.now one.cell.model one.cell.field }
 {
-    writer.schema.info(cell.model, cell.field).fixed && !made.iter().any(|row| *row == row_of(cell))
+    writer.schema.info(one.cell.model, one.cell.field).fixed && !made.has_row(one.behind)
 }
 
 /// Carries out commands on a fixed list, which may not change by them.

@@ -19,10 +19,12 @@ use ob_cache::Engine;
 use ob_io::Keeper;
 use ob_schema::Origin;
 
-/// A list that commands are given, by its cell.
+/// A list that commands are given, by its cell, and the link behind which this stands: none of the
+/// row's own.
 #[derive(Clone, Copy)]
 pub(crate) struct Listed<'o> {
     pub(crate) cell: Cell,
+    pub(crate) behind: Option<FieldNo>,
     pub(crate) orders: &'o Orders,
 }
 
@@ -44,35 +46,45 @@ pub(crate) fn lists_of<'o, K: Keeper>(
 {
     let mut lists = Vec::new(writer.alloc);
     for orders in all {
-        if let Some(cell) = own_cell(engine, writer, row, orders.field)? {
-            lists.push(Listed { cell, orders })?;
+        if let Some(one) = meant_list(engine, writer, row, orders)? {
+            lists.push(one)?;
         }
     }
     Ok(lists)
 }
 
-/// The cell of a list of a row; of a delegated one that of the parent's row, where one is linked.
-fn own_cell<K: Keeper>(
+/// A list of a row that commands are given; of a delegated one that of the parent's row, where one
+/// is linked.
+fn meant_list<'o, K: Keeper>(
     engine: &mut Engine<'_, K>,
     writer: &Writer<'_>,
     row: RowKey,
-    field: FieldNo,
-) -> Result<Option<Cell>, Refusal>
+    orders: &'o Orders,
+) -> Result<Option<Listed<'o>>, Refusal>
     requires over { writer.now.schema.now ≡ engine.old.held.models }
     requires usable { IsUsable engine.old.held.phase }
-    requires field { FieldHas engine.old.held.models (λ info. is_list info.field_type ≡ true) row.model field }
-    ensures list { IfOk result (λ cell. IfSome cell (λ cell. IsListField engine.old.held.models cell.model cell.field)) }
+    requires field { FieldHas engine.old.held.models (λ info. is_list info.field_type ≡ true) row.model orders.now.field }
+    ensures list { IfOk result (λ list. IfSome list (λ one. IsListField engine.old.held.models one.cell.model one.cell.field)) }
+    ensures orders { IfOk result (λ list. IfSome list (λ one. one.orders.now ≡ orders.now)) }
     ensures causes { IfErr result (Refuses (Rose (K.faults engine.old.keeper.now) (K.faults engine.new.keeper.now)) (λ _. ⊥)) }
     ensures asked { Asks K.Keeper engine.old engine.new }
 {
     // The law of registries, by which a delegated field has the keys of the parent's.
     writer.schema.parts_fit_together();
-    match &writer.schema.info(row.model, field).origin {
+    match &writer.schema.info(row.model, orders.field).origin {
         Origin::Delegated(at) => match linked_row(engine, cell_of(row, at.link), at.model)? {
-            Some(parent) => Ok(Some(cell_of(parent, at.field))),
+            Some(parent) => Ok(Some(Listed {
+                cell: cell_of(parent, at.field),
+                behind: Some(at.link),
+                orders,
+            })),
             None => Ok(None),
         },
-        _ => Ok(Some(cell_of(row, field))),
+        _ => Ok(Some(Listed {
+            cell: cell_of(row, orders.field),
+            behind: None,
+            orders,
+        })),
     }
 }
 

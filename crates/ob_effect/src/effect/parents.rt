@@ -11,6 +11,7 @@ ghost use Rattle.ob_effect.specs.Rows.{IsLink};
 ghost use Rattle.ob_schema.specs.Models.{HasField, HasModel};
 
 use crate::cells::cell_of;
+use crate::effect::made::Made;
 use crate::effect::own::{behind, field_behind, gives_behind, is_linked};
 use crate::notes::{Notes, note_given, note_touch};
 use crate::object::Object;
@@ -22,7 +23,7 @@ use ob_io::Keeper;
 use ob_schema::ParentInfo;
 
 /// Makes the parents of a row that no id links, and gives the links of the row: the one back to a
-/// list that makes it, and those to the parents that are made.
+/// list that makes it, and those to the parents that are made, which `made` gets too.
 pub(crate) fn make_parents<K: Keeper>(
     engine: &mut Engine<'_, K>,
     writer: &Writer<'_>,
@@ -30,7 +31,7 @@ pub(crate) fn make_parents<K: Keeper>(
     model: ModelNo,
     object: &Object,
     back: Option<LinkTo>,
-    made: &mut Vec<RowKey>,
+    made: &mut Vec<FieldNo>,
 ) -> Result<Vec<LinkTo>, Refusal>
     requires writer { IsWriterOver engine.old.held.models writer.now }
     requires usable { IsUsable engine.old.held.phase }
@@ -63,7 +64,7 @@ fn make_parent<K: Keeper>(
     object: &Object,
     parent: ParentInfo,
     links: &mut Vec<LinkTo>,
-    made: &mut Vec<RowKey>,
+    made: &mut Vec<FieldNo>,
 ) -> Result<(), Refusal>
     requires writer { IsWriterOver engine.old.held.models writer.now }
     requires usable { IsUsable engine.old.held.phase }
@@ -81,7 +82,7 @@ fn make_parent<K: Keeper>(
     writer.schema.parts_fit_together();
     let values = behind(writer.alloc, writer.schema, model, parent, object)?;
     let row = make_row(engine, writer, notes, parent.model, values.as_slice(), &[])?;
-    made.push(row)?;
+    made.push(link)?;
     links.push(LinkTo {
         field: link,
         id: row.id,
@@ -89,14 +90,14 @@ fn make_parent<K: Keeper>(
     Ok(())
 }
 
-/// Writes what is given behind links to the rows that these name, but to those that were made with it.
+/// Writes what is given behind links to the rows that these name, but to parents made with it.
 pub(crate) fn change_parents<K: Keeper>(
     engine: &mut Engine<'_, K>,
     writer: &Writer<'_>,
     notes: &mut Notes,
     row: RowKey,
     object: &Object,
-    made: &[RowKey],
+    made: Made<'_>,
 ) -> Result<(), Refusal>
     requires writer { IsWriterOver engine.old.held.models writer.now }
     requires usable { IsUsable engine.old.held.phase }
@@ -120,7 +121,7 @@ fn change_parent<K: Keeper>(
     row: RowKey,
     object: &Object,
     parent: ParentInfo,
-    made: &[RowKey],
+    made: Made<'_>,
 ) -> Result<(), Refusal>
     requires writer { IsWriterOver engine.old.held.models writer.now }
     requires usable { IsUsable engine.old.held.phase }
@@ -129,7 +130,7 @@ fn change_parent<K: Keeper>(
     requires object { IsObjectFor engine.old.held.models row.model object.now }
     ensures step { IsStep K.Keeper writer.entry.now.by engine.old engine.new notes.new result }
 {
-    if !gives_behind(writer.schema, row.model, parent, object) {
+    if made.has_parent(parent.link) || !gives_behind(writer.schema, row.model, parent, object) {
         return Ok(());
     }
     // The law of registries, by which a link to a parent is a many2one to its model.
@@ -138,9 +139,6 @@ fn change_parent<K: Keeper>(
     let Some(linked) = linked_row(engine, link, parent.model)? else {
         return note_dangling(engine, writer, notes, link, parent, object);
     };
-    if made.iter().any(|row| *row == linked) {
-        return Ok(());
-    }
     note_touch(notes, writer.schema, &writer.by, Op::Write, linked)?;
     let values = behind(writer.alloc, writer.schema, row.model, parent, object)?;
     set_values(engine, writer, notes, linked, values.as_slice())

@@ -330,14 +330,6 @@ create_row-returns-in_err-row-clause-step g t c =
     let left = c.from_residual-in_err-row in
     fails k by left.result c.make_row.new.notes a d why left.ensures.1 (stopped k by a b d why c.in_ok-links.ensures.step.0 c.in_err-row.ensures.step)
 
-pub create_row-returns-in_err-push-clause-step : goal.create_row-returns-in_err-push-clause-step
-create_row-returns-in_err-push-clause-step g t c =
-    let k = g.K.Keeper in let by = c.args.writer.now.by in let a = c.args.engine.now in let b = c.make_parents.new.engine in let d = c.make_row.new.engine in
-    let first = c.in_ok-links.ensures.step in let left = c.from_residual-in_err-push in
-    let made : Goes k a b c.make_parents.new.notes = record { edits = first.0; noted = first.1 } in
-    let far = goes_stepped k a b d c.make_parents.new.notes c.make_row.new.notes made c.in_ok-row.ensures.step in
-    starves k by left.result c.make_row.new.notes a d left.ensures.1 far.edits
-
 pub create_row-returns-in_err-change_parents-clause-step : goal.create_row-returns-in_err-change_parents-clause-step
 create_row-returns-in_err-change_parents-clause-step g t c =
     let k = g.K.Keeper in let by = c.args.writer.now.by in let a = c.args.engine.now in let b = c.make_parents.new.engine in let d = c.make_row.new.engine in let e = c.change_parents.new.engine in

@@ -47,13 +47,6 @@ returns-in_default g c =
     let far = goes_asked g.K.Keeper a a b n (goes_none g.K.Keeper a n c.requires.usable c.requires.noted) c.linked_row.ensures.asked in
     record { step = steps_last g.K.Keeper c.args.writer.now.by c.note_dangling.result n c.note_dangling.new.notes a b c.note_dangling.new.engine far c.note_dangling.ensures.step }
 
-pub returns-then-any : goal.returns-then-any
-returns-then-any g c =
-    let a = c.args.engine.now in
-    let n = c.args.notes.now in
-    let far = goes_asked g.K.Keeper a a c.linked_row.new.engine n (goes_none g.K.Keeper a n c.requires.usable c.requires.noted) c.linked_row.ensures.asked in
-    record { step = (far.edits, far.noted) }
-
 pub note_touch-requires : goal.note_touch-requires
 note_touch-requires g c =
     let held = c.args.engine.now.held.models in
