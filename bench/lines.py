@@ -1,5 +1,5 @@
 """The lines that the benches ask: lines.py CALL SIZE writes the line of a call at a size, for one of
-the probes, or for `requests` the input of stockd. run.sh says what is measured with them."""
+the probes, or so many requests to stockd. run.sh says what is measured with them."""
 import json
 import sys
 
@@ -163,27 +163,58 @@ def priced(n, others):
     return closes(models, ['["makes","m.p",1,2,[]]', '["makes","m.o",1,2,[]]', *lines], ['["set","m.p",1,"price",5]'])
 
 
+def call(model, method, arguments, number):
+    """A request to stockd."""
+    return '{"jsonrpc":"2.0","method":"call","params":{"service":"object","method":"execute_kw","args":["stock",2,"admin","%s","%s",%s]},"id":%d}' % (
+        model, method, arguments, number)
+
+
+def line_of(k):
+    """The values of a line of this number."""
+    return '{"name":"line %d","qty":%d,"price":%d}' % (k, k % 97, k % 89)
+
+
 def requests(n):
     """So many creates, with one read after each hundred."""
     lines = []
-
-    def line(method, arguments, number):
-        lines.append('{"jsonrpc":"2.0","method":"call","params":{"service":"object","method":"execute_kw","args":["stock",2,"admin","demo.line","%s",%s]},"id":%d}' % (
-            method, arguments, number))
-
     for k in range(1, n + 1):
-        line("create", '[{"name":"line %d","qty":%d,"price":%d}]' % (k, k % 97, k % 89), k)
+        lines.append(call("demo.line", "create", "[%s]" % line_of(k), k))
         if k % 100 == 0:
-            line("read", '[[%d],["name","subtotal"]]' % (k - k % 7), n + k)
+            lines.append(call("demo.line", "read", '[[%d],["name","subtotal"]]' % (k - k % 7), n + k))
     return "\n".join(lines)
+
+
+def asked_first(calls):
+    """A read, and calls behind it."""
+    return "\n".join([call("demo.line", "read", '[[],["qty"]]', 0), *calls])
+
+
+def creates(n):
+    return asked_first(call("demo.line", "create", "[%s]" % line_of(k), k) for k in range(1, n + 1))
+
+
+def changes(n):
+    """So many writes of one row."""
+    return asked_first(call("demo.line", "write", '[[1],{"qty":%d}]' % (k % 97), k) for k in range(1, n + 1))
+
+
+def objects(n):
+    """A create of so many rows in one call."""
+    return asked_first([call("demo.line", "create", "[[%s]]" % listed(map(line_of, range(1, n + 1))), 1)])
+
+
+def moves(n, rows=1000):
+    """A tree, of which two rows are roots and so many stand below one of them, two below each; and moves of
+    these from one root to the other, in turn."""
+    ups = ["false", "false", "1", *(str(k // 2 + 2) for k in range(2, rows + 1))]
+    made = call("demo.place", "create", "[[%s]]" % listed('{"name":"a","parent_id":%s}' % up for up in ups), 0)
+    return "\n".join([made, *(call("demo.place", "write", '[[3],{"parent_id":%d}]' % (k % 2 + 1), k) for k in range(1, n + 1))])
 
 
 def writes(n, rows=2000):
     """So many rows made by one call, of which one is written so many times."""
-    form = '{"jsonrpc":"2.0","method":"call","params":{"service":"object","method":"execute_kw","args":["stock",2,"admin","demo.line","%s",%s]},"id":%d}'
-    lines = [form % ("create", '[[%s]]' % listed(['{"name":"bolt","qty":3,"price":25}'] * rows), 0)]
-    lines += [form % ("write", '[[%d],{"qty":%d}]' % (k % rows + 1, k % 97), k) for k in range(1, n + 1)]
-    return "\n".join(lines)
+    made = call("demo.line", "create", "[[%s]]" % listed(['{"name":"bolt","qty":3,"price":25}'] * rows), 0)
+    return "\n".join([made, *(call("demo.line", "write", '[[%d],{"qty":%d}]' % (k % rows + 1, k % 97), k) for k in range(1, n + 1))])
 
 
 def settles(n, rows=2000):
@@ -196,8 +227,7 @@ def settles(n, rows=2000):
 
 def searches(n, method, arguments):
     """The same search so many times."""
-    return "\n".join('{"jsonrpc":"2.0","method":"call","params":{"service":"object","method":"execute_kw","args":["stock",2,"admin","demo.line","%s",%s]},"id":%d}' % (
-        method, arguments, k) for k in range(1, n + 1))
+    return "\n".join(call("demo.line", method, arguments, k) for k in range(1, n + 1))
 
 
 def told(n):
@@ -216,6 +246,7 @@ CALLS = {"admissions": lambda n: four(n, '[2,[1,4],"m.a",1,"read","row"]'), "rig
          "child_of": lambda n: places(n, 1, '["id","child_of",3]'), "criteria": lambda n: places(0, n, '["up.up.name","not ilike","a%b"]'),
          "checked": checked, "chosen": chosen, "summed": summed, "small": small, "large": large, "modules": modules, "registry": registry,
          "takes": takes, "move_lines": move_lines, "pull_chain": pull_chain, "requests": requests, "writes": writes, "settles": settles,
+         "creates": creates, "changes": changes, "objects": objects, "moves": moves,
          "chains": chains, "tree": tree, "fan": lambda n: priced(n, 1), "others": lambda n: priced(1000, n),
          "found": lambda n: searches(n, "search", '[[["qty",">=",990]],0,false,"id"]'),
          "ordered": lambda n: searches(n, "search", '[[],0,10,"price desc"]'),

@@ -1,21 +1,23 @@
 #!/usr/bin/env bash
 # Measures: bench/run.sh NAME.., of the names in the table below. README.md says what each prints,
 # and what was read. SIZE and TIMES, where they are set, stand for the table's. By the proved
-# programs, which `tools/build.sh PROGRAM` builds, and which make each call as often as their
-# input says: reading the line and telling the answer are taken off. The least of five runs
-# counts. Figures, no test.
+# programs, which `tools/build.sh PROGRAM` builds, or by the one whose path PROGRAM is, where that
+# is set. The probe makes each call as often as its input says: reading the line and telling the
+# answer are taken off. The least of five runs counts. Figures, no test.
 set -euo pipefail
 top=$(cd "$(dirname "$0")/.." && pwd)
 
 # The size of what is asked, and how often (of codec the rows and the values, of http the small
 # requests and the bodies, of store the creates and the rows of a file that is opened, of search the
-# rows and the searches, of write the writes and the runs, of serve the requests and the runs).
+# rows and the searches, of write the writes and the runs, of settle the rows and the calls, of serve
+# the requests and the runs).
 table='
 name         program       size     times
 call         stockd        500      1
 store        stockd        500      100000
 search       stockd        100000   20
-write        stockd        200      3
+write        stockd        5000     3
+settle       stockd        200000   1000
 serve        stockd        50000    5
 codec        probe         5000000  1000000
 expr         probe         1        2000
@@ -138,6 +140,39 @@ bench_write() {
     settled=$(each settles "$("$top/tools/build.sh" proved probe)")
     awk -v w="$written" -v s="$settled" 'BEGIN {
         printf "a write of one row among 2,000: %.2f ms; the engine alone: %.2f ms; ratio %.2f\n", w * 1000, s * 1000, w / s }'
+}
+
+# A new file of so many lines: kept COUNT.
+kept() {
+    rm -f "$work/kept"*
+    lines requests 1 | "$program" call --modules "$top/modules" --load demo --store "$work/kept" >/dev/null
+    python3 "$top/bench/rows.py" fill "$work/kept" "$1"
+}
+
+# What bench/apart.py prints of calls to stockd: apart CALL SIZE BATCHES [WORD..].
+apart() {
+    lines "$1" "$2" >"$work/asked"
+    python3 "$top/bench/apart.py" "$work/asked" "$3" "$program" call --modules "$top/modules" --load demo "${@:4}"
+}
+
+# Creates and writes among the rows of a file, without what opening it takes; moves in a tree of 1,000
+# rows, and a create of many rows, in memory.
+bench_settle() {
+    local rows
+    for rows in $((size / 200)) $((size / 100)) $((size / 20)) $((size / 2)) "$size"; do
+        kept "$rows"
+        echo "$rows $(apart creates "$times" 5 --store "$work/kept")"
+    done >"$work/creates"
+    awk '{
+        printf "%d rows kept: %.0f creates a second of a processor, %.0f by the clock; %.3f ms each\n", $1, 1 / $2, 1 / $3, $2 * 1000
+        rows[NR] = $1; took[NR] = $2; rest[NR] = $4; most[NR] = $5
+    } END {
+        printf "ratio of a create among %d rows to one among %d: %.2f\n", rows[5], rows[2], took[5] / took[2]
+        printf "memory: %.0f bytes a row, %.0f while rows are opened\n", 1024 * (rest[5] - rest[2]) / (rows[5] - rows[2]), 1024 * (most[5] - most[2]) / (rows[5] - rows[2])
+    }' "$work/creates"
+    apart changes "$times" 5 --store "$work/kept" | awk -v n="$size" '{ printf "a write of one row among %d: %.3f ms\n", n, $1 * 1000 }'
+    apart moves $((times / 50)) 5 | awk '{ printf "a move of 1,000 rows of a tree: %.1f ms\n", $1 * 1000 }'
+    apart objects $((size / 20)) 1 | awk -v n=$((size / 20)) '{ printf "a create of %d rows in one call: %.2f s, %.3f ms a row\n", n, $1, $1 * 1000 / n }'
 }
 
 # A message over HTTP with this body.
@@ -279,6 +314,6 @@ for name; do
     read -r found program size times <<<"$(awk -v name="$name" '$1 == name' <<<"$table")"
     [ -n "$found" ] || { echo "no bench of the name $name; there are:$table" >&2; exit 2; }
     size=${SIZE:-$size} times=${TIMES:-$times}
-    program=$("$top/tools/build.sh" proved "$program")
+    program=${PROGRAM:-$("$top/tools/build.sh" proved "$program")}
     "bench_$name"
 done

@@ -30,8 +30,12 @@
 #       login and those near it, ended at every place and cut into pieces of every length;
 #       `tables_deep` trees about as deep as they may be and rows of about as many targets. Each
 #       line of `closes` has ten changes of tables; an answer is right where it holds what the
-#       machine finds changed, and lies within what it finds affected. Prints the first answers
-#       that differ, and how many do.
+#       machine finds changed, and lies within what it finds affected. `settles` gives each of so
+#       many random streams of edits to the plain program, which tests all rows and evaluates each
+#       cell anew, and to an engine, which settles twelve times: the plain answer is to be the
+#       machine's, and the engine's the plain one, of what is broken any; it is to evaluate no
+#       fewer cells than change, and no more than can be reached. Prints the first answers that
+#       differ, and how many do.
 #
 # The machine stands in the folder that ORACLE names (by default ../shared/oracle beside the
 # repository). Where it isn't there nothing is compared, and the status is 0; where it lacks the

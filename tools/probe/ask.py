@@ -29,6 +29,7 @@ PARTS = (("expression_lines", "expression, kinds and evaluate"),
          ("tables_lines", "tables and tables_deep"),
          ("audit_lines", "audit"),
          ("trigger_lines", "closes"),
+         ("settle_lines", "settles"),
          ("stock_lines", "takes, lines, state, split, chain and push"),
          ("http_lines", "http and http_cuts"))
 # The bytes that are asked for at once.
@@ -195,6 +196,11 @@ def makers():
     return found, runs
 
 
+def pairs_of(made):
+    """A line with the answer that is wanted, or several in their order."""
+    return made if isinstance(made, list) else [made]
+
+
 def asked_and_wanted():
     """So many lines with the answers that are wanted, of one word or of all; or all lines of a word of a run."""
     rng, model = random.Random(int(sys.argv[2])), declared()
@@ -206,7 +212,7 @@ def asked_and_wanted():
     if words[0] not in found:
         print("nothing to compare with for %s: skipped" % words[0])
         return []
-    return [found[rng.choice(words)](rng, model) for _ in range(int(sys.argv[3]))]
+    return [pair for _ in range(int(sys.argv[3])) for pair in pairs_of(found[rng.choice(words)](rng, model))]
 
 
 def portions(pairs):

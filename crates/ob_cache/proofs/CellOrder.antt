@@ -1,10 +1,9 @@
 -- Cells in their order, and lists each of whose elements stands before all behind it.
-use Rattle.std.proofs.Common.{◌≡◌, ◌<◌, ◌⊎◌, ◌++◌, inl, inr, ℕ, List, [], ◌∷◌, refl, sym, ap, subst, ◌∙◌}
-use Rattle.std.specs.List.{AllByRecursion}
-use Rattle.std.specs.Ordering.{nat_cmp, ordering_reverse, ordering_then}
+use Rattle.std.proofs.Common.{◌≡◌, ◌<◌, ◌⊎◌, ◌++◌, inl, inr, Bool, true, false, List, [], ◌∷◌, refl, sym, ap, subst, ◌∙◌}
+use Rattle.std.specs.Ordering.{is_eq, nat_cmp, ordering_reverse, ordering_then}
 use Rattle.std.specs.declared.cmp.Ordering.{Ordering}
 use Rattle.std.specs.declared.cmp.Ordering.TheVariants.{Less, Equal, Greater}
-use Rattle.std.specs.Cmp.{nat_cmp_is}
+use Rattle.std.specs.Cmp.{nat_cmp_is, tied_itself}
 use Rattle.std.proofs.lemmas.Cmp.{ranked}
 use Rattle.ob_base.specs.BrokenOrder.{cell_order}
 use Rattle.ob_base.specs.declared.id.Cell.{Cell}
@@ -48,6 +47,41 @@ less-field a b same one low =
     ap (λ (o : Ordering). ordering_then o (ordering_then (nat_cmp a.id.0 b.id.0) (nat_cmp a.field.0 b.field.0))) (sym (nat_cmp_is a.model.0 b.model.0 Equal same))
     ∙ ap (λ (o : Ordering). ordering_then o (nat_cmp a.field.0 b.field.0)) (sym (nat_cmp_is a.id.0 b.id.0 Equal one))
     ∙ sym (nat_cmp_is a.field.0 b.field.0 Less low)
+
+-- only the same cell compares as equal
+pub cell-exact : (a b : Cell) → cell_order a b ≡ Equal → a ≡ b
+cell-exact a b same = by (nat_cmp a.model.0 b.model.0) (nat_cmp a.id.0 b.id.0) (nat_cmp a.field.0 b.field.0) refl refl refl same
+  where
+    parts : a.model.0 ≡ b.model.0 → a.id.0 ≡ b.id.0 → a.field.0 ≡ b.field.0 → a ≡ b
+    parts model id field = λ i. record { model = record { 0 = model i }; id = record { 0 = id i }; field = record { 0 = field i } }
+
+    by : (m i f : Ordering) → m ≡ nat_cmp a.model.0 b.model.0 → i ≡ nat_cmp a.id.0 b.id.0 → f ≡ nat_cmp a.field.0 b.field.0 → ordering_then m (ordering_then i f) ≡ Equal → a ≡ b
+    by Equal Equal Equal model id field is = parts (ranked a.model.0 b.model.0 Equal model) (ranked a.id.0 b.id.0 Equal id) (ranked a.field.0 b.field.0 Equal field)
+    by Equal Equal Less model id field is = absurd cc
+    by Equal Equal Greater model id field is = absurd cc
+    by Equal Less f model id field is = absurd cc
+    by Equal Greater f model id field is = absurd cc
+    by Less i f model id field is = absurd cc
+    by Greater i f model id field is = absurd cc
+
+is_equal : (r : Ordering) → is_eq r ≡ true → r ≡ Equal
+is_equal Less is = cc
+is_equal Equal is = refl
+is_equal Greater is = cc
+
+-- another compares as another
+pub cell-other : (a b : Cell) → (a ≡ b → ⊥) → is_eq (cell_order a b) ≡ false
+cell-other a b apart = by (is_eq (cell_order a b)) refl
+  where
+    by : (t : Bool) → is_eq (cell_order a b) ≡ t → t ≡ false
+    by true same = absurd (apart (cell-exact a b (is_equal (cell_order a b) same)))
+    by false same = refl
+
+pub cell-same : (a b : Cell) → is_eq (cell_order a b) ≡ true → a ≡ b
+cell-same a b same = cell-exact a b (is_equal (cell_order a b) same)
+
+pub cell-itself : (a : Cell) → is_eq (cell_order a a) ≡ true
+cell-itself a = ap is_eq (tied_itself cell_order_total a)
 
 -- ---- lists
 

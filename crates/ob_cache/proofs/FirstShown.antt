@@ -1,5 +1,5 @@
 -- Of several cells that show that no sound tables have the rows of a store, the first is told.
-use Rattle.std.proofs.Common.{◌≡◌, ◌≢◌, ◌<◌, ◌≤◌, ◌⊎◌, ◌++◌, inl, inr, ℕ, Bool, true, false, ◌&&◌, List, ◌∷◌, Some, Ok, refl, sym, ap, subst, ◌∙◌}
+use Rattle.std.proofs.Common.{◌≡◌, ◌≢◌, ◌≤◌, ◌++◌, inl, inr, ℕ, Bool, true, false, ◌&&◌, List, ◌∷◌, Ok, refl, sym, ap, subst, ◌∙◌}
 use Rattle.std.specs.Prelude.{⊤, IsSomeAnd}
 use Rattle.std.specs.FinMap as finite
 use Rattle.std.specs.List.{AllByRecursion, flat_map}
@@ -7,14 +7,11 @@ use Rattle.std.specs.Ordering.{nat_cmp, ordering_then}
 use Rattle.std.specs.declared.cmp.Ordering.{Ordering}
 use Rattle.std.specs.declared.cmp.Ordering.TheVariants.{Less}
 use Rattle.std.proofs.lemmas.Option.{same_Some}
-use Rattle.ob_base.specs.BrokenOrder.{broken_order, cell_order, kind_place}
+use Rattle.ob_base.specs.BrokenOrder.{cell_order, kind_place}
 use Rattle.ob_base.specs.Limits.{max_models}
 use Rattle.ob_base.specs.declared.id.Cell.{Cell}
-use Rattle.ob_base.specs.declared.id.FieldNo.{FieldNo}
 use Rattle.ob_base.specs.declared.id.ModelNo.{ModelNo}
-use Rattle.ob_base.specs.declared.id.RecId.{RecId}
 use Rattle.ob_base.specs.declared.refusal.Broken.{Broken}
-use Rattle.ob_base.specs.declared.refusal.BrokenKind.{BrokenKind}
 use Rattle.ob_base.specs.declared.value.Value.{Value}
 use Rattle.ob_cache.specs.Kept.{kept_columns}
 use Rattle.ob_cache.specs.Opening.{ArePlain, IsFirstTo, ShowsBroken, ShowsOther, ShowsUnread, kept_entries, kept_for}
@@ -22,17 +19,16 @@ use Rattle.ob_cache.specs.Reading.{AreTold, EachBefore, IsFirstUnread, IsOneOf, 
 use Rattle.ob_cache.proofs.CellOrder.{less-back, less-itself, less-parts, placed}
 use Rattle.ob_cache.proofs.IdFields.{one-id}
 use Rattle.ob_cache.proofs.KeptForms.{IsColumn, columns-at}
-use Rattle.ob_cache.proofs.OpenedTables.{IsMade, is-made, of-one}
+use Rattle.ob_cache.proofs.OpenedTables.{is-made, of-one}
 use Rattle.ob_cache.proofs.SameTables.{HaveOneBody, one-plain}
 use Rattle.ob_cache.proofs.SoundForms.{field-of}
 use Rattle.ob_cache.proofs.StoredRising.{IsTestBefore, looked-up, one-in-flat, stored-among, tests-rise}
 use Rattle.ob_io.specs.Store.{Store}
-use Rattle.ob_schema.specs.Broken.{AreSound, BreaksAs, IsBroken, IsFirstBroken}
-use Rattle.ob_schema.specs.Fields.{Column, is_kept, is_own, is_plain_from, is_plain_kept, kept_fields}
-use Rattle.ob_schema.specs.Models.{IsRegistry, field_at, is_computed_from, is_id_from, model_at}
-use Rattle.ob_schema.specs.Tables.{Standing, Tables, next_of}
+use Rattle.ob_schema.specs.Broken.{BreaksAs, IsFirstBroken}
+use Rattle.ob_schema.specs.Fields.{is_kept, is_own, is_plain_from, is_plain_kept, kept_fields}
+use Rattle.ob_schema.specs.Models.{IsRegistry, field_at, is_computed_from, is_id_from}
+use Rattle.ob_schema.specs.Tables.{Tables, next_of}
 use Rattle.ob_schema.specs.Val.{val}
-use Rattle.ob_schema.specs.declared.info.FieldInfo.{FieldInfo}
 use Rattle.ob_schema.specs.declared.info.ModelInfo.{ModelInfo}
 use Rattle.ob_schema.specs.declared.info.Origin.{Origin}
 use Rattle.ob_schema.specs.declared.info.Origin.TheVariants as origin

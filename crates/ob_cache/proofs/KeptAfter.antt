@@ -1,7 +1,6 @@
 -- After the changes from tables to others a store keeps the others.
-use Rattle.std.proofs.Common.{◌≡◌, ℕ, List, Option, Some, None, Result, Ok, Err, is_some, refl, sym, ap, subst, ◌∙◌}
+use Rattle.std.proofs.Common.{◌≡◌, List, Option, Some, None, Result, Ok, Err, is_some, refl, sym, ap, subst, ◌∙◌}
 use Rattle.std.specs.Prelude.{IfSome, IsSomeAnd, OnErr, OnOk, option_and_then, option_map}
-use Rattle.ob_base.specs.declared.id.ModelNo.{ModelNo}
 use Rattle.ob_base.specs.declared.id.RecId.{RecId}
 use Rattle.ob_cache.specs.Changing.{ChangesTo, form_of, next_made, row_made}
 use Rattle.ob_cache.specs.Kept.{Kept, KeepsModel, OthersStay, kept_row}
@@ -11,7 +10,6 @@ use Rattle.ob_cache.specs.Stages.{IsUsable, Stages, StandsOver}
 use Rattle.ob_cache.specs.Standing.{Stands}
 use Rattle.ob_io.specs.Store.{Store, all_changed, next_of as kept_next_of, row_at as kept_row_at}
 use Rattle.ob_io.specs.declared.store.Change.{Change}
-use Rattle.ob_io.specs.declared.store.KeptRow.{KeptRow}
 use Rattle.ob_schema.specs.Models.{HasModel, model_at}
 use Rattle.ob_schema.specs.Tables.{Standing, key_of, row_at}
 use Rattle.ob_schema.specs.declared.info.ModelInfo.{ModelInfo}

@@ -110,6 +110,10 @@ pub found-none : {X Y : Type 0} (f : X → Y) (o : Option X) (p : Option Y) → 
 found-none f None p is none = sym is
 found-none f (Some x) p is none = absurd cc
 
+pub none-there : {X : Type 0} (o : Option X) → is_some o ≡ false → o ≡ None
+none-there None is = refl
+none-there (Some x) is = absurd cc
+
 -- the kept form of a row by the values of its kept fields
 abbrev pub form_by : List ModelInfo → ModelNo → ModelInfo → RecId → List Value → KeptRow
 form_by models model info id values = record { id = id; body = row_form (kept_at models model) values; links = flat_map links_for (entries info.fields values) }

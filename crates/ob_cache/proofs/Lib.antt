@@ -11,13 +11,18 @@ pub mod Rises
 pub mod Leading
 -- Values of cells.
 pub mod PlainValues
-pub mod BrokenFields
 pub mod Inserting
 pub mod Filling
 pub mod NativeMeaning
 pub mod NativeValues
 pub mod TypedCells
 pub mod BehindLinks
+-- Values behind a change.
+pub mod MarkedValues
+pub mod TakenOut
+pub mod Unbroken
+pub mod OwnFaults
+pub mod Ticking
 -- Rows and their kept forms.
 pub mod KeptForms
 pub mod SoundForms
@@ -42,10 +47,14 @@ pub mod Opened
 pub mod Begun
 -- Changes of a store.
 pub mod Changing
+pub mod OnceEach
 pub mod Gathering
 pub mod KeptValues
 pub mod PutForms
 pub mod KeptAfter
+pub mod LastingForms
+pub mod Listed
+pub mod HeldSteps
 -- Calls.
 pub mod Refusing
 pub mod Asking

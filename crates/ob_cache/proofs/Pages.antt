@@ -1,5 +1,5 @@
 -- Pages of ids.
-use Rattle.std.proofs.Common.{◌≡◌, ◌⊎◌, ◌≤◌, ◌<◌, ◌-◌, ◌^◌, inl, inr, ℕ, true, List, [], ◌∷◌, map, filter, take, length, Option, Some, None, is_some, IsSome, refl, ap, subst, sym, arith}
+use Rattle.std.proofs.Common.{◌≡◌, ◌≤◌, ◌<◌, ◌^◌, inl, inr, ℕ, true, List, [], ◌∷◌, filter, length, Option, Some, None, is_some, IsSome, refl, ap, subst, sym, arith}
 use Rattle.std.specs.Prelude.{All, IsSomeAnd, nat_lt, option_and_then}
 use Rattle.std.proofs.lemmas.List.{length-take}
 use Rattle.std.proofs.lemmas.List.Elements.{All-cons, All-filter, All-map, All-nil, All-take, All-weaker, filter_passes}

@@ -1,10 +1,10 @@
 -- The kept form of a row that came: a keeper may be handed it, and keeps it as it is.
-use Rattle.std.proofs.Common.{◌≡◌, ◌^◌, ◌<◌, ◌≤◌, ℕ, Bool, cond, List, [], map, Option, Some, None, IsSome, refl, sym, ap, subst, ◌∙◌, arith}
+use Rattle.std.proofs.Common.{◌≡◌, ◌^◌, ◌<◌, ◌≤◌, ℕ, List, [], map, Option, Some, IsSome, sym, ap, subst, ◌∙◌, arith}
 use Rattle.std.specs.List.{flat_map}
 use Rattle.std.specs.Option.{option_map_or}
 use Rattle.ob_base.specs.declared.id.ModelNo.{ModelNo}
 use Rattle.ob_base.specs.declared.id.RecId.{RecId}
-use Rattle.ob_cache.specs.Changing.{form_of, form_still}
+use Rattle.ob_cache.specs.Changing.{form_of}
 use Rattle.ob_cache.specs.Kept.{kept_columns, kept_row, kept_value, links_of}
 use Rattle.ob_cache.specs.Opening.{plain_row}
 use Rattle.ob_cache.specs.Reading.{entries, links_for}
@@ -34,7 +34,7 @@ module _ (s : Standing) (registry : IsRegistry s.models) (known : AreReadable s.
   plain-same = forms-plain s.models s.tables registry known.sound model id info row is row_is known.typed known.valued known.native
 
   form-is : form_of s (key_of model id) ≡ Some (kept_row s.models s.tables model info id row)
-  form-is = form-at s s refl model info is s is id (Some row) row_is
+  form-is = form-at s (key_of model id) info is (Some row) row_is
 
   module _ (put : KeptRow) (put_is : put ≡ record {
     id = id;
@@ -75,12 +75,12 @@ module _ (s : Standing) (registry : IsRegistry s.models) (known : AreReadable s.
 pub forms-alike : (old new : Standing) (registry : IsRegistry old.models) (known_old : AreReadable old.models old.tables) (known_new : AreReadable new.models new.tables) (same : old.models ≡ new.models)
     (model : ModelNo) (info : ModelInfo) (is : model_at old.models model ≡ Some info) (id : RecId) → IsSome (row_at old.tables model id) → IsSome (row_at new.tables model id)
     → map (kept_value old.models old.tables model id) (kept_columns info) ≡ map (kept_value new.models new.tables model id) (kept_columns info)
-    → form_still old new (key_of model id) ≡ form_of new (key_of model id)
+    → form_of old (key_of model id) ≡ form_of new (key_of model id)
 forms-alike old new registry known_old known_new same model info is id there_old there_new values =
     let registry_new = subst IsRegistry same registry in
     let is_new : model_at new.models model ≡ Some info = ap (λ (models : List ModelInfo). model_at models model) (sym same) ∙ is in
     let rows : row old registry known_old model info is id there_old ≡ row new registry_new known_new model info is_new id there_new =
     sym (plain-same old registry known_old model info is id there_old) ∙ ap (plain_row info) values ∙ plain-same new registry_new known_new model info is_new id there_new in
-    ap (λ (b : Bool). cond b (form_of old (key_of model id)) None) there_new ∙ form-is old registry known_old model info is id there_old
+    form-is old registry known_old model info is id there_old
     ∙ (λ i. Some (record { id = id; body = row_form (kept_fields info) (values i); links = links_of info (rows i) }))
     ∙ sym (form-is new registry_new known_new model info is_new id there_new)

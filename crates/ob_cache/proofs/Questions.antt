@@ -1,5 +1,5 @@
 -- Questions behind one another are one question to an engine.
-use Rattle.std.proofs.Common.{◌≡◌, ◌≤◌, ℕ, Option, refl, ◌∙◌, arith}
+use Rattle.std.proofs.Common.{◌≤◌, ℕ, Option, refl, ◌∙◌, arith}
 use Rattle.ob_cache.proofs.ReadPages.{rose-later}
 use Rattle.ob_cache.specs.Standing.{Holding, Stays}
 use Rattle.ob_cache.specs.Telling.{FailsFacts, TellsFacts}

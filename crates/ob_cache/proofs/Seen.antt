@@ -1,8 +1,7 @@
 -- The values that are read of the stages.
-use Rattle.std.proofs.Common.{◌≡◌, ◌≢◌, ◌⊎◌, inl, inr, Bool, true, false, List, Option, Some, None, Result, Ok, Err, is_some, IsSome, refl, sym, ap, subst, ◌∙◌}
+use Rattle.std.proofs.Common.{◌≡◌, ◌≢◌, ◌⊎◌, inl, inr, Bool, true, false, List, Option, Some, None, Ok, Err, is_some, IsSome, refl, sym, ap, subst, ◌∙◌}
 use Rattle.std.specs.Option.{option_map_or}
 use Rattle.std.specs.Prelude.{if◌then◌else◌, IfSome, IsSomeAnd, option_map}
-use Rattle.std.proofs.lemmas.Option.{same_Some}
 use Rattle.ob_base.specs.declared.id.Cell.{Cell}
 use Rattle.ob_base.specs.declared.value.Value.{Value}
 use Rattle.ob_cache.proofs.PlainValues.{plain-told}
@@ -12,7 +11,7 @@ use Rattle.ob_cache.specs.Stages.{IsPlainCell, IsReadable, IsShown, IsStoredCell
 use Rattle.ob_cache.specs.declared.stages.Phase.{Phase}
 use Rattle.ob_cache.specs.declared.stages.Phase.TheVariants as phase
 use Rattle.ob_codec.specs.Held.{HasFieldType}
-use Rattle.ob_expr.specs.Computing.{Lack, unread}
+use Rattle.ob_expr.specs.Computing.{unread}
 use Rattle.ob_schema.specs.Fields.{is_kept}
 use Rattle.ob_schema.specs.Models.{IsRegistry, field_at, is_computed_from, is_given_from}
 use Rattle.ob_schema.specs.Plain.{plain_at}

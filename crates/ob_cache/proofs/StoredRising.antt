@@ -1,12 +1,11 @@
 -- What is tested of the rows that were read stands in the order of cells, and among it what is kept for each stored cell.
-use Rattle.std.proofs.Common.{◌≡◌, ◌<◌, ◌≤◌, ◌+◌, ◌==◌, ◌⊎◌, ◌++◌, inl, inr, ℕ, Bool, true, false, cond, List, [], ◌∷◌, Option, Some, None, refl, sym, ap, subst, ◌∙◌, arith, eqb-true}
+use Rattle.std.proofs.Common.{◌≡◌, ◌<◌, ◌≤◌, ◌+◌, ◌==◌, inl, inr, ℕ, Bool, true, false, cond, List, [], ◌∷◌, Option, Some, None, refl, sym, ap, subst, ◌∙◌, arith, eqb-true}
 use Rattle.std.specs.List.{AllByRecursion, cons_option, filter_map, flat_map, zip}
 use Rattle.std.specs.Map.{lookup}
 use Rattle.std.specs.declared.cmp.Ordering.TheVariants.{Less}
 use Rattle.std.proofs.lemmas.Option.{same_Some}
 use Rattle.ob_base.specs.BrokenOrder.{cell_order}
 use Rattle.ob_base.specs.declared.id.Cell.{Cell}
-use Rattle.ob_base.specs.declared.id.FieldNo.{FieldNo}
 use Rattle.ob_base.specs.declared.id.ModelNo.{ModelNo}
 use Rattle.ob_base.specs.declared.id.RecId.{RecId}
 use Rattle.ob_base.specs.declared.value.Value.{Value}
@@ -14,7 +13,7 @@ use Rattle.ob_cache.specs.Reading.{EachBefore, IsBefore, IsOneOf, ReadRow, store
 use Rattle.ob_cache.proofs.CellOrder.{less-field, less-id, less-model, one-left, rising-appended}
 use Rattle.ob_cache.proofs.Inconsistent.{one-of-flat}
 use Rattle.ob_cache.proofs.KeptForms.{kept_ones}
-use Rattle.ob_cache.proofs.OpenedTables.{of-each, of-one}
+use Rattle.ob_cache.proofs.OpenedTables.{of-one}
 use Rattle.ob_cache.proofs.PagedRows.{one-right}
 use Rattle.ob_schema.specs.Fields.{Column, is_kept, is_plain_kept}
 use Rattle.ob_schema.specs.declared.info.FieldInfo.{FieldInfo}

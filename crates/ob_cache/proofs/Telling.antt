@@ -1,5 +1,5 @@
 -- What an engine tells of facts.
-use Rattle.std.proofs.Common.{◌≡◌, true, false, Option, None, Result, Ok, is_some, sym, ap, subst, ◌∙◌}
+use Rattle.std.proofs.Common.{◌≡◌, true, false, Option, Result, Ok, is_some, sym, ap, subst, ◌∙◌}
 use Rattle.std.specs.Prelude.{unwrap_or}
 use Rattle.std.specs.Result.{result_ok}
 use Rattle.ob_base.specs.declared.id.Cell.{Cell}

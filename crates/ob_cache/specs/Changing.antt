@@ -1,5 +1,5 @@
 -- Private: what changes make of each row and each next id.
-use Rattle.std.specs.Prelude.{◌≡◌, ◌≢◌, ℕ, List, [], ◌∷◌, All, Option, Some, None, is_some, option_and_then, option_map, if◌then◌else◌}
+use Rattle.std.specs.Prelude.{◌≡◌, ◌≢◌, ◌⊎◌, ℕ, List, [], ◌∷◌, All, Contains, Option, Some, None, option_and_then, option_map, if◌then◌else◌}
 use Rattle.std.specs.Ordering.{eq_by_cmp, nat_cmp}
 use Rattle.ob_base.specs.Ids.{row_key_cmp}
 use Rattle.ob_base.specs.declared.id.ModelNo.{ModelNo}
@@ -11,6 +11,7 @@ use Rattle.ob_io.specs.declared.store.Change.TheVariants.{Put, Gone, Next}
 use Rattle.ob_io.specs.declared.store.KeptRow.{KeptRow}
 use Rattle.ob_schema.specs.Models.{HasModel, model_at}
 use Rattle.ob_schema.specs.Tables.{Standing, next_of, row_at}
+use Rattle.ob_schema.specs.declared.info.ModelInfo.{ModelInfo}
 
 -- what is kept of a row after changes, by what was kept before
 abbrev pub row_made : List Change → RowKey → Option KeptRow → Option KeptRow
@@ -30,27 +31,31 @@ next_made (Next other given ∷ changes) model next = next_made changes model (i
 abbrev pub form_of : Standing → RowKey → Option KeptRow
 form_of standing key = option_and_then (λ info. option_map (kept_row standing.models standing.tables key.model info key.id) (row_at standing.tables key.model key.id)) (model_at standing.models key.model)
 
--- so, where other tables have the row too
-abbrev pub form_still : Standing → Standing → RowKey → Option KeptRow
-form_still old new key = if is_some (row_at new.tables key.model key.id) then form_of old key else None
+-- each row that isn't among these is kept in the same form
+abbrev pub KeepsOthers : Standing → Standing → List RowKey → Type 0
+KeepsOthers old new keys = (key : RowKey) → (Contains keys key → ⊥) → form_of old key ≡ form_of new key
 
--- rows and next ids of other models are made as before
-pub record ChangesOnly (model : ModelNo) (old new : List Change) : Type 0 where
-  pub rows : (key : RowKey) (row : Option KeptRow) → key.model ≢ model → row_made new key row ≡ row_made old key row
-  pub next : (other : ModelNo) (next : ℕ) → other ≢ model → next_made new other next ≡ next_made old other next
+-- the kept form of one row turns from this to that, whichever of both was made of it before; other rows, rows of no model and next ids are made as before
+pub record TurnsRow (models : List ModelInfo) (key : RowKey) (before now : Option KeptRow) (old new : List Change) : Type 0 where
+  pub fit : All IsChangeFit old → All IsChangeFit new
+  pub turned : (row_made old key before ≡ before) ⊎ (row_made old key before ≡ now) → row_made new key before ≡ now
+  pub others : (other : RowKey) (row : Option KeptRow) → (other ≢ key) ⊎ (model_at models other.model ≡ None) → row_made new other row ≡ row_made old other row
+  pub next : (model : ModelNo) (next : ℕ) → next_made new model next ≡ next_made old model next
 
--- a row that was one of some tables is now one of others
-abbrev pub TurnsRows : ModelNo → List Change → List Change → (RowKey → Option KeptRow) → (RowKey → Option KeptRow) → (RowKey → Option KeptRow) → Type 0
-TurnsRows model old new kept before now =
-    (key : RowKey) → key.model ≡ model → row_made old key (kept key) ≡ before key → row_made new key (kept key) ≡ now key
+-- all rows are made as before
+abbrev pub RowsStay : List Change → List Change → Type 0
+RowsStay old new = (key : RowKey) (row : Option KeptRow) → row_made new key row ≡ row_made old key row
 
--- the next ids of the model are made as before
-abbrev pub NextStays : ModelNo → List Change → List Change → Type 0
-NextStays model old new = (next : ℕ) → next_made new model next ≡ next_made old model next
+-- so are the next ids of other models
+abbrev pub NextsStay : ModelNo → List Change → List Change → Type 0
+NextsStay model old new = (other : ModelNo) (next : ℕ) → other ≢ model → next_made new other next ≡ next_made old other next
 
--- so are its rows
-abbrev pub RowsStay : ModelNo → List Change → List Change → Type 0
-RowsStay model old new = (key : RowKey) (row : Option KeptRow) → key.model ≡ model → row_made new key row ≡ row_made old key row
+-- the changes of rows alone from tables that are kept to others of the same registry
+pub record RowsTo (old new : Standing) (changes : List Change) : Type 0 where
+  pub fit : All IsChangeFit changes
+  pub rows : (key : RowKey) → row_made changes key (form_of old key) ≡ form_of new key
+  pub others : (key : RowKey) (row : Option KeptRow) → model_at old.models key.model ≡ None → row_made changes key row ≡ row
+  pub next : (model : ModelNo) (next : ℕ) → next_made changes model next ≡ next
 
 -- the changes from tables that are kept to others of the same registry
 pub record ChangesTo (old new : Standing) (changes : List Change) : Type 0 where

@@ -5,7 +5,9 @@ use Rattle.ob_base.specs.BrokenOrder.{cell_order}
 use Rattle.ob_base.specs.declared.id.Cell.{Cell}
 use Rattle.ob_base.specs.declared.id.FieldNo.{FieldNo}
 use Rattle.ob_base.specs.declared.id.ModelNo.{ModelNo}
+use Rattle.ob_base.specs.declared.id.RowKey.{RowKey}
 use Rattle.ob_base.specs.declared.value.Value.{Value}
+use Rattle.ob_cache.specs.Changing.{KeepsOthers}
 use Rattle.ob_cache.specs.Native.{IsNativeRegistry}
 use Rattle.ob_cache.specs.Stages.{Stages}
 use Rattle.ob_cache.specs.Standing.{FitNextIds}
@@ -25,6 +27,7 @@ use Rattle.ob_schema.specs.Tables.{Standing, Tables, row_at}
 use Rattle.ob_schema.specs.Val.{val}
 use Rattle.ob_schema.specs.declared.info.FieldInfo.{FieldInfo}
 use Rattle.ob_schema.specs.declared.info.ModelInfo.{ModelInfo}
+use Rattle.ob_sound.specs.Touched.{TouchesOnly}
 use Rattle.ob_tables.specs.declared.applying.ApplyFault.{ApplyFault}
 use Rattle.ob_tables.specs.declared.applying.ApplyFault.TheVariants as apply_fault
 
@@ -46,9 +49,9 @@ module _ (models : List ModelInfo) (tables : Tables) where
   abbrev pub IsComputedCell : Cell → Type 0
   IsComputedCell cell = IsSome (row_at tables cell.model cell.id) × IsSomeAnd (field_at models cell.model cell.field) (λ info. is_computed_from info.origin ≡ true)
 
-  -- each value is that of its cell, whose row is there
+  -- each value is that of its cell, which is computed and whose row is there
   abbrev pub AreRight : tree.BTreeMap Cell Value → Type 0
-  AreRight values = (cell : Cell) → IfSome (tree.get cell_order values cell) (λ v. IsSome (row_at tables cell.model cell.id) × (val models tables cell ≡ Ok v))
+  AreRight values = (cell : Cell) → IfSome (tree.get cell_order values cell) (λ v. IsComputedCell cell × (val models tables cell ≡ Ok v))
 
   -- the computed ones of these cells have values
   abbrev pub HaveValues : (Cell → Type 0) → tree.BTreeMap Cell Value → Type 0
@@ -87,6 +90,11 @@ IsValueIn standing cell None = row_at standing.tables cell.model cell.id ≡ Non
 abbrev pub ShowsUnsound : Standing → ApplyFault → Type 0
 ShowsUnsound standing (apply_fault.Broken broken) = IsFirstBroken standing.models standing.tables broken
 ShowsUnsound standing apply_fault.NoMemory = ⊤
+
+-- why a change isn't settled: this is broken behind it; or memory is wanting
+abbrev pub IsUnsoundBy : Standing → ApplyFault → Type 0
+IsUnsoundBy standing (apply_fault.Broken broken) = IsBroken standing.models standing.tables broken
+IsUnsoundBy standing apply_fault.NoMemory = ⊤
 
 -- the cell of what is broken is one of the models'
 abbrev pub NamesBrokenField : List ModelInfo → ApplyFault → Type 0
@@ -131,3 +139,9 @@ pub record AreHeldOver (models : List ModelInfo) (flushed : Standing) (settled s
   pub settled_over : IfSome settled (λ s. s.models ≡ models)
   pub staged_over : IfSome staged (λ s. s.models ≡ models)
   pub at_rest : p ≡ phase.Settled → staged ≡ None
+
+-- the rows that edits touched since the last settle are listed, and those that may be kept in another form than they were settled in; and the triggers are those of the registry
+pub record AreListed (models : List ModelInfo) (flushed : Standing) (settled staged : Option Standing) (triggers : List ModelInfo) (touched unkept : List RowKey) : Type 0 where
+  pub over : triggers ≡ models
+  pub touches : TouchesOnly touched (record { before = or_before settled flushed.tables; behind = or_before staged (or_before settled flushed.tables) })
+  pub keeps : KeepsOthers flushed (unwrap_or settled flushed) unkept

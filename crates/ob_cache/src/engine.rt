@@ -5,13 +5,16 @@
 //! How rows and values are held may change behind it at will (`held`); what a call answers may
 //! not.
 
-ghost use Rattle.std.specs.Prelude.{◌≡◌, ◌≤◌, ℕ, All, IfErr, IfOk, IsErrOf, IsSome, IsSomeAnd, MatchResult, Ok, OnErr, OnOk, Some, is_some};
+ghost use Rattle.std.specs.Prelude.{◌≡◌, ◌≤◌, ◌+◌, ℕ, All, IfErr, IfOk, IsErrOf, IsOk, IsSome, IsSomeAnd, List, MatchResult, Ok, OnErr, OnOk, Some, is_some, length};
 ghost use Rattle.ob_base.specs.Tally.{ticked_times};
+ghost use Rattle.ob_base.specs.declared.id.Cell.{Cell};
 ghost use Rattle.ob_base.specs.declared.id.ModelNo.{ModelNo};
+ghost use Rattle.ob_cache.specs.Evaluating.{AreEvaluated};
 ghost use Rattle.ob_cache.specs.Kept.{Kept, OthersStay};
 ghost use Rattle.ob_cache.specs.Opening.{ShowsField, StopsOpening};
 ghost use Rattle.ob_cache.specs.Stages.{IsKeptRelation, IsPageAbove, IsReadable, IsShown, IsUnread, IsUnreadIn, IsUsable, NamesField, StaysUnsettled, flushed_of, forgotten, holders_of, page_of, seen, settled_of, with_edits};
 ghost use Rattle.ob_cache.specs.Standing.{IsAtRest, IsSpoiled, KeepsBounds, NextIdsUpTo, OfStages, RestsAt, Stands, Stays, max_next_id};
+ghost use Rattle.ob_cache.specs.Telling.{sides_of};
 ghost use Rattle.ob_cache.specs.declared.stages.Phase.TheVariants as phase;
 ghost use Rattle.ob_codec.specs.Held.{HasFieldType};
 ghost use Rattle.ob_io.specs.Cause.{HasCause, Rose};
@@ -67,10 +70,13 @@ impl<'k, K: Keeper> Engine<'k, K> {
     {
         let _ = capacity;
         match open(alloc, &mut *keeper, schema) {
-            Ok(whole) => Ok(Engine {
-                keeper,
-                held: Held::of(alloc, schema, whole),
-            }),
+            Ok(whole) => match Held::of(alloc, schema, whole) {
+                Ok(held) => Ok(Engine { keeper, held }),
+                Err(NoMemory) => Err(Unopened {
+                    keeper,
+                    fault: OpenFault::NoMemory,
+                }),
+            },
             Err(fault) => Err(Unopened { keeper, fault }),
         }
     }
@@ -214,14 +220,17 @@ impl<'k, K: Keeper> Engine<'k, K> {
             StaysUnsettled at (Rose (K.faults self.old.keeper.now) (K.faults self.new.keeper.now)) fault)) }
         ensures field { IfErr result (NamesField self.old.held.models) }
         ensures ticks { (n : ℕ) × (steps.new ≡ ticked_times n L.noted steps.old) }
+
+        // A tick for each cell that it evaluates.
+        ensures evaluations { (cells : List Cell) × (steps.new.count ≡ steps.old.count + length cells)
+            × OfStages (K.kept self.old.keeper.now) self.old.held (λ at. AreEvaluated at.models (sides_of at) (IsOk result) cells) }
         ensures spoiled { OnErr result (IsSpoiled (K.kept self.old.keeper.now) self.old.held (K.kept self.new.keeper.now) self.new.held) }
         ensures cause { HasCause (K.faults self.old.keeper.now) (K.faults self.new.keeper.now) (IsErrOf result SettleFault.Keeper) }
         ensures models { self.new.held.models ≡ self.old.held.models }
         ensures same { K.kept self.new.keeper.now ≡ K.kept self.old.keeper.now }
         ensures lender { self.new.keeper.ghost_name ≡ self.old.keeper.ghost_name }
     {
-        let _ = steps;
-        self.held.settle()
+        self.held.settle(steps)
     }
 
     /// Keeps what was settled last, all or nothing. After a fault nothing of it is kept, and

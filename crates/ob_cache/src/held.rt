@@ -1,7 +1,9 @@
-//! What the engine holds: whole tables at three moments. This plain form keeps all rows and
-//! evaluates all computed cells at each settle; another one may stand here.
+//! What the engine holds: whole tables at three moments, and lists of the rows that differ
+//! between them, so that a settle and a flush look at these alone. This form keeps all rows;
+//! another one may stand here.
 
-ghost use Rattle.std.specs.Prelude.{◌≡◌, All, IfErr, IfOk, IfSome, IsErrOf, IsSome, IsSomeAnd, None, Ok, OnErr, OnOk, Some, is_some, true};
+ghost use Rattle.std.specs.Prelude.{◌≡◌, All, IfErr, IfOk, IfSome, IsErrOf, IsOk, IsSome, IsSomeAnd, None, Ok, OnErr, OnOk, Some, is_some, true, unwrap_or};
+ghost use Rattle.ob_cache.specs.Behind.{TicksEach};
 ghost use Rattle.ob_cache.specs.Changing.{ChangesTo};
 ghost use Rattle.ob_cache.specs.Rooms.{AreOfSpoiled, IsValueIn, ShowsUnsettled, settle_fault_of};
 ghost use Rattle.ob_cache.specs.Stages.{IsPageAbove, IsReadable, IsShown, IsUnread, IsUnreadIn, IsUsable, NamesField, flushed_of, forgotten, holders_of, page_of, resting, seen, settled_of, spoiled, with_edits};
@@ -14,18 +16,22 @@ ghost use Rattle.ob_schema.specs.Links.{Leads, leading_to, led_to, tables_on};
 ghost use Rattle.ob_schema.specs.Models.{FieldHas, HasModel, field_at, is_given_from};
 ghost use Rattle.ob_schema.specs.Tables.{Fits, next_of, row_at};
 ghost use Rattle.ob_schema.specs.Val.{val};
-ghost use Rattle.ob_tables.specs.After.{after};
 ghost use Rattle.ob_tables.specs.Fitting.{IsFitEdit, IsFitId};
 
+use crate::behind::settled_behind;
 use crate::fault::{ReadFault, SettleFault};
 use crate::flushing::changes;
 use crate::links::{sources_in, targets_in};
 use crate::stages::Phase;
+use crate::staging::edited;
 use crate::whole::Whole;
-use ob_base::{Cell, FieldNo, ModelNo, NoMemory, RecId, RefList, Sequence, Value};
+use ob_base::{
+    Cell, FieldNo, Ledger, ModelNo, NoMemory, RecId, RefList, RowKey, Sequence, Steps, Value,
+};
 use ob_io::Change;
 use ob_schema::{Origin, Schema, Side};
 use ob_tables::{ApplyFault, Edit, Tables};
+use ob_trigger::Triggers;
 use std::alloc::Global;
 use std::marker::Model;
 
@@ -35,14 +41,19 @@ use std::marker::Model;
 pub(crate) struct Held<'k> {
     alloc: Global,
     schema: &'k Schema,
+    triggers: Triggers<'k>,
     flushed: Whole<'k>,
     settled: Option<Whole<'k>>,
     staged: Option<Tables<'k>>,
+    /// The rows that edits touched since the last settle.
+    touched: Vec<RowKey>,
+    /// The rows that may be kept in another form than that in which they were settled last.
+    unkept: Vec<RowKey>,
     phase: Phase,
 }
 
 impl<'k> Model for Held<'k> {
-    ghost use Rattle.ob_cache.specs.Rooms.{AreHeldOver, held_stages};
+    ghost use Rattle.ob_cache.specs.Rooms.{AreHeldOver, AreListed, held_stages};
     ghost use Rattle.ob_cache.specs.Stages.{Stages};
     ghost use Rattle.ob_cache.specs.Coding.{coded_stages};
     ghost use Rattle.ob_expr.specs.contracts.typed.Typed as typed;
@@ -54,7 +65,8 @@ impl<'k> Model for Held<'k> {
 
     ghost view = { λ h. held_stages h.schema.now h.flushed h.settled h.staged h.phase };
 
-    ghost invariant = { λ h. AreHeldOver h.schema.now h.flushed h.settled h.staged h.phase };
+    ghost invariant = { λ h. AreHeldOver h.schema.now h.flushed h.settled h.staged h.phase
+        × AreListed h.schema.now h.flushed h.settled h.staged h.triggers h.touched.items h.unkept.items };
 }
 
 impl<'k> Held<'k> {
@@ -69,21 +81,29 @@ impl<'k> Held<'k> {
     }
 
     /// Sound tables that are kept, with nothing staged.
-    pub(crate) fn of(alloc: Global, schema: &'k Schema, flushed: Whole<'k>) -> Held<'k>
+    pub(crate) fn of(
+        alloc: Global,
+        schema: &'k Schema,
+        flushed: Whole<'k>,
+    ) -> Result<Held<'k>, NoMemory>
         requires over { flushed.models ≡ schema.now }
         requires fits { FitNextIds schema.now flushed.tables }
-        ensures rests { result ≡ resting schema.now flushed.entry.tables }
-        ensures sound { AreSound result.models result.flushed }
+        ensures rests { IfOk result (λ held. held ≡ resting schema.now flushed.entry.tables) }
+        ensures sound { IfOk result (λ held. AreSound held.models held.flushed) }
     {
         flushed.laws();
-        Held {
+        let triggers = Triggers::build(alloc, schema)?;
+        Ok(Held {
             alloc,
             schema,
+            triggers,
             flushed,
             settled: None,
             staged: None,
+            touched: Vec::new(alloc),
+            unkept: Vec::new(alloc),
             phase: Phase::Settled,
-        }
+        })
     }
 
     /// The registry over which the tables stand.
@@ -96,10 +116,7 @@ impl<'k> Held<'k> {
     fn settled(&self) -> &Whole<'k>
         ensures { result.now ≡ record { models = self.now.models; tables = self.now.settled } }
     {
-        match &self.settled {
-            Some(settled) => settled,
-            None => &self.flushed,
-        }
+        last(&self.settled, &self.flushed)
     }
 
     fn staged(&self) -> &Tables<'k>
@@ -285,56 +302,51 @@ impl<'k> Held<'k> {
         ensures staged { OnOk result (self.new ≡ with_edits self.old edits.now) }
         ensures spoiled { OnErr result (AreOfSpoiled self.old self.new) }
     {
-        match self.edited(edits) {
+        let staged = self.staged.take();
+        let settled = last(&self.settled, &self.flushed).tables();
+        match edited(staged, settled, edits, &mut self.touched) {
             Ok(staged) => {
                 self.staged = Some(staged);
                 self.phase = Phase::Staged;
                 Ok(())
             }
             Err(NoMemory) => {
-                self.spoil();
+                self.phase = Phase::Spoiled;
                 Err(NoMemory)
             }
         }
     }
 
-    /// What edits make of the tables that are staged, which are taken out: tables of edits since
-    /// the last settling are changed in place, and no others are copied.
-    fn edited(&mut self, edits: &[Edit]) -> Result<Tables<'k>, NoMemory>
-        requires fit { All (IsFitEdit self.old.models) edits.now }
-        ensures edited { IfOk result (λ tables. tables ≡ record { models = self.old.models; tables = after self.old.models self.old.staged edits.now }) }
-        ensures models { self.new.models ≡ self.old.models }
-        ensures flushed { self.new.flushed ≡ self.old.flushed }
-        ensures settled { self.new.settled ≡ self.old.settled }
-    {
-        match self.staged.take() {
-            Some(mut staged) => {
-                staged.edit(edits)?;
-                Ok(staged)
-            }
-            None => self.settled().tables().after(edits),
-        }
-    }
-
-    /// Settles what is staged.
-    pub(crate) fn settle(&mut self) -> Result<(), SettleFault>
+    /// Settles what is staged. Steps tick once for each cell that is evaluated.
+    pub(crate) fn settle<L: Ledger>(&mut self, steps: &mut Steps<L>) -> Result<(), SettleFault>
         ensures settled { OnOk result (self.new ≡ settled_of self.old) }
         ensures sound { OnOk result (AreSound self.new.models self.new.settled) }
         ensures unsettled { IfErr result (ShowsUnsettled self.old) }
         ensures field { IfErr result (NamesField self.old.models) }
         ensures spoiled { OnErr result (AreOfSpoiled self.old self.new) }
+        ensures evaluated { TicksEach L.noted self.old.models (sides_of self.old) (IsOk result) steps.old steps.new }
     {
-        // The law of the registry's constants.
-        self.flushed.laws();
         if let Some(staged) = self.staged.take() {
-            match Whole::of(self.alloc, self.schema, staged) {
-                Ok(whole) => self.settled = Some(whole),
+            let settled = last(&self.settled, &self.flushed);
+            let touched = self.touched.as_slice();
+            let triggers = &self.triggers;
+            match settled_behind(
+                self.alloc,
+                settled,
+                staged,
+                touched,
+                triggers,
+                &mut self.unkept,
+                steps,
+            ) {
+                Ok(whole) => put_settled(&mut self.settled, whole),
                 Err(fault) => {
                     self.phase = Phase::Spoiled;
                     return Err(settle_fault(fault));
                 }
             }
         }
+        self.touched.clear();
         self.phase = Phase::Settled;
         self.settled().laws();
         Ok(())
@@ -346,7 +358,9 @@ impl<'k> Held<'k> {
         requires next_ids { NextIdsUpTo max_next_id self.now }
         ensures { IfOk result (ChangesTo (record { models = self.now.models; tables = self.now.flushed }) (record { models = self.now.models; tables = self.now.settled })) }
     {
-        changes(self.alloc, self.schema, &self.flushed, self.settled())
+        let settled = last(&self.settled, &self.flushed);
+        let unkept = self.unkept.as_slice();
+        changes(self.alloc, self.schema, &self.flushed, settled, unkept)
     }
 
     /// What was settled last is kept.
@@ -356,8 +370,9 @@ impl<'k> Held<'k> {
         ensures { self.new ≡ flushed_of self.old }
     {
         if let Some(settled) = self.settled.take() {
-            self.flushed = settled;
+            put(&mut self.flushed, settled);
         }
+        self.unkept.clear();
     }
 
     /// A call failed.
@@ -373,8 +388,34 @@ impl<'k> Held<'k> {
     {
         self.settled = None;
         self.staged = None;
+        self.touched.clear();
+        self.unkept.clear();
         self.phase = Phase::Settled;
     }
+}
+
+/// The tables that were settled last: those that are kept, if none were since.
+fn last<'h, 'k>(settled: &'h Option<Whole<'k>>, flushed: &'h Whole<'k>) -> &'h Whole<'k>
+    ensures { result.now ≡ unwrap_or settled.now flushed.now }
+{
+    match settled {
+        Some(settled) => settled,
+        None => flushed,
+    }
+}
+
+/// Puts whole tables where none or others stood, which go.
+fn put_settled<'k>(place: &mut Option<Whole<'k>>, whole: Whole<'k>)
+    ensures { place.new ≡ Some whole.entry }
+{
+    *place = Some(whole);
+}
+
+/// Puts whole tables in the place of others, which go.
+fn put<'k>(place: &mut Whole<'k>, whole: Whole<'k>)
+    ensures { place.new ≡ whole.entry }
+{
+    *place = whole;
 }
 
 /// Why tables aren't settled.

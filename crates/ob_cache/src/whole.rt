@@ -17,15 +17,15 @@ use ob_base::limits::MAX_MODELS;
 use ob_base::{Cell, FieldNo, ModelNo, NoMemory, RecId, Value, cell_cmp};
 use ob_expr::reads_along_paths;
 use ob_schema::{Delegation, FieldInfo, Origin, Schema};
+use ob_shared::SharedMap;
 use ob_tables::{
     ApplyFault, ScratchFault, Tables, Values, ids_are_of_rows, initial_value, sound_values,
 };
 use std::alloc::Global;
-use std::collections::BTreeMap;
 use std::marker::Model;
 
-/// The values of computed cells.
-type CellValues = BTreeMap<Cell, Value>;
+/// The values of computed cells. Copies share what they have in common.
+pub(crate) type CellValues = SharedMap<Cell, Value>;
 
 /// Tables of a registry; contracts see the tables.
 #[derive(Drop)]
@@ -79,10 +79,45 @@ impl<'a> Whole<'a> {
         })
     }
 
+    /// Sound tables with the values of their computed cells.
+    pub(crate) fn with(
+        alloc: Global,
+        schema: &'a Schema,
+        tables: Tables<'a>,
+        values: CellValues,
+    ) -> Whole<'a>
+        requires over { tables.models ≡ schema.now }
+        requires native { IsNativeRegistry schema.now }
+        requires sound { AreSound tables.models tables.tables }
+        requires values { AreValues tables.models tables.tables values }
+        ensures { result ≡ tables.entry }
+    {
+        Whole {
+            alloc,
+            schema,
+            tables,
+            values,
+        }
+    }
+
+    /// The registry over which the tables stand.
+    pub(crate) fn schema(&self) -> &'a Schema
+        ensures { result.now ≡ self.now.models }
+    {
+        self.schema
+    }
+
     pub(crate) fn tables(&self) -> &Tables<'a>
         ensures { result.now ≡ self.now }
     {
         &self.tables
+    }
+
+    /// The values of the computed cells.
+    pub(crate) fn values(&self) -> &CellValues
+        ensures { AreValues self.now.models self.now.tables result.now }
+    {
+        &self.values
     }
 
     /// What holds of all of them.
@@ -178,7 +213,7 @@ fn values_of(alloc: Global, schema: &Schema, tables: &Tables<'_>) -> Result<Cell
 {
     tables.fit_together();
     let mut source = Values::of(tables)?;
-    let mut values = BTreeMap::new(alloc);
+    let mut values = SharedMap::new(alloc);
     for place in 0..MAX_MODELS {
         let model = ModelNo(place as u16 + 1);
         add_model(schema, tables, model, &mut source, &mut values)?;
@@ -254,7 +289,7 @@ fn add_value(
     source: &mut Values<'_, '_>,
     values: &mut CellValues,
 ) -> Result<(), NoMemory>
-    requires field { IsSome (field_at source.old.models cell.model cell.field) }
+    requires field { IsSomeAnd (field_at source.old.models cell.model cell.field) (λ info. is_computed_from info.origin ≡ true) }
     requires row { IsSome (row_at source.old.tables cell.model cell.id) }
     requires registry { IsRegistry source.old.models }
     requires sound { AreSound source.old.models source.old.tables }

@@ -14,5 +14,6 @@ pub mod GroupsTold
 pub mod MadeRows
 pub mod ParentLists
 pub mod RisingSets
+pub mod RisingParts
 pub mod ChangesBehind
 pub mod CallerLemmas

@@ -39,7 +39,7 @@ use crate::notes::{Notes, note_given, note_touch};
 use crate::object::{Object, object_of};
 use crate::rows::{LinkTo, Writer, make_row, set_values};
 use crate::staged::is_there;
-use ob_base::{BrokenKind, Cell, ModelNo, Op, RecId, Refusal, RowKey};
+use ob_base::{BrokenKind, ModelNo, Op, RecId, Refusal, RowKey};
 use ob_cache::Engine;
 use ob_call::Json;
 use ob_codec::Command;

@@ -5,11 +5,11 @@
 //!
 //! `effect` carries out what an object of values gives (`object`): edits are staged in the engine
 //! row by row and command by command, each over the tables with those before it, which `staged`
-//! asks. `rows` makes rows and sets their values, `lists` links rows and unlinks them, `deletion`
-//! has rows go with what cascades take (by `relations`), and `cells` names the cells of rows. What
-//! their author stamps in them is told by `ob_rows`. What the effect does is noted on the way
-//! (`notes`): which rows it makes, writes and deletes, and what it breaks by itself; `asking` asks
-//! the policy for the caller.
+//! asks. `rows` makes rows and sets their values, `lists` links rows and unlinks them (`ids` has an
+//! id put into a list and taken out), `deletion` has rows go with what cascades take (by
+//! `relations`), and `cells` names the cells of rows. What their author stamps in them is told by
+//! `ob_rows`. What the effect does is noted on the way (`notes`): which rows it makes, writes and
+//! deletes, and what it breaks by itself; `asking` asks the policy for the caller.
 //!
 //! A step promises what holds of any edits (`IsStep`): the engine may go on to be asked, no next id
 //! fell, and what is noted is of the models. The definitions stand in specs/.
@@ -19,6 +19,7 @@ mod asking;
 mod cells;
 mod deletion;
 mod effect;
+mod ids;
 mod lists;
 mod notes;
 mod object;

@@ -2,7 +2,7 @@
 //! one2many name the list's row by an inverse, so they are written or deleted by that; those of a
 //! many2many that mirrors another have its row in lists of their own, which is no write of them.
 
-ghost use Rattle.std.specs.Prelude.{◌≡◌, ◌<◌, All, IfErr, IfOk, IsTrue, OnErr, OnOk};
+ghost use Rattle.std.specs.Prelude.{◌≡◌, IfErr, IfOk, OnErr, OnOk};
 ghost use Rattle.ob_base.specs.Rising.{IsRising};
 ghost use Rattle.ob_cache.specs.Calls.{Refuses};
 ghost use Rattle.ob_cache.specs.Stages.{IsUsable};
@@ -14,6 +14,7 @@ ghost use Rattle.ob_tables.specs.Fitting.{IsFitId};
 
 use crate::cells::{cell_of, row_of};
 use crate::deletion::delete;
+use crate::ids::{with_id, without};
 use crate::notes::Notes;
 use crate::rows::{Writer, set_link};
 use crate::staged::{is_there, naming, stage_change, value_at};
@@ -279,9 +280,8 @@ fn take_out<K: Keeper>(
     let Some(Value::Refs(before)) = value_at(engine, cell)? else {
         return Ok(());
     };
-    let mut ids = id_set(alloc, before.as_slice())?;
-    ids.remove(&id);
-    set_cell(alloc, engine, cell, &ids)
+    let ids = without(alloc, before.as_slice(), id)?;
+    set_list(alloc, engine, cell, ids)
 }
 
 /// Makes a list that a row keeps these ids, where the row is there.
@@ -347,32 +347,6 @@ pub(crate) fn row_in(list: RowList, id: RecId) -> RowKey
     RowKey {
         model: list.target,
         id,
-    }
-}
-
-/// A list with an id among its own: rows that are made come at its end, at no cost of the others.
-fn with_id(alloc: Global, ids: RefList, id: RecId) -> Result<RefList, NoMemory>
-    ensures { IfOk result IsRising }
-{
-    let mut list = ids;
-    if is_past(&list, id) {
-        list.push(id)?;
-        // What such a list is.
-        let _ = list.as_slice();
-        return Ok(list);
-    }
-    let mut set = id_set(alloc, list.as_slice())?;
-    set.insert(id)?;
-    rising(alloc, &set)
-}
-
-/// Whether an id is past all of a list, by its last one.
-fn is_past(ids: &RefList, id: RecId) -> bool
-    ensures { IsTrue result → All (λ before. before.0 < id.0) ids.now }
-{
-    match ids.as_slice().last() {
-        Some(last) => last.0 < id.0,
-        None => true,
     }
 }
 

@@ -1,11 +1,14 @@
 -- The ids above one, of rows and of those that pass.
-use Rattle.std.proofs.Common.{◌≡◌, Bool, true, false, cond, List, [], ◌∷◌, map, filter, refl, sym, ap, ◌∙◌}
+use Rattle.std.proofs.Common.{◌≡◌, Bool, true, false, cond, List, [], ◌∷◌, map, filter, refl, ap}
 use Rattle.std.specs.List.Sorted.{IsStrictlySortedBy}
 use Rattle.std.specs.Prelude.{nat_lt}
 use Rattle.std.proofs.lemmas.List.Kept.{IsStrictlySortedBy-filter}
+use Rattle.ob_base.specs.declared.id.FieldNo.{FieldNo}
 use Rattle.ob_base.specs.declared.id.ModelNo.{ModelNo}
 use Rattle.ob_base.specs.declared.id.RecId.{RecId}
+use Rattle.ob_schema.specs.Plain.{naming}
 use Rattle.ob_schema.specs.Tables.{PlainRow, Tables, ids_in}
+use Rattle.ob_tables.proofs.Listing.{naming-rises}
 use Rattle.ob_tables.proofs.Rising.{id_cmp, ids-rise}
 
 abbrev its_id : RecId × PlainRow → RecId
@@ -28,24 +31,10 @@ module _ (after : RecId) where
       by_case true rest = ap (λ ids. e.0 ∷ ids) rest
       by_case false rest = rest
 
-  -- those of the rows above that pass are those above of the rows that pass
-  pub chosen-above : (p : RecId × PlainRow → Bool) (rows : List (RecId × PlainRow)) → map its_id (filter p (filter shows_above rows)) ≡ filter is_above (map its_id (filter p rows))
-  chosen-above p [] = refl
-  chosen-above p (e ∷ rows) = by_case (is_above e.0) refl (p e) refl (chosen-above p rows)
-    where
-      some : List RecId
-      some = filter is_above (map its_id (filter p rows))
-
-      many : List (RecId × PlainRow)
-      many = filter p (filter shows_above rows)
-
-      by_case : (a : Bool) → is_above e.0 ≡ a → (b : Bool) → p e ≡ b → map its_id many ≡ some
-          → map its_id (filter p (cond a (e ∷ filter shows_above rows) (filter shows_above rows))) ≡ filter is_above (map its_id (cond b (e ∷ filter p rows) (filter p rows)))
-      by_case true above true passes rest = ap (λ b. map its_id (cond b (e ∷ many) many)) passes ∙ ap (λ ids. e.0 ∷ ids) rest ∙ sym (ap (λ b. cond b (e.0 ∷ some) some) above)
-      by_case true above false fails rest = ap (λ b. map its_id (cond b (e ∷ many) many)) fails ∙ rest
-      by_case false below true passes rest = rest ∙ sym (ap (λ b. cond b (e.0 ∷ some) some) below)
-      by_case false below false fails rest = rest
-
   -- the ids of a model above one rise
   pub above-rise : (t : Tables) (model : ModelNo) → IsStrictlySortedBy id_cmp (filter is_above (ids_in t model))
   above-rise t model = IsStrictlySortedBy-filter id_cmp is_above (ids_in t model) (ids-rise model t)
+
+  -- and so do those of the rows that name one
+  pub named-rise : (t : Tables) (model : ModelNo) (field : FieldNo) (id : RecId) → IsStrictlySortedBy id_cmp (filter is_above (naming t model field id))
+  named-rise t model field id = IsStrictlySortedBy-filter id_cmp is_above (naming t model field id) (naming-rises t model field id)

@@ -1,5 +1,4 @@
 pub mod Shown
-pub mod Copied
 pub mod Columns
 pub mod Between
 pub mod Above
@@ -36,8 +35,12 @@ pub mod Within
 pub mod EndsOf
 pub mod Kinded
 pub mod TypedValues
+pub mod Known
 pub mod Settling
 pub mod Listing
+pub mod Held
+pub mod HeldRows
+pub mod Copied
 -- What is broken.
 pub mod Finds
 pub mod RowIds
@@ -60,3 +63,7 @@ pub mod ListedMembers
 -- What one formula gives.
 pub mod FormulaValue
 pub mod CallerLemmas
+-- Rows that share a set.
+pub mod Digesting
+pub mod DigestedRows
+pub mod SharedWith

@@ -54,7 +54,7 @@ back-map f [] k y e = cc
 back-map f (x ∷ xs) zero y e = (x, refl, sym (same_Some (f x) y e))
 back-map f (x ∷ xs) (suc k) y e = back-map f xs k y e
 
-stands-at : {X : Type 0} (xs : List X) (k : ℕ) (x : X) → slice_get xs k ≡ Some x → Stands x xs
+pub stands-at : {X : Type 0} (xs : List X) (k : ℕ) (x : X) → slice_get xs k ≡ Some x → Stands x xs
 stands-at [] k x e = cc
 stands-at (y ∷ xs) zero x e = inl (sym (same_Some y x e))
 stands-at (y ∷ xs) (suc k) x e = inr (stands-at xs k x e)

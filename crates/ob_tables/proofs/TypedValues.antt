@@ -223,14 +223,18 @@ of_type type.Many2many relation choices k v is none free has timed short native 
 -- ---- cells
 
 module _ (laws : AreLaws) (kinds : (tree : TypedTree) → GivesItsKind tree) (gives : (tree : TypedTree) → GivesCellsValues tree) (models : List ModelInfo) (tables : Tables) (registry : IsRegistry models) (fits : Fits models tables) where
-  -- what a formula means, where its cell has a value
-  meant : (f : Cell → Result Value Lack) (c : Cell) (info : FieldInfo) (formula : Formula) (v : Value) → value_from models tables f (origin.Computed formula) info c ≡ Ok v
-      → (meaning (held_by f) (row_of c) (typed_tree_of formula.typed) ≡ Ok v) × (is_short (text_limit info.field_type) v ≡ true)
-  meant f c info formula v is =
+  -- what a formula gives, where its cell has a value
+  pub formula-gives : (f : Cell → Result Value Lack) (c : Cell) (info : FieldInfo) (formula : Formula) (v : Value) → value_from models tables f (origin.Computed formula) info c ≡ Ok v → formula_value f formula info c ≡ Ok v
+  formula-gives f c info formula v is =
       let tree = typed_tree_of formula.typed in
       let m = meaning (held_by f) (row_of c) tree in
-      limited_ok info.field_type m v (formula_ok f (formula_value f formula info c) v
-      (λ d lacks has. none_held (f d) v (laws.lacks tree (held_by f) (row_of c) d (limited_unread info.field_type m d lacks)).1 has) is)
+      formula_ok f (formula_value f formula info c) v
+      (λ d lacks has. none_held (f d) v (laws.lacks tree (held_by f) (row_of c) d (limited_unread info.field_type m d lacks)).1 has) is
+
+  -- what it means
+  meant : (f : Cell → Result Value Lack) (c : Cell) (info : FieldInfo) (formula : Formula) (v : Value) → value_from models tables f (origin.Computed formula) info c ≡ Ok v
+      → (meaning (held_by f) (row_of c) (typed_tree_of formula.typed) ≡ Ok v) × (is_short (text_limit info.field_type) v ≡ true)
+  meant f c info formula v is = limited_ok info.field_type (meaning (held_by f) (row_of c) (typed_tree_of formula.typed)) v (formula-gives f c info formula v is)
 
   -- a delegated cell has the value of the cell behind its link, or its initial one
   behind_ok : (f : Cell → Result Value Lack) (c : Cell) (info : FieldInfo) (to : Delegation) (v : Value) → value_from models tables f (origin.Delegated to) info c ≡ Ok v
@@ -271,7 +275,8 @@ module _ (laws : AreLaws) (kinds : (tree : TypedTree) → GivesItsKind tree) (gi
       let holds = kinds-held models tables registry fits (held_by f) (λ d i l w there kinded holds. all d i l w there kinded (held_ok (f d) w holds)) c.model tree right.by_refs in
       same_kind (kind_of tree) k v (sym right.kind ∙ is) (kinds tree (held_by f) (row_of c) v right.kinded holds (meant f c info formula v has).0)
 
-  kinds_in : (n : ℕ) → AreOfKinds (value_in models tables n)
+  -- so it is with values from scratch
+  pub kinds_in : (n : ℕ) → AreOfKinds (value_in models tables n)
   kinds_in zero c info k v at is has = absurd cc
   kinds_in (suc n) c info k v at is has = by (kinds_in n) (row_at tables c.model c.id) refl
     where

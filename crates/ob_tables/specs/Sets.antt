@@ -17,7 +17,7 @@ use Rattle.ob_base.specs.declared.value.Value.{Value}
 use Rattle.ob_base.specs.declared.value.Value.TheVariants as value
 use Rattle.ob_schema.specs.declared.info.ModelInfo.{ModelInfo}
 use Rattle.ob_schema.specs.Broken.{IsSharedSet}
-use Rattle.ob_schema.specs.Tables.{Tables, kept_at, row_at}
+use Rattle.ob_schema.specs.Tables.{PlainRow, Tables, kept_at, kept_in, row_at}
 use Rattle.ob_tables.specs.declared.unique.Member.{Member}
 
 -- a value that isn't unset
@@ -68,3 +68,7 @@ pub record SharesInSet (models : List ModelInfo) (tables : Tables) (model : Mode
 -- the values that a function gives, where it gives any
 abbrev pub member_values : Option (Vec (Bor Value) Global) → Option (List Value)
 member_values = option_map (λ values. values_in values.items)
+
+-- two rows keep the same value for a field, and it isn't unset
+abbrev pub AreKeptAlike : PlainRow → PlainRow → FieldNo → Type 0
+AreKeptAlike row other field = (kept_in row field ≢ value.Nil) × (kept_in other field ≡ kept_in row field)

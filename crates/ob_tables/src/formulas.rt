@@ -24,7 +24,7 @@ pub(crate) fn find_in_formulas(tables: &Tables<'_>, findings: &mut Findings) -> 
     ensures { OnOk result (Finds (BreaksIn tables.now.models tables.now.tables is_of_formulas Anywhere) findings.old findings.new) }
 {
     tables.fit_together();
-    let given = Given::of(tables)?;
+    let given = Given::of(tables);
     let mut outcomes = BTreeMap::new(tables.alloc);
     for place in 0..MAX_MODELS {
         find_in_model(&given, &mut outcomes, ModelNo(place as u16 + 1), findings)?;

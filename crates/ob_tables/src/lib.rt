@@ -2,17 +2,20 @@
 //! scratch.
 //!
 //! Rooms: `edit` (what calls do to rows), `fitting` (which edits may be asked for), `tables`
-//! (the tables and their calls), `applying` (edits that are carried out where that is sound),
-//! `fault` (why a call gives no answer), `formula` (what a formula gives one cell over any reads),
-//! `laws` (what the definitions give). Behind them stand
-//! `row` (the values of a row), `index` (which rows name a row), `reading` (what evaluations
-//! read), `outcome` (what they give) and `evaluating` (what is evaluated, and when); and for
-//! what is broken `soundness`, over `cells` (one by one), `unique` (sets of fields that no two
-//! rows share), `forest` (trees) and `formulas`, which add to `findings`.
+//! (the tables and their calls), `paging` (rows in pages), `sharing` (whether another row shares a
+//! set of fields), `applying` (edits that are carried out where that is sound), `fault` (why a call
+//! gives no answer), `formula` (what a formula gives one cell over any reads), `laws` (what the
+//! definitions give). Behind them stand `row` (the values of a row), `rows` (rows, with an index of
+//! which of them name which) by `holdings` (how the index follows a row), `digests` (an index of
+//! which rows may share a set of fields), `reading` (what evaluations read), `outcome` (what they
+//! give) and `evaluating` (what is evaluated, and when); and for what is broken `soundness`, over
+//! `cells` (one by one), `unique` (sets of fields that no two rows share), `forest` (trees) and
+//! `formulas`, which add to `findings`.
 #![tactic(auto)]
 
 mod applying;
 mod cells;
+mod digests;
 mod edit;
 mod evaluating;
 mod fault;
@@ -21,12 +24,14 @@ mod fitting;
 mod forest;
 mod formula;
 mod formulas;
-mod index;
+mod holdings;
 mod laws;
 mod outcome;
 mod paging;
 mod reading;
 mod row;
+mod rows;
+mod sharing;
 mod soundness;
 mod tables;
 mod unique;

@@ -7,7 +7,6 @@ ghost use Rattle.ob_schema.specs.Tables.{ids_in, rows_in};
 ghost use Rattle.ob_tables.specs.Paging.{first_above};
 ghost use Rattle.ob_tables.specs.Rooms.{shown_row};
 
-use crate::row::names_by;
 use crate::tables::Tables;
 use ob_base::{FieldNo, ModelNo, NoMemory, RecId, RefList};
 
@@ -41,13 +40,11 @@ impl<'a> Tables<'a> {
         ensures { IfOk result (λ ids. ids ≡ first_above after most (naming self.now.tables model field id)) }
     {
         let mut ids = RefList::new(self.alloc);
-        for (key, row) in self.rows_above(model, after) {
+        for (holding, _) in self.holders_above(model, field, id, after) {
             if ids.len() >= most as usize {
                 break;
             }
-            if names_by(row, field, id) {
-                ids.push(key.id)?;
-            }
+            ids.push(holding.holder)?;
         }
         Ok(ids)
     }

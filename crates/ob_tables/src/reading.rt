@@ -1,37 +1,29 @@
-//! What evaluations read: plain cells as rows give them, and what was evaluated before. How
-//! lists of naming rows are found may change here at will.
+//! What evaluations read: plain cells as rows give them, and what was evaluated before.
 
 ghost use Rattle.std.specs.Prelude.{◌≡◌, ◌++◌, IfOk};
 ghost use Rattle.ob_expr.specs.Meaning.{row_at, row_of};
 ghost use Rattle.ob_expr.specs.TypedTree.{typed_tree_of};
-ghost use Rattle.ob_schema.specs.Models.{HasModel};
-ghost use Rattle.ob_tables.specs.Index.{AreIndexes};
-ghost use Rattle.ob_schema.specs.Plain.{naming, plain_at};
+ghost use Rattle.ob_schema.specs.Plain.{plain_at};
 ghost use Rattle.ob_tables.specs.Settling.{ends_along, ends_of};
 
-use crate::index::{Back, Indexes, indexes_of, listed};
 use crate::outcome::{Outcome, Outcomes, Unread};
 use crate::row::targets_of;
-use crate::tables::{Source, Tables, id_value};
-use ob_base::{Cell, FieldNo, ModelNo, NoMemory, RecId, RefList, Value};
+use crate::tables::Tables;
+use ob_base::{Cell, FieldNo, ModelNo, NoMemory, RecId, Value};
 use ob_expr::{Link, Reads, Typed};
 use std::alloc::Global;
 
-/// Tables, and for many reads which of their rows name a row.
+/// Tables, from which evaluations read.
 #[derive(Drop)]
 pub(crate) struct Given<'t, 'a> {
     pub(crate) tables: &'t Tables<'a>,
-    indexes: Indexes,
-    ghost right: { AreIndexes tables.now.tables indexes },
 }
 
 impl<'t, 'a> Given<'t, 'a> {
-    /// These tables, with an index for each field back.
-    pub(crate) fn of(tables: &'t Tables<'a>) -> Result<Given<'t, 'a>, NoMemory>
-        ensures { IfOk result (λ given. given.tables.now ≡ tables.now) }
+    pub(crate) fn of(tables: &'t Tables<'a>) -> Given<'t, 'a>
+        ensures { result.tables.now ≡ tables.now }
     {
-        let indexes = indexes_of(tables)?;
-        Ok(Given { tables, indexes })
+        Given { tables }
     }
 
     pub(crate) fn alloc(&self) -> Global {
@@ -43,27 +35,7 @@ impl<'t, 'a> Given<'t, 'a> {
     pub(crate) fn plain(&self, cell: Cell) -> Result<Option<Value>, NoMemory>
         ensures { IfOk result (λ value. value ≡ plain_at self.now.tables.now.tables self.now.tables.now.models cell) }
     {
-        let alloc = self.alloc();
-        match self.tables.source(cell) {
-            Source::Nothing => Ok(None),
-            Source::Id => Ok(Some(id_value(cell.id))),
-            Source::Kept(value) => Ok(Some(value.try_clone(alloc)?)),
-            Source::Naming(model, field) => {
-                let ids = self.naming(model, field, cell.id)?;
-                Ok(Some(Value::Refs(ids)))
-            }
-        }
-    }
-
-    /// The rows of a model that name a row by a field.
-    fn naming(&self, model: ModelNo, field: FieldNo, id: RecId) -> Result<RefList, NoMemory>
-        requires { HasModel self.now.tables.now.models model }
-        ensures { IfOk result (λ ids. ids ≡ naming self.now.tables.now.tables model field id) }
-    {
-        match self.indexes.get(&Back { model, field }) {
-            Some(index) => listed(self.alloc(), index, id),
-            None => self.tables.naming(model, field, id),
-        }
+        self.tables.plain_of(cell)
     }
 
     /// The cells at the ends of an expression's paths, from the row of a cell.

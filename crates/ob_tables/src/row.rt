@@ -1,6 +1,6 @@
 //! The plain values of a row, and what a field has without a value of its own.
 
-ghost use Rattle.std.specs.Prelude.{◌≡◌, ◌≤◌, ℕ, [], All, IfOk, OnErr, OnOk, Some, if◌then◌else◌, length};
+ghost use Rattle.std.specs.Prelude.{◌≡◌, ◌≢◌, ◌≤◌, ℕ, [], All, IfOk, OnOk, Some, if◌then◌else◌, length};
 ghost use Rattle.std.specs.BTreeMap as tree;
 ghost use Rattle.std.specs.Ordering.{eq_by_cmp, nat_cmp};
 ghost use Rattle.ob_base.specs.Limits.{max_fields};
@@ -9,10 +9,8 @@ ghost use Rattle.ob_schema.specs.Models.{IsCondition};
 ghost use Rattle.ob_definition.specs.Values.{initial_value};
 ghost use Rattle.ob_tables.specs.After.{row_of};
 ghost use Rattle.ob_tables.specs.Fitting.{AreFitValues};
-ghost use Rattle.ob_schema.specs.Plain.{names};
 ghost use Rattle.ob_schema.specs.Plain.{targets_of};
 ghost use Rattle.ob_tables.specs.Rooms.{shown_row};
-ghost use Rattle.ob_schema.specs.Tables.{kept_in};
 
 use ob_base::{FieldNo, NoMemory, RecId, RefList, Value};
 use ob_schema::{FieldType, ModelInfo};
@@ -66,42 +64,41 @@ pub fn initial_value(alloc: Global, field_type: FieldType) -> Value
     }
 }
 
-/// Puts a value into a row, or leaves the row as it was.
-pub(crate) fn put_value(row: &mut PlainRow, field: FieldNo, value: Value) -> Result<(), NoMemory>
-    ensures ok { OnOk result ((number : ℕ) → tree.get nat_cmp row.new number
-        ≡ (if eq_by_cmp nat_cmp field.0 number then Some value else tree.get nat_cmp row.old number)) }
-    ensures err { OnErr result (row.new.entries ≡ row.old.entries) }
+/// A row with another value of one field.
+pub(crate) fn row_with(
+    alloc: Global,
+    row: &PlainRow,
+    field: FieldNo,
+    value: Value,
+) -> Result<PlainRow, NoMemory>
+    ensures { IfOk result (λ new. (number : ℕ) → tree.get nat_cmp new number
+        ≡ (if eq_by_cmp nat_cmp field.0 number then Some value else tree.get nat_cmp row.now number)) }
 {
-    row.insert(field.0, value)?;
-    Ok(())
+    let mut new = copy_but(alloc, row, field)?;
+    put_value(&mut new, field.0, value)?;
+    Ok(new)
 }
 
-/// The same row again.
-pub(crate) fn copy_row(alloc: Global, row: &PlainRow) -> Result<PlainRow, NoMemory>
-    ensures { IfOk result (λ copy. copy.entries ≡ row.now.entries) }
+/// The same row again, but for one field, whose value may be long.
+fn copy_but(alloc: Global, row: &PlainRow, field: FieldNo) -> Result<PlainRow, NoMemory>
+    ensures { IfOk result (λ copy. (number : ℕ) → number ≢ field.0 → tree.get nat_cmp copy number ≡ tree.get nat_cmp row.now number) }
 {
     let mut copy = BTreeMap::new(alloc);
-    for (field, value) in row.iter() {
-        copy.insert(*field, value.try_clone(alloc)?)?;
+    for (number, value) in row.iter() {
+        if *number != field.0 {
+            put_value(&mut copy, *number, value.try_clone(alloc)?)?;
+        }
     }
     Ok(copy)
 }
 
-/// Whether a row names another one by a field.
-pub(crate) fn names_by(row: &PlainRow, field: FieldNo, id: RecId) -> bool
-    ensures { result ≡ names id (kept_in (shown_row row.now) field) }
+/// Puts a value into a row.
+fn put_value(row: &mut PlainRow, field: u16, value: Value) -> Result<(), NoMemory>
+    ensures { OnOk result ((number : ℕ) → tree.get nat_cmp row.new number
+        ≡ (if eq_by_cmp nat_cmp field number then Some value else tree.get nat_cmp row.old number)) }
 {
-    match row.get(&field.0) {
-        Some(value) => is_naming(value, id),
-        None => false,
-    }
-}
-
-/// Whether a value names a row.
-fn is_naming(value: &Value, id: RecId) -> bool
-    ensures { result ≡ names id value.now }
-{
-    targets_of(value).contains(&id)
+    row.insert(field, value)?;
+    Ok(())
 }
 
 /// The rows that a value names.

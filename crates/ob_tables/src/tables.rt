@@ -1,7 +1,9 @@
 //! Tables over a registry: what their rows keep, what they tell, and what edits make of
 //! them. Contracts see a finite map of rows and a next id for each model, by
-//! `specs/Tables`; the maps here may change at will. A next id that was never raised isn't
-//! kept, so that empty tables take no memory.
+//! `specs/Tables`; the maps here may change at will. They share what they have in common with
+//! the maps of tables that were copied from these or that these were copied from, so that a copy
+//! costs nothing and an edit a few nodes. A next id that was never raised isn't kept, so that
+//! empty tables take no memory. The digests of the rows follow them at each edit.
 
 ghost use Rattle.std.specs.Prelude.{◌≡◌, ◌≤◌, ◌<◌, ◌+◌, ◌^◌, ◌-◌, All, IfErr, IfOk, IsSome, Ok, IsSomeAnd, Some, is_some, true, filter, map, nat_lt, option_and_then, option_map};
 ghost use Rattle.std.specs.FinMap as finite;
@@ -10,6 +12,7 @@ ghost use Rattle.ob_schema.specs.Models.{HasModel, IsRegistry, field_at, is_give
 ghost use Rattle.ob_schema.specs.declared.info.Origin.{Origin};
 ghost use Rattle.ob_schema.specs.declared.info.Origin.TheVariants as origin;
 ghost use Rattle.ob_tables.specs.After.{after, edited, with_next_id};
+ghost use Rattle.ob_tables.specs.Digests.{AmongDigested};
 ghost use Rattle.ob_schema.specs.Tied.{IsTied};
 ghost use Rattle.ob_tables.specs.Faults.{HasNoValue};
 ghost use Rattle.ob_tables.specs.Fitting.{AreFitIn, IsFitEdit, IsFitId, IsFitValueAt};
@@ -19,15 +22,18 @@ ghost use Rattle.ob_schema.specs.Val.{val};
 ghost use Rattle.ob_schema.specs.Tables.{Fits, Standing, empty_tables, ids_in, key_of, kept_at, next_of, row_at, rows_in};
 ghost use Rattle.ob_tables.specs.declared.edit.Edit.TheVariants as edits;
 
+use crate::digests::{Digested, Digests, digested_at, put_row, remove_row};
 use crate::edit::Edit;
 use crate::fault::ScratchFault;
+use crate::holdings::Holding;
 use crate::reading::Given;
-use crate::row::{PlainRow, copy_row, names_by, new_row, put_value};
+use crate::row::{PlainRow, new_row, row_with};
+use crate::rows::Rows;
 use ob_base::{Cell, FieldNo, ModelNo, NoMemory, RecId, RefList, RowKey, Value};
 use ob_schema::{FieldInfo, Origin, Schema};
+use ob_shared::{Range, SharedMap};
 use std::alloc::Global;
 use std::collections::BTreeMap;
-use std::collections::btree_map::Range;
 use std::marker::Model;
 use std::ops::Bound;
 
@@ -37,12 +43,14 @@ use std::ops::Bound;
 pub struct Tables<'a> {
     pub(crate) alloc: Global,
     pub(crate) schema: &'a Schema,
-    rows: BTreeMap<RowKey, PlainRow>,
-    next_ids: BTreeMap<u16, u64>,
+    rows: Rows,
+    digests: Digests,
+    next_ids: SharedMap<u16, u64>,
 }
 
 impl<'a> Model for Tables<'a> {
-    ghost use Rattle.ob_schema.specs.Tables.{Fits, Standing};
+    ghost use Rattle.ob_schema.specs.Tables.{Standing};
+    ghost use Rattle.ob_tables.specs.Digests.{AreWhole};
     ghost use Rattle.ob_tables.specs.Rooms.{shown_tables};
     ghost use Rattle.ob_expr.specs.contracts.typed.Typed as typed;
     ghost use Rattle.std.specs.Coded.{codes};
@@ -54,7 +62,7 @@ impl<'a> Model for Tables<'a> {
 
     ghost view = { λ t. record { models = t.schema.now; tables = shown_tables t.schema.now t.rows t.next_ids } };
 
-    ghost invariant = { λ t. Fits t.schema.now (shown_tables t.schema.now t.rows t.next_ids) };
+    ghost invariant = { λ t. AreWhole t.schema.now t.rows t.digests t.next_ids };
 }
 
 /// What gives a plain cell its value.
@@ -78,8 +86,9 @@ impl<'a> Tables<'a> {
         Tables {
             alloc,
             schema,
-            rows: BTreeMap::new(alloc),
-            next_ids: BTreeMap::new(alloc),
+            rows: Rows::new(alloc),
+            digests: SharedMap::new(alloc),
+            next_ids: SharedMap::new(alloc),
         }
     }
 
@@ -111,6 +120,13 @@ impl<'a> Tables<'a> {
     pub fn plain(&self, cell: Cell) -> Result<Option<Value>, NoMemory>
         requires { IsSomeAnd (field_at self.now.models cell.model cell.field)
             (λ info. is_given_from info.origin ≡ true) }
+        ensures { IfOk result (λ value. value ≡ plain_at self.now.tables self.now.models cell) }
+    {
+        self.plain_of(cell)
+    }
+
+    /// The same; none of any other cell.
+    pub(crate) fn plain_of(&self, cell: Cell) -> Result<Option<Value>, NoMemory>
         ensures { IfOk result (λ value. value ≡ plain_at self.now.tables self.now.models cell) }
     {
         match self.source(cell) {
@@ -170,7 +186,7 @@ impl<'a> Tables<'a> {
             return Err(ScratchFault::Missing);
         }
         let mut outcomes = BTreeMap::new(self.alloc);
-        Given::of(self)?.value_of(&mut outcomes, cell)
+        Given::of(self).value_of(&mut outcomes, cell)
     }
 
     /// The law of all tables: they fit their registry, whose parts fit together.
@@ -193,10 +209,10 @@ impl<'a> Tables<'a> {
         requires { HasModel self.now.models model }
         ensures { map (λ entry. (entry.0.id, shown_row entry.1)) result ≡ rows_in self.now.tables model }
     {
-        self.rows.range((
+        self.rows.range(
             Bound::Included(row_key(model, 0)),
             Bound::Excluded(row_key(model, self.next(model))),
-        ))
+        )
     }
 
     /// The rows of a model with ids above one, rising.
@@ -206,10 +222,46 @@ impl<'a> Tables<'a> {
     {
         let next = self.next(model);
         let first = after.0.min(next - 1) + 1;
-        self.rows.range((
+        self.rows.range(
             Bound::Included(row_key(model, first)),
             Bound::Excluded(row_key(model, next)),
-        ))
+        )
+    }
+
+    /// The rows of a model that name a row by a field, rising.
+    fn holders(&self, model: ModelNo, field: FieldNo, id: RecId) -> Range<'_, Holding, ()>
+        requires { HasModel self.now.models model }
+        ensures { map (λ entry. entry.0.holder) result ≡ naming self.now.tables model field id }
+    {
+        let end = RecId(self.next(model));
+        self.rows.holders(model, field, id, end)
+    }
+
+    /// Those of them above an id.
+    pub(crate) fn holders_above(
+        &self,
+        model: ModelNo,
+        field: FieldNo,
+        id: RecId,
+        after: RecId,
+    ) -> Range<'_, Holding, ()>
+        requires { HasModel self.now.models model }
+        ensures { map (λ entry. entry.0.holder) result ≡ filter (λ id. nat_lt after.0 id.0) (naming self.now.tables model field id) }
+    {
+        let end = RecId(self.next(model));
+        self.rows.holders_above(model, field, id, after, end)
+    }
+
+    /// The rows of a model whose values in one of its sets that no two rows may share have a
+    /// digest; there may be others among them.
+    pub(crate) fn digested(&self, model: ModelNo, digest: u64) -> Range<'_, Digested, ()>
+        requires { HasModel self.now.models model }
+        ensures { AmongDigested self.now model digest (map (λ entry. entry.0.id) result) }
+    {
+        let first = digested_at(row_key(model, 0), digest);
+        let end = digested_at(row_key(model, self.next(model)), digest);
+        self.digests
+            .range(Bound::Included(first), Bound::Excluded(end))
     }
 
     /// What a row keeps for a field.
@@ -217,6 +269,13 @@ impl<'a> Tables<'a> {
         ensures { option_map (λ value. value.now) result ≡ kept_at self.now.tables cell }
     {
         self.rows.get(&key_of(cell))?.get(&cell.field.0)
+    }
+
+    /// The row of a model and an id.
+    pub(crate) fn row(&self, model: ModelNo, id: RecId) -> Option<&PlainRow>
+        ensures { option_map (λ row. shown_row row.now) result ≡ row_at self.now.tables model id }
+    {
+        self.rows.get(&RowKey { model, id })
     }
 
     /// What gives a cell its value.
@@ -264,10 +323,8 @@ impl<'a> Tables<'a> {
         ensures { IfOk result (λ ids. ids ≡ naming self.now.tables model field id) }
     {
         let mut ids = RefList::new(self.alloc);
-        for (key, row) in self.rows_of(model) {
-            if names_by(row, field, id) {
-                ids.push(key.id)?;
-            }
+        for (holding, _) in self.holders(model, field, id) {
+            ids.push(holding.holder)?;
         }
         Ok(ids)
     }
@@ -281,17 +338,12 @@ impl<'a> Tables<'a> {
         match edit {
             Edit::Make { model, id, values } => self.make(*model, *id, values.as_slice()),
             Edit::Set { cell, value } => self.set(*cell, value),
-            Edit::Gone { model, id } => {
-                let _gone = self.rows.remove(&RowKey {
-                    model: *model,
-                    id: *id,
-                });
-                Ok(())
-            }
+            Edit::Gone { model, id } => self.take_out(*model, *id),
         }
     }
 
-    /// Makes a row, or makes it anew. The next id is raised first: it may stand higher than it must.
+    /// Makes a row, or makes it anew. The next id is raised first: it may stand higher than it
+    /// must.
     fn make(
         &mut self,
         model: ModelNo,
@@ -307,7 +359,8 @@ impl<'a> Tables<'a> {
         let row = new_row(self.alloc, self.schema.model_info(model), values)?;
         let next = self.next(model).max(id.0 + 1);
         self.next_ids.insert(model.0, next)?;
-        self.rows.insert(RowKey { model, id }, row)?;
+        let key = RowKey { model, id };
+        put_row(self.schema, &mut self.rows, &mut self.digests, key, row)?;
         Ok(())
     }
 
@@ -321,52 +374,38 @@ impl<'a> Tables<'a> {
         // The registry's law: a model's conditions are no plain fields.
         let _ = self.schema.model_info(cell.model);
         let alloc = self.alloc;
-        let Some(row) = self.rows.get_mut(&key_of(cell)) else {
+        let key = key_of(cell);
+        let Some(old) = self.rows.get(&key) else {
             return Ok(());
         };
-        put_value(row, cell.field, value.try_clone(alloc)?)?;
+        let row = row_with(alloc, old, cell.field, value.try_clone(alloc)?)?;
+        put_row(self.schema, &mut self.rows, &mut self.digests, key, row)?;
         Ok(())
     }
 
-    /// The same tables again.
+    /// Takes a row out, if it is there.
+    fn take_out(&mut self, model: ModelNo, id: RecId) -> Result<(), NoMemory>
+        ensures models { self.new.models ≡ self.old.models }
+        ensures tables { IfOk result (λ _. self.new.tables ≡ edited self.old.models self.old.tables
+            (edits.Gone model id)) }
+    {
+        let key = RowKey { model, id };
+        remove_row(self.schema, &mut self.rows, &mut self.digests, key)?;
+        Ok(())
+    }
+
+    /// The same tables again. They share what they have in common.
     pub fn try_clone(&self) -> Result<Tables<'a>, NoMemory>
         ensures { IfOk result (λ tables. tables ≡ self.now) }
     {
         Ok(Tables {
             alloc: self.alloc,
             schema: self.schema,
-            rows: copy_rows(self.alloc, &self.rows)?,
-            next_ids: copy_next_ids(self.alloc, &self.next_ids)?,
+            rows: self.rows.try_clone()?,
+            digests: self.digests.try_clone()?,
+            next_ids: self.next_ids.try_clone()?,
         })
     }
-}
-
-/// The same rows again.
-fn copy_rows(
-    alloc: Global,
-    rows: &BTreeMap<RowKey, PlainRow>,
-) -> Result<BTreeMap<RowKey, PlainRow>, NoMemory>
-    ensures { IfOk result (λ copy. shown_rows copy ≡ shown_rows rows.now) }
-{
-    let mut copy = BTreeMap::new(alloc);
-    for (key, row) in rows.iter() {
-        copy.insert(*key, copy_row(alloc, row)?)?;
-    }
-    Ok(copy)
-}
-
-/// The same next ids again.
-fn copy_next_ids(
-    alloc: Global,
-    next_ids: &BTreeMap<u16, u64>,
-) -> Result<BTreeMap<u16, u64>, NoMemory>
-    ensures { IfOk result (λ copy. copy.entries ≡ next_ids.now.entries) }
-{
-    let mut copy = BTreeMap::new(alloc);
-    for (model, next) in next_ids.iter() {
-        copy.insert(*model, *next)?;
-    }
-    Ok(copy)
 }
 
 /// A row's id as an integer; the greatest one stands for those past it.

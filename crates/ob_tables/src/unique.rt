@@ -134,7 +134,7 @@ fn values_of<'t>(
     Ok(Some(values))
 }
 
-fn is_unset(value: &Value) -> bool
+pub(crate) fn is_unset(value: &Value) -> bool
     ensures { IsTrue result ↔ (value.now ≡ variants.Nil) }
 {
     matches!(value, Value::Nil)

@@ -1,6 +1,7 @@
 //! The steps of a run. `["stage", EDIT, ..]`, `["settle"]`, `["flush"]` and `["forget"]` tell
 //! `"done"`; where one of them fails, the engine forgets what isn't kept, and the cause is told:
-//! what is broken as `[KIND, MODEL, ID, FIELD]`, or words. Any other step is a question
+//! what is broken as `[KIND, MODEL, ID, FIELD]`, or words. `["count"]` settles too, and tells what
+//! `["settle"]` does and then how many cells were evaluated. Any other step is a question
 //! (`asked`). `["not asked"]` is told of edits that don't fit, of those that make a row whose id
 //! is past the greatest one that a keeper keeps, and of a flush while edits are staged.
 
@@ -12,8 +13,9 @@ ghost use Rattle.probe_models.specs.Steps.{IsReady};
 
 use crate::asked::put_asked;
 use crate::edits::{do_fit, edits};
+use crate::told_models::put_number;
 use crate::told_tables::{NOT_ASKED, put_broken, put_fault};
-use ob_base::{Silent, Steps};
+use ob_base::{Counted, Steps};
 use ob_cache::{Engine, SettleFault};
 use ob_io::MemKeeper;
 use ob_tables::Edit;
@@ -62,8 +64,8 @@ fn put_step(
     };
     match word.as_str() {
         "stage" => put_staged(alloc, told, engine, is_settled, parts),
-        "settle" => {
-            put_settled(alloc, told, engine);
+        "settle" | "count" => {
+            put_settled(alloc, told, engine, word.as_str() == "count");
             true
         }
         "flush" if is_settled => {
@@ -138,12 +140,13 @@ fn is_low(edit: &Edit) -> bool
     }
 }
 
-/// Adds what a settle tells.
-fn put_settled(alloc: Global, told: &mut Told, engine: &mut Engine<'_, MemKeeper>)
+/// Adds what a settle tells, and where it is asked how many cells were evaluated.
+fn put_settled(alloc: Global, told: &mut Told, engine: &mut Engine<'_, MemKeeper>, is_counted: bool)
     requires { IsReady false engine.old.held }
     ensures { IsReady true engine.new.held }
 {
-    match engine.settle(&mut Steps::new(Silent)) {
+    let mut steps = Steps::new(Counted { total: 0 });
+    match engine.settle(&mut steps) {
         Ok(()) => told.put(DONE),
         Err(SettleFault::Broken(broken)) => {
             engine.forget();
@@ -153,6 +156,9 @@ fn put_settled(alloc: Global, told: &mut Told, engine: &mut Engine<'_, MemKeeper
             engine.forget();
             put_fault(told, &fault);
         }
+    }
+    if is_counted {
+        put_number(told, ",", steps.ledger().total);
     }
 }
 

@@ -10,12 +10,13 @@ ghost use Rattle.ob_schema.specs.Models.{HasModel};
 ghost use Rattle.ob_schema.specs.Presets.{IsPreset};
 ghost use Rattle.ob_schema.specs.Tables.{empty_tables};
 ghost use Rattle.ob_tables.specs.After.{after};
+ghost use Rattle.ob_tables.specs.Fitting.{IsFitEdit};
 
 use crate::installing::bringing::given_by;
 use ob_base::{NoMemory, RecId};
 use ob_orm::{Maker, Making, make_row};
 use ob_schema::PresetRow;
-use ob_tables::Tables;
+use ob_tables::{Edit, Tables};
 
 /// Rows that are made so far of those that modules bring: the edits, the rows' ids, and how many
 /// edits there were before the first of them and behind each.
@@ -90,5 +91,16 @@ pub(crate) fn tables_of<'s>(
     }) }
 {
     let edits = &placed.making.edits.as_slice()[..placed.counts[count]];
+    tables_with(maker, edits)
+}
+
+/// The tables that edits make of none.
+fn tables_with<'s>(maker: &Maker<'s>, edits: &[Edit]) -> Result<Tables<'s>, NoMemory>
+    requires { All (IsFitEdit maker.now.schema.now) edits.now }
+    ensures { IfOk result (λ tables. tables ≡ record {
+      models = maker.entry.now.schema.now;
+      tables = after maker.entry.now.schema.now (empty_tables maker.entry.now.schema.now) edits.entry.now;
+    }) }
+{
     Tables::empty(maker.alloc, maker.schema).after(edits)
 }

@@ -1,53 +1,27 @@
-use Rattle.std.proofs.Common.{◌≡◌, ◌+◌, ◌≤◌, false, List, refl, Option, Some, None, is_some, get_or, length, take, ap, subst, sym, ◌∙◌, arith}
-use Rattle.std.specs.Prelude.{slice_get}
-use Rattle.std.proofs.lemmas.List.{get_or_default}
-use Rattle.std.proofs.lemmas.Option.{slice_get-get_or}
-use Rattle.ob_base.specs.declared.id.RecId.{RecId}
-use Rattle.ob_cache.specs.Changing.{form_of, form_still}
-use Rattle.ob_cache.proofs.Gathering.{TurnedTo, gone-all, gone-passed, gone-pushed}
+use Rattle.std.proofs.Common.{◌≡◌, ◌^◌, ◌<◌, true, false, is_some, ap, sym, ◌∙◌, arith}
+use Rattle.ob_cache.specs.Changing.{form_of}
+use Rattle.ob_cache.proofs.Gathering.{form-none, turned-alike, turned-gone}
+use Rattle.ob_cache.proofs.KeptValues.{none-there}
 use Rattle.ob_cache.proofs.SoundForms.{id-within}
-use Rattle.ob_schema.specs.Models.{model_at}
-use Rattle.ob_schema.specs.Tables.{Standing, ids_in, row_at}
-use Rattle.ob_tables.proofs.CallerLemmas.{ids-there, is_there}
+use Rattle.ob_schema.specs.Tables.{Standing, row_at}
 use Rattle.ob_cache.proofs.flushing.add_gone.Goals as goal
-use Rattle.ob_cache.proofs.flushing.add_gone.Goals.{then-not-has_row+in_ok-push, else-not-has_row}
 
-none-there : {X : Type 0} (o : Option X) → is_some o ≡ false → o ≡ None
-none-there None is = refl
-none-there (Some x) is = absurd cc
-
-pub loop-id-preserved : goal.loop-id-preserved
-loop-id-preserved c =
+pub returns-in_ok-push : goal.returns-in_ok-push
+returns-in_ok-push c =
     let old = c.args.old.now in
     let new = c.args.new.now in
-    let model = c.args.model in
-    let info = is_there (model_at old.models model) c.requires.model in
-    let ids = c.as_slice-id-items.result.now in
-    let i = c.loop-id.id-index in
-    let none : RecId = record { 0 = 0 } in
-    let id = get_or ids i none in
-    let low = c.loop-id-test.true in
-    let at = get_or_default ids i none id low in
-    let listed : ids ≡ ids_in old.tables model = c.as_slice-id-items.ensures.same ∙ c.in_ok-ids.ensures ∙ ap (λ (s : Standing). ids_in s.tables model) c.tables.ensures in
-    let place : slice_get (ids_in old.tables model) i ≡ Some id = ap (λ (l : List RecId). slice_get l i) (sym listed) ∙ slice_get-get_or ids i none low in
-    let within = (id-within old.models old.tables c.laws.ensures.registry c.laws.ensures.readable.sound model id (ids-there old.tables model i id place)).1 in
-    let has : c.has_row.result ≡ is_some (row_at new.tables model id) = c.has_row.ensures ∙ ap (λ (s : Standing). is_some (row_at s.tables model id)) c.tables-in-loop-id.ensures in
-    elim c.if-not-has_row.branch [
-      | then-not-has_row+in_ok-push w ↦ subst (TurnedTo model (form_of old) (form_of old) (form_still old new) (take (i + 1) ids) c.args.changes.now) (sym w.changes-is)
-          (gone-pushed old new c.requires.same model info.0 info.1 ids i id low at c.args.changes.now c.loop-id.changes c.loop-id.invariant
-          (none-there (row_at new.tables model id) (sym has ∙ w.if-not-has_row.true)) (omega (arith, within)) w.push.new.self w.in_ok-push.ensures.ok)
-      | else-not-has_row w ↦ subst (TurnedTo model (form_of old) (form_of old) (form_still old new) (take (i + 1) ids) c.args.changes.now) (sym w.changes-is)
-          (gone-passed old new c.requires.same model info.0 info.1 ids i id low at c.args.changes.now c.loop-id.changes c.loop-id.invariant (sym has ∙ w.if-not-has_row.false))
-    ]
+    let key = c.args.key in
+    let there : is_some (row_at old.tables key.model key.id) ≡ true =
+    ap (λ (s : Standing). is_some (row_at s.tables key.model key.id)) (sym c.tables.ensures) ∙ sym c.has_row.ensures ∙ c.if-has_row.true in
+    let within = (id-within old.models old.tables c.laws.ensures.registry c.laws.ensures.readable.sound key.model key.id there).1 in
+    let fit : key.id.0 < 2 ^ 63 = omega (arith, within) in
+    turned-gone old.models key (form_of old key) (form_of new key) c.requires.model c.args.changes.now c.push.new.self fit (form-none new key c.requires.none) c.in_ok-push.ensures.ok
 
-pub returns-clause-rows : goal.returns-clause-rows
-returns-clause-rows c =
+pub returns-else-has_row : goal.returns-else-has_row
+returns-else-has_row c =
     let old = c.args.old.now in
     let new = c.args.new.now in
-    let model = c.args.model in
-    let info = is_there (model_at old.models model) c.requires.model in
-    let ids = c.as_slice-id-items.result.now in
-    let i = c.loop-id.id-index in
-    let listed : ids ≡ ids_in old.tables model = c.as_slice-id-items.ensures.same ∙ c.in_ok-ids.ensures ∙ ap (λ (s : Standing). ids_in s.tables model) c.tables.ensures in
-    gone-all old new c.requires.same model info.0 info.1 i (subst (λ (l : List RecId). length l ≤ i) listed c.loop-id-test.false) c.args.changes.now c.loop-id.changes
-    (subst (λ (l : List RecId). TurnedTo model (form_of old) (form_of old) (form_still old new) (take i l) c.args.changes.now c.loop-id.changes) listed c.loop-id.invariant)
+    let key = c.args.key in
+    let none : is_some (row_at old.tables key.model key.id) ≡ false =
+    ap (λ (s : Standing). is_some (row_at s.tables key.model key.id)) (sym c.tables.ensures) ∙ sym c.has_row.ensures ∙ c.if-has_row.false in
+    turned-alike old.models key (form_of old key) (form_of new key) (form-none old key (none-there (row_at old.tables key.model key.id) none) ∙ sym (form-none new key c.requires.none)) c.args.changes.now

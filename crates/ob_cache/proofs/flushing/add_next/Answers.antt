@@ -3,15 +3,15 @@ use Rattle.ob_cache.proofs.Gathering.{next-pushed}
 use Rattle.ob_schema.specs.Tables.{Standing, next_of}
 use Rattle.ob_cache.proofs.flushing.add_next.Goals as goal
 
-pub returns-in_ok-push-clause-only : goal.returns-in_ok-push-clause-only
-returns-in_ok-push-clause-only c =
+pub returns-in_ok-push-clause-rows : goal.returns-in_ok-push-clause-rows
+returns-in_ok-push-clause-rows c =
     let is : c.next-next.result ≡ next_of c.args.new.now.tables c.args.model = c.next-next.ensures.next ∙ ap (λ (s : Standing). next_of s.tables c.args.model) c.tables.ensures in
     let fits = c.requires.fits in
     let low : c.next-next.result < 2 ^ 63 = omega (arith, is, fits) in
     (next-pushed c.args.model c.next-next.result c.args.changes.now c.push.new.self c.in_ok-push.ensures.ok low).1
 
-pub returns-in_ok-push-clause-rows : goal.returns-in_ok-push-clause-rows
-returns-in_ok-push-clause-rows c =
+pub returns-in_ok-push-clause-others : goal.returns-in_ok-push-clause-others
+returns-in_ok-push-clause-others c =
     let is : c.next-next.result ≡ next_of c.args.new.now.tables c.args.model = c.next-next.ensures.next ∙ ap (λ (s : Standing). next_of s.tables c.args.model) c.tables.ensures in
     let fits = c.requires.fits in
     let low : c.next-next.result < 2 ^ 63 = omega (arith, is, fits) in

@@ -13,7 +13,7 @@ pub returns-in_err-ids-clause-kept : goal.returns-in_err-ids-clause-kept
 returns-in_err-ids-clause-kept g c = anyhow_err c.from_residual-in_err-ids.result (asks_keeps g.K.Keeper c.args.engine.now c.value_at.new.engine c.value_at.ensures.asked)
 
 pub returns-clause-changed : goal.returns-clause-changed
-returns-clause-changed g c = asked_on_ok g.K.Keeper c.args.engine.now c.value_at.new.engine c.set_cell.new.engine c.set_cell.result c.requires.usable c.value_at.ensures.asked c.set_cell.ensures.changed
+returns-clause-changed g c = asked_on_ok g.K.Keeper c.args.engine.now c.value_at.new.engine c.set_list.new.engine c.set_list.result c.requires.usable c.value_at.ensures.asked c.set_list.ensures.changed
 
 pub returns-clause-kept : goal.returns-clause-kept
-returns-clause-kept g c = asked_on_err g.K.Keeper c.args.engine.now c.value_at.new.engine c.set_cell.new.engine c.set_cell.result c.value_at.ensures.asked c.set_cell.ensures.kept
+returns-clause-kept g c = asked_on_err g.K.Keeper c.args.engine.now c.value_at.new.engine c.set_list.new.engine c.set_list.result c.value_at.ensures.asked c.set_list.ensures.kept

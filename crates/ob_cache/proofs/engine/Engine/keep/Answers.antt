@@ -1,10 +1,8 @@
-use Rattle.std.proofs.Common.{◌≡◌, List, ap, refl, subst, sym}
-use Rattle.std.specs.Prelude.{IsSomeAnd, OnErr, OnOk, option_map}
+use Rattle.std.proofs.Common.{refl, subst, sym}
 use Rattle.std.proofs.lemmas.Result.{on_ok_weaker}
 use Rattle.ob_cache.proofs.KeptAfter.{held-kept, others-stay}
 use Rattle.ob_cache.proofs.Standings.{settled-usable}
 use Rattle.ob_cache.specs.Changing.{ChangesTo}
-use Rattle.ob_io.specs.Store.{all_changed}
 use Rattle.ob_cache.proofs.engine.Engine.keep.Goals as goal
 
 pub returns-clause-kept : goal.returns-clause-kept

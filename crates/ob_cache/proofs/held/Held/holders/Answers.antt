@@ -1,6 +1,5 @@
-use Rattle.std.proofs.Common.{List, subst, sym, ap, ◌∙◌}
+use Rattle.std.proofs.Common.{subst}
 use Rattle.ob_base.specs.Rising.{IsRising}
-use Rattle.ob_base.specs.declared.id.RecId.{RecId}
 use Rattle.ob_cache.proofs.Pages.{naming-fit, page-fits}
 use Rattle.ob_schema.specs.Plain.{naming}
 use Rattle.ob_cache.proofs.held.Held.holders.Goals as goal

@@ -1,6 +1,5 @@
-use Rattle.std.proofs.Common.{List, subst, sym, ap, ◌∙◌}
+use Rattle.std.proofs.Common.{subst}
 use Rattle.ob_base.specs.Rising.{IsRising}
-use Rattle.ob_base.specs.declared.id.RecId.{RecId}
 use Rattle.ob_cache.proofs.Pages.{ids-fit, page-fits}
 use Rattle.ob_schema.specs.Tables.{ids_in}
 use Rattle.ob_cache.proofs.held.Held.page.Goals as goal

@@ -1,7 +1,6 @@
-use Rattle.std.proofs.Common.{◌≡◌, Option, true, subst, sym}
+use Rattle.std.proofs.Common.{◌≡◌, true, subst}
 use Rattle.std.specs.Prelude.{IfOk, IfSome, IsSomeAnd}
 use Rattle.std.proofs.lemmas.Result.{IfOk-weaker}
-use Rattle.ob_base.specs.declared.value.Value.{Value}
 use Rattle.ob_cache.proofs.Seen.{given-typed}
 use Rattle.ob_codec.specs.Held.{HasFieldType}
 use Rattle.ob_schema.specs.Models.{field_at, is_given_from}

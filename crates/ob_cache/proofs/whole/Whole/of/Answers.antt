@@ -1,5 +1,5 @@
 use Rattle.std.proofs.Common.{List, subst}
-use Rattle.ob_cache.proofs.BrokenFields.{broken-field}
+use Rattle.ob_change.proofs.CallerLemmas.{broken-field}
 use Rattle.ob_schema.specs.Broken.{IsFirstBroken}
 use Rattle.ob_schema.specs.Models.{HasField}
 use Rattle.ob_schema.specs.declared.info.ModelInfo.{ModelInfo}

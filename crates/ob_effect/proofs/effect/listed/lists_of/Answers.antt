@@ -1,9 +1,8 @@
-use Rattle.std.proofs.Common.{◌≡◌, List, [], sym, subst, ◌∙◌}
-use Rattle.std.specs.Prelude.{All, Contains}
+use Rattle.std.proofs.Common.{◌≡◌, List, sym, subst}
+use Rattle.std.specs.Prelude.{Contains}
 use Rattle.std.proofs.lemmas.List.Elements.{All-nil, All-push}
 use Rattle.ob_effect.proofs.Questions.{asks_none, asks_then}
 use Rattle.ob_effect.specs.Lists.{IsListField}
-use Rattle.ob_effect.specs.Objects.{AreTypedOrders}
 use Rattle.ob_effect.specs.declared.effect.listed.Listed.{Listed}
 use Rattle.ob_effect.specs.declared.object.Orders.{Orders}
 use Rattle.ob_schema.specs.declared.info.ModelInfo.{ModelInfo}

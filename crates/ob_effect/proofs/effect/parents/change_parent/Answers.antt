@@ -1,12 +1,10 @@
-use Rattle.std.proofs.Common.{◌≡◌, List, sym, subst, ◌∙◌}
+use Rattle.std.proofs.Common.{◌≡◌, List, sym, subst}
 use Rattle.ob_base.specs.declared.id.ModelNo.{ModelNo}
 use Rattle.ob_base.specs.declared.id.RowKey.{RowKey}
 use Rattle.ob_cache.specs.Stages.{IsPlainCell}
 use Rattle.ob_effect.proofs.CallSteps.{edits_none, fails, forbidden, goes_asked, goes_none, goes_noted, noted_later, starves, steps_last, unasked}
 use Rattle.ob_effect.proofs.ParentLists.{parent_cell, parent_there}
 use Rattle.ob_effect.proofs.Questions.{asks_edits}
-use Rattle.ob_effect.specs.Cells.{cell_at}
-use Rattle.ob_effect.specs.Parents.{IsParentOf}
 use Rattle.ob_schema.specs.Models.{HasModel, IsRegistry}
 use Rattle.ob_schema.specs.declared.info.ModelInfo.{ModelInfo}
 use Rattle.ob_tables.proofs.CallerLemmas.{known_if}

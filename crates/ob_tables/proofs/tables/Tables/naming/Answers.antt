@@ -1,45 +1,22 @@
-use Rattle.std.proofs.Common.{◌++◌, List, map, filter, ap, sym, subst, ◌∙◌}
+use Rattle.std.proofs.Common.{◌++◌, map, ap, sym, subst, ◌∙◌}
 use Rattle.std.specs.List.Sorted.{IsStrictlySortedBy}
-use Rattle.ob_base.specs.declared.id.RecId.{RecId}
-use Rattle.ob_schema.specs.Plain.{names}
-use Rattle.ob_schema.specs.Tables.{PlainRow, kept_in}
-use Rattle.ob_tables.proofs.Rising.{below-next, chosen-more, chosen-passed, chosen_ids, entry-ids, entry_id, id_cmp, ids-rise, pushed, sorted-without}
+use Rattle.ob_tables.proofs.Listing.{naming-rises}
+use Rattle.ob_tables.proofs.Rising.{below-next, id_cmp, pushed}
 use Rattle.ob_tables.proofs.tables.Tables.naming.Goals as goal
 
-pub loop-key-init : goal.loop-key-init
-loop-key-init c =
-    let p = λ (entry : RecId × PlainRow). names c.args.id (kept_in entry.1 c.args.field) in
-    let left = c.into_iter-key-iterator.result in
-    let ids = ap (map entry_id) c.into_iter-key-iterator.ensures.into_iter_gives ∙ sym (entry-ids c.rows_of-key-items.result) ∙ ap (map (λ (e : RecId × PlainRow). e.0)) c.rows_of-key-items.ensures in
-    record {
-      all = ap (λ l. l ++ chosen_ids p left) c.new-ids.ensures ∙ ap (chosen_ids p) c.into_iter-key-iterator.ensures.into_iter_gives ∙ ap (λ rows. map (λ (e : RecId × PlainRow). e.0) (filter p rows)) c.rows_of-key-items.ensures;
-      rising = subst (λ l. IsStrictlySortedBy id_cmp (l ++ map entry_id left)) (sym c.new-ids.ensures) (subst (IsStrictlySortedBy id_cmp) (sym ids) (ids-rise c.args.model c.args.self.now.tables));
-    }
+pub loop-holding-init : goal.loop-holding-init
+loop-holding-init c =
+    ap (λ l. l ++ map (λ entry. entry.0.holder) c.into_iter-holding-iterator.result) c.new-ids.ensures ∙ ap (map (λ entry. entry.0.holder)) c.into_iter-holding-iterator.ensures.into_iter_gives ∙ c.holders-holding-items.ensures
 
 pub push-requires : goal.push-requires
-push-requires c = below-next c.loop-key.ids c.in-Some.key.now.id (map entry_id c.next.new.self)
-    (subst (λ es. IsStrictlySortedBy id_cmp (c.loop-key.ids ++ map entry_id es)) c.in-Some.ensures.steps c.loop-key.invariant.rising)
+push-requires c =
+    let ids = c.loop-holding.ids in
+    below-next ids c.in-Some.holding.now.holder (map (λ entry. entry.0.holder) c.next.new.self)
+    (subst (λ es. IsStrictlySortedBy id_cmp (ids ++ map (λ entry. entry.0.holder) es)) c.in-Some.ensures.steps
+    (subst (IsStrictlySortedBy id_cmp) (sym c.loop-holding.invariant) (naming-rises c.args.self.now.tables c.args.model c.args.field c.args.id)))
 
-pub loop-key-preserved-in-Continue-1 : goal.loop-key-preserved-in-Continue-1
-loop-key-preserved-in-Continue-1 c =
-    let p = λ (entry : RecId × PlainRow). names c.args.id (kept_in entry.1 c.args.field) in
-    let ids = c.loop-key.ids in
-    let id = c.in-Some.key.now.id in
-    let left = c.next.new.self in
-    record {
-      all = pushed ids c.push.new.self id (chosen_ids p left) c.in_ok-push.ensures.ok
-          ∙ sym (ap (λ (l : List RecId). ids ++ l) (chosen-more p c.loop-key.key-iterator left (c.in-Some.key.now, c.in-Some.row.now) c.in-Some.ensures.steps (sym c.names_by.ensures ∙ c.if-names_by.true))) ∙ c.loop-key.invariant.all;
-      rising = subst (IsStrictlySortedBy id_cmp) (sym (pushed ids c.push.new.self id (map entry_id left) c.in_ok-push.ensures.ok))
-          (subst (λ es. IsStrictlySortedBy id_cmp (ids ++ map entry_id es)) c.in-Some.ensures.steps c.loop-key.invariant.rising);
-    }
-
-pub loop-key-preserved : goal.loop-key-preserved
-loop-key-preserved c =
-    let p = λ (entry : RecId × PlainRow). names c.args.id (kept_in entry.1 c.args.field) in
-    let ids = c.loop-key.ids in
-    let left = c.next.new.self in
-    record {
-      all = sym (ap (λ (l : List RecId). ids ++ l) (chosen-passed p c.loop-key.key-iterator left (c.in-Some.key.now, c.in-Some.row.now) c.in-Some.ensures.steps (sym c.names_by.ensures ∙ c.if-names_by.false)))
-          ∙ c.loop-key.invariant.all;
-      rising = sorted-without id_cmp ids c.in-Some.key.now.id (map entry_id left) (subst (λ es. IsStrictlySortedBy id_cmp (ids ++ map entry_id es)) c.in-Some.ensures.steps c.loop-key.invariant.rising);
-    }
+pub loop-holding-preserved : goal.loop-holding-preserved
+loop-holding-preserved c =
+    let ids = c.loop-holding.ids in
+    pushed ids c.push.new.self c.in-Some.holding.now.holder (map (λ entry. entry.0.holder) c.next.new.self) c.in_ok-push.ensures.ok
+    ∙ sym (ap (λ es. ids ++ map (λ entry. entry.0.holder) es) c.in-Some.ensures.steps) ∙ c.loop-holding.invariant

@@ -1,13 +1,7 @@
 use Rattle.std.proofs.Common.{◌≡◌, ◌++◌, map}
-use Rattle.std.specs.List.Sorted.{IsStrictlySortedBy}
-use Rattle.ob_schema.specs.Plain.{names, naming}
-use Rattle.ob_schema.specs.Tables.{kept_in}
-use Rattle.ob_tables.proofs.Rising.{chosen_ids, entry_id, id_cmp}
+use Rattle.ob_schema.specs.Plain.{naming}
 use Rattle.ob_tables.proofs.tables.Tables.naming.Given as goal
 
--- the ids so far and those of the rows that are left and name the row are all, and the ids that are left go on rising
-abbrev pub invariant-loop-key : goal.invariant-loop-key
-invariant-loop-key l = record {
-  all : l.ids ++ chosen_ids (λ entry. names l.id (kept_in entry.1 l.field)) l.key-iterator ≡ naming l.self.tables l.fn.model l.field l.id;
-  rising : IsStrictlySortedBy id_cmp (l.ids ++ map entry_id l.key-iterator);
-}
+-- the ids so far and those that are left are all
+abbrev pub invariant-loop-holding : goal.invariant-loop-holding
+invariant-loop-holding l = l.ids ++ map (λ entry. entry.0.holder) l.holding-iterator ≡ naming l.self.tables l.fn.model l.fn.field l.fn.id

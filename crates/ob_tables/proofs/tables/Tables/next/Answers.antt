@@ -14,10 +14,10 @@ returns-clause-next c = told c
 
 pub returns-clause-low : goal.returns-clause-low
 returns-clause-low c =
-    let fits = subst (λ s. Fits s.models s.tables) c.self.view_is c.self.invariant in
+    let fits = subst (λ s. Fits s.models s.tables) c.self.view_is c.self.invariant.fits in
     subst (λ n. 1 ≤ n) (sym (told c)) (fits.low c.args.model)
 
 pub returns-clause-above : goal.returns-clause-above
 returns-clause-above c id there =
-    let fits = subst (λ s. Fits s.models s.tables) c.self.view_is c.self.invariant in
+    let fits = subst (λ s. Fits s.models s.tables) c.self.view_is c.self.invariant.fits in
     subst (λ n. id.0 < n) (sym (told c)) (fits.above c.args.model id there)

@@ -12,7 +12,7 @@ returns-in-None c =
     let m = c.model_info.result.now in
     let at = subst (λ s. model_at s.models c.args.cell.model ≡ Some m) c.self.view_is c.model_info.ensures.at in
     let law = subst (λ s. IsModel s.models c.args.cell.model m) c.self.view_is c.model_info.ensures.fit in
-    let fits = subst (λ s. Fits s.models s.tables) c.self.view_is c.self.invariant in
+    let fits = subst (λ s. Fits s.models s.tables) c.self.view_is c.self.invariant.fits in
     contrary (sym (ap is_some (sym c.kept.ensures ∙ ap (option_map (λ value. value.now)) c.in-None.is))
     ∙ has-kept c.args.self.now.models c.args.self.now.tables c.args.cell m c.args.info.now at law c.requires.field fits c.requires.plain c.requires.row (sym c.or.ensures ∙ c.in_default.is))
 

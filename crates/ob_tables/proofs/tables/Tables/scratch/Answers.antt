@@ -13,13 +13,13 @@ use Rattle.ob_tables.proofs.tables.Tables.scratch.Goals as goal
 
 pub returns-clause-value : goal.returns-clause-value
 returns-clause-value c =
-    let given = c.in_ok-of.field-0.tables.now in
-    subst (λ (s : Standing). IfOk c.value_of.result (λ v. val s.models s.tables c.args.cell ≡ Ok v)) c.in_ok-of.ensures
+    let given = c.of.result.tables.now in
+    subst (λ (s : Standing). IfOk c.value_of.result (λ v. val s.models s.tables c.args.cell ≡ Ok v)) c.of.ensures
     (subst (λ (f : Cell → Result Value Lack). IfOk c.value_of.result (λ v. f c.args.cell ≡ Ok v)) (values_are given.models given.tables) c.value_of.ensures.value)
 
 pub returns-clause-fault : goal.returns-clause-fault
 returns-clause-fault c =
-    let given = c.in_ok-of.field-0.tables.now in
-    subst (λ (s : Standing). IfErr c.value_of.result (HasNoValue s.models s.tables c.args.cell)) c.in_ok-of.ensures
+    let given = c.of.result.tables.now in
+    subst (λ (s : Standing). IfErr c.value_of.result (HasNoValue s.models s.tables c.args.cell)) c.of.ensures
     (IfErr-weaker c.value_of.result (Lacks (values_of given.models given.tables c.args.cell)) (HasNoValue given.models given.tables c.args.cell)
     (lacks-has given.models given.tables c.args.cell) c.value_of.ensures.fault)

@@ -9,10 +9,12 @@ use Rattle.ob_tables.proofs.tables.Tables.with_next.Goals as goal
 
 pub invariant_of-tables : goal.invariant_of-tables
 invariant_of-tables c =
-    let same = sym (c.tables.view_is ∙ c.in_ok-tables.ensures) in
-    fits-raised c.tables.inside.schema.now c.tables.inside.rows c.tables.inside.next_ids c.tables.invariant c.insert.new.self c.args.model c.args.next
-    (subst (λ (s : Standing). HasModel s.models c.args.model) same c.requires.model) c.in_ok-insert.ensures.updates.0 c.requires.low
-    (subst (λ (s : Standing). (id : RecId) → IsSome (row_at s.tables c.args.model id) → id.0 < c.args.next) same c.requires.above)
+    let same = sym (c.tables.view_is ∙ c.in_ok-tables.ensures) in record {
+      fits = fits-raised c.tables.inside.schema.now c.tables.inside.rows c.tables.inside.next_ids c.tables.invariant.fits c.insert.new.self c.args.model c.args.next
+          (subst (λ (s : Standing). HasModel s.models c.args.model) same c.requires.model) c.in_ok-insert.ensures.updates.0 c.requires.low
+          (subst (λ (s : Standing). (id : RecId) → IsSome (row_at s.tables c.args.model id) → id.0 < c.args.next) same c.requires.above);
+      digested = c.tables.invariant.digested;
+    }
 
 pub returns : goal.returns
 returns c =

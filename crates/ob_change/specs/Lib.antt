@@ -1,0 +1,4 @@
+pub mod Changing
+pub mod Testing
+pub mod TreeRows
+pub mod EditedSteps

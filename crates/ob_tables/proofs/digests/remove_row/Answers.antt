@@ -1,0 +1,12 @@
+use Rattle.std.proofs.Common.{None, sym, subst}
+use Rattle.ob_tables.specs.Digests.{AreDigested}
+use Rattle.ob_tables.specs.Holdings.{RowMap}
+use Rattle.ob_tables.proofs.DigestedRows.{digested-after}
+use Rattle.ob_tables.proofs.digests.remove_row.Goals as goal
+
+pub returns-in_err-remove-clause-digested : goal.returns-in_err-remove-clause-digested
+returns-in_err-remove-clause-digested c = subst (λ (r : RowMap). AreDigested c.args.schema.now r c.args.digests.now) (sym c.in_err-remove.ensures.err) c.requires
+
+pub returns-clause-digested : goal.returns-clause-digested
+returns-clause-digested c =
+    digested-after c.args.schema.now c.args.rows.now c.remove.new.self c.args.key None c.in_ok-turned.turned c.in_ok-turned.ensures c.in_ok-remove.ensures.updates.0
