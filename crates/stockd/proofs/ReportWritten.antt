@@ -7,13 +7,12 @@ use Rattle.ob_audit.specs.Report.{IsReport}
 use Rattle.ob_audit.specs.declared.report.Report.{Report}
 use Rattle.ob_io.specs.Store.{Store}
 use Rattle.ob_schema.specs.declared.info.ModelInfo.{ModelInfo}
-use Rattle.stockd.specs.declared.ending.Ending.TheVariants as ending
-use Rattle.stockd.specs.declared.ending.Ending.{Ending}
+use Rattle.ob_server.specs.declared.ending.Ending.TheVariants as ending
+use Rattle.ob_server.specs.declared.ending.Ending.{Ending}
+use Rattle.ob_server.specs.Ending.{WritesPart}
+use Rattle.ob_server.specs.Session.{reply_lines}
+use Rattle.ob_server.proofs.CallerLemmas.{front_after, front_of_more, reply_lines-append, whole_after}
 use Rattle.stockd.specs.Audit.{TellsReport, WritesReport, report_text}
-use Rattle.stockd.specs.Ending.{HasReason, WritesPart}
-use Rattle.stockd.specs.Session.{reply_lines}
-use Rattle.stockd.proofs.ServedOn.{reply_lines-append}
-use Rattle.stockd.proofs.WrittenParts.{front_after, front_of_more, whole_after}
 
 -- what is known of something that is told
 pub at_told : {A : Type 0} (P : A → Type 0) (own : A) (told : Option A) → told ≡ Some own → IfSome told P → P own
@@ -63,17 +62,3 @@ report_told models store report rose ending.KeeperFault old now is writes = absu
 report_told models store report rose ending.NoMemory old now is writes = absurd writes
 report_told models store report rose (ending.Store cell) old now is writes = absurd writes
 report_told models store report rose (ending.TooLong number) old now is writes = absurd writes
-
--- an ending has its reason also where more may be one
-pub reason_weaker : (audits audits' input input' output output' keeper keeper' : Type 0) (why : Ending) → (audits → audits') → (input → input') → (output → output') → (keeper → keeper')
-    → HasReason audits input output keeper why → HasReason audits' input' output' keeper' why
-reason_weaker audits audits' input input' output output' keeper keeper' ending.Done a i o k h = tt
-reason_weaker audits audits' input input' output output' keeper keeper' ending.Differs a i o k h = a h
-reason_weaker audits audits' input input' output output' keeper keeper' ending.Usage a i o k h = h
-reason_weaker audits audits' input input' output output' keeper keeper' (ending.Module text) a i o k h = tt
-reason_weaker audits audits' input input' output output' keeper keeper' ending.ReadFault a i o k h = i h
-reason_weaker audits audits' input input' output output' keeper keeper' ending.WriteFault a i o k h = o h
-reason_weaker audits audits' input input' output output' keeper keeper' ending.KeeperFault a i o k h = k h
-reason_weaker audits audits' input input' output output' keeper keeper' ending.NoMemory a i o k h = tt
-reason_weaker audits audits' input input' output output' keeper keeper' (ending.Store cell) a i o k h = tt
-reason_weaker audits audits' input input' output output' keeper keeper' (ending.TooLong number) a i o k h = tt

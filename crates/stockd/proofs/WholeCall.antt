@@ -1,10 +1,9 @@
 -- From the loading and the opening to what the whole run did.
-use Rattle.std.proofs.Common.{◌≡◌, ℕ, ℤ, ◌≤◌, ◌⊎◌, List, Option, Some, None, refl, sym, ap, ◌∙◌, subst, arith, inl, inr}
+use Rattle.std.proofs.Common.{◌≡◌, ℕ, ℤ, ◌⊎◌, List, Option, Some, None, refl, sym, ap, subst, inl, inr}
 use Rattle.std.specs.Option.{IsSome, IsSomeAnd, is_some}
 use Rattle.ob_cache.specs.Kept.{Kept, OthersStay}
 use Rattle.ob_cache.specs.Stages.{StandsOver, resting}
 use Rattle.ob_cache.specs.Standing.{Holding, RestsAt}
-use Rattle.ob_io.specs.Cause.{Rose}
 use Rattle.ob_io.specs.Store.{Store}
 use Rattle.ob_load.specs.Loading.{IsFirstFault}
 use Rattle.ob_load.specs.Texts.{AgreesWith, FileTexts, text_in}
@@ -14,14 +13,13 @@ use Rattle.ob_schema.specs.Tables.{Tables}
 use Rattle.ob_schema.specs.declared.info.ModelInfo.{ModelInfo}
 use Rattle.ob_words.specs.Values.{Action, audit, call, serve}
 use Rattle.ob_words.specs.Words.{Command}
-use Rattle.stockd.specs.declared.ending.Ending.TheVariants as ending
-use Rattle.stockd.specs.declared.ending.Ending.{Ending}
-use Rattle.stockd.specs.Ending.{HasReason}
-use Rattle.stockd.specs.Outside.{Outside, Surroundings}
-use Rattle.stockd.specs.Program.{AreLoadedBy, EndsAction, EndsAudit, EndsCall, IsUntouched}
-use Rattle.stockd.specs.Session.{StandsFor, Session, state_at}
-use Rattle.stockd.specs.Store.{EndsLoading, EndsOpening, TellsFault}
-use Rattle.stockd.proofs.RunOn.{run_from}
+use Rattle.ob_server.specs.declared.ending.Ending.TheVariants as ending
+use Rattle.ob_server.specs.declared.ending.Ending.{Ending}
+use Rattle.ob_server.specs.Ending.{HasReason}
+use Rattle.ob_server.specs.Session.{StandsFor}
+use Rattle.stockd.specs.Outside.{Outside}
+use Rattle.stockd.specs.Program.{EndsAction, EndsAudit, EndsCall, EndsServe, IsUntouched}
+use Rattle.stockd.specs.Store.{EndsLoading, TellsFault}
 
 -- a fault that is the first one, and is told, stops the loading
 stops_told : (text_of : List ℕ → Option (List ℕ)) (names : List (List ℕ)) (rose : Type 0) (faulty : FaultyModule) (why : Ending)
@@ -70,6 +68,15 @@ module _ {D : Type 0} (faults : D → ℕ) (kept : D → Option Store) where
 pub read_reason : (audits source output keeper : Type 0) (why : Ending) → HasReason audits source output keeper why → why ≡ ending.ReadFault → source
 read_reason audits source output keeper why reason is = subst (λ (w : Ending). HasReason audits source output keeper w) is reason
 
+-- a fault of reading is one of the files, of the source or of the door
+pub of_source : {files source next : Type 0} → files ⊎ source → files ⊎ (source ⊎ next)
+of_source (inl file) = inl file
+of_source (inr source) = inr (inl source)
+
+pub of_door : {files source next : Type 0} → files ⊎ next → files ⊎ (source ⊎ next)
+of_door (inl file) = inl file
+of_door (inr next) = inr (inr next)
+
 -- where memory is wanting before anything is done, nothing is
 pub not_begun : (action : Action) (command : Command) (store : Store) (before after : Outside) → IsUntouched before.left after.left before.standing after.standing → after.door ≡ before.door
     → EndsAction action command ending.NoMemory store before after
@@ -83,6 +90,12 @@ not_begun audit command store before after same door =
 -- what an action did by itself
 pub called : (action : Action) (command : Command) (why : Ending) (store : Store) (before after : Outside) → action ≡ call → EndsCall command why store before after → EndsAction action command why store before after
 called action command why store before after is ends = rw is ends
+
+-- what serving did is what the action did
+pub served : (action : Action) (command : Command) (why : Ending) (store : Store) (before after : Outside) → action ≡ serve
+    → ((streams : List (List ℕ)) (moments : ℕ → ℤ) → before.door.coming ≡ Some streams → before.standing.coming ≡ Some moments → EndsServe command why store before after)
+    → EndsAction action command why store before after
+served action command why store before after is ends = rw is ends
 
 pub audited : (action : Action) (command : Command) (why : Ending) (store : Store) (before after : Outside) → action ≡ audit → EndsAudit command why store before after → EndsAction action command why store before after
 audited action command why store before after is ends = rw is ends

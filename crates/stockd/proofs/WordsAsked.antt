@@ -3,12 +3,13 @@ use Rattle.std.proofs.Common.{◌≡◌, ℕ, ◌≤◌, ◌⊎◌, Option, Some
 use Rattle.ob_io.specs.Cause.{Rose}
 use Rattle.ob_words.specs.Words.{AsksNoRun, AsksToBeTold, Asked, Command}
 use Rattle.ob_words.specs.Words as words
-use Rattle.stockd.specs.Ending.{EndsTelling, status_of}
+use Rattle.ob_server.specs.Ending.{status_of}
+use Rattle.ob_server.specs.declared.ending.Ending.{Ending}
+use Rattle.ob_server.specs.declared.ending.Ending.TheVariants as ending
+use Rattle.ob_server.proofs.CallerLemmas.{Rose-later}
+use Rattle.stockd.specs.Telling.{EndsTelling}
 use Rattle.stockd.specs.Outside.{Outside}
 use Rattle.stockd.specs.Program.{HasCauses}
-use Rattle.stockd.specs.declared.ending.Ending.{Ending}
-use Rattle.stockd.specs.declared.ending.Ending.TheVariants as ending
-use Rattle.stockd.proofs.Counts.{Rose-later}
 
 -- words that ask for nothing end with status 2, whatever the objects do
 pub no_command : (asked : Option Asked) (before after : Outside) (status : ℕ) → status ≡ 2 → asked ≡ None → HasCauses asked before after status

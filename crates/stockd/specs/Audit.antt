@@ -4,10 +4,10 @@ use Rattle.ob_audit.specs.Report.{IsReport}
 use Rattle.ob_audit.specs.declared.report.Report.{Report}
 use Rattle.ob_io.specs.Store.{Store}
 use Rattle.ob_schema.specs.declared.info.ModelInfo.{ModelInfo}
-use Rattle.stockd.specs.Ending.{IsCutShort, WritesPart}
-use Rattle.stockd.specs.Session.{reply_lines}
-use Rattle.stockd.specs.declared.ending.Ending.{Ending}
-use Rattle.stockd.specs.declared.ending.Ending.TheVariants as ending
+use Rattle.ob_server.specs.Ending.{IsCutShort, WritesPart}
+use Rattle.ob_server.specs.Session.{reply_lines}
+use Rattle.ob_server.specs.declared.ending.Ending.{Ending}
+use Rattle.ob_server.specs.declared.ending.Ending.TheVariants as ending
 
 -- the lines of a report, each with its line feed
 abbrev pub report_text : Report → List ℕ

@@ -9,15 +9,16 @@ use Rattle.ob_words.specs.Values.{Action, audit, call, serve}
 use Rattle.ob_words.specs.Words.{Asked, AsksForAudit, Command}
 use Rattle.ob_schema.specs.Tables.{Tables, empty_tables}
 use Rattle.ob_schema.specs.declared.preset.PresetRow.{PresetRow}
-use Rattle.stockd.specs.declared.ending.Ending.{Ending}
-use Rattle.stockd.specs.declared.ending.Ending.TheVariants as ending
-use Rattle.stockd.specs.Ending.{status_of, last_line, WritesLast}
-use Rattle.stockd.specs.Opening.{Opening, StopsFilling, TakesMoment}
-use Rattle.stockd.specs.Outside.{Outside, Surroundings}
-use Rattle.stockd.specs.Session.{StandsFor, Session}
-use Rattle.stockd.specs.Setup.{Setup}
+use Rattle.ob_server.specs.declared.ending.Ending.{Ending}
+use Rattle.ob_server.specs.declared.ending.Ending.TheVariants as ending
+use Rattle.ob_server.specs.Ending.{status_of, last_line, WritesLast}
+use Rattle.ob_server.specs.Opening.{Opening, StopsFilling, TakesMoment}
+use Rattle.ob_server.specs.Outside.{Surroundings}
+use Rattle.ob_server.specs.Session.{StandsFor, Session}
+use Rattle.ob_server.specs.Setup.{Setup}
+use Rattle.ob_server.specs.Reception.{Reception}
+use Rattle.stockd.specs.Outside.{Outside}
 use Rattle.stockd.specs.Audit.{TellsReport}
-use Rattle.stockd.specs.Reception.{Reception}
 use Rattle.stockd.specs.Store.{EndsLoading, EndsOpening}
 
 -- the modules that are asked for have these models, say who may ask for what, and bring these rows, in texts that the files tell, where they do; and the database is the one that is asked for

@@ -10,8 +10,8 @@ use Rattle.ob_load.specs.Loading.{IsFirstFault}
 use Rattle.ob_load.specs.declared.fault.FaultyModule.{FaultyModule}
 use Rattle.ob_orm.specs.RefusalText.{cell_text}
 use Rattle.ob_schema.specs.declared.info.ModelInfo.{ModelInfo}
-use Rattle.stockd.specs.declared.ending.Ending.{Ending}
-use Rattle.stockd.specs.declared.ending.Ending.TheVariants as ending
+use Rattle.ob_server.specs.declared.ending.Ending.{Ending}
+use Rattle.ob_server.specs.declared.ending.Ending.TheVariants as ending
 
 -- the first thing that stands against the modules of these names is told, where this is the text of each
 abbrev pub TellsModule : (text_of : List ℕ → Option (List ℕ)) → (names : List (List ℕ)) → List ℕ → Type 0

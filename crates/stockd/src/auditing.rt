@@ -4,16 +4,15 @@
 ghost use Rattle.std.specs.Prelude.{◌≡◌, ◌≤◌, ◌++◌, ℕ, List, Some, ⊤, IsErr, OnErr, OnOk, option_map};
 ghost use Rattle.ob_io.specs.Cause.{HasCause, Rose};
 ghost use Rattle.ob_io.specs.Store.{Store};
+ghost use Rattle.ob_server.specs.Ending.{HasReason, WritesPart};
+ghost use Rattle.ob_server.specs.Session.{reply_lines};
 ghost use Rattle.stockd.specs.Audit.{TellsReport, WritesReport};
-ghost use Rattle.stockd.specs.Ending.{HasReason, WritesPart};
-ghost use Rattle.stockd.specs.Session.{reply_lines};
 
-use crate::ending::Ending;
-use crate::output::write_line;
 use ob_audit::{AuditFault, Report, audit};
 use ob_base::Word;
 use ob_io::{Failed, Keeper, Sink};
 use ob_schema::Schema;
+use ob_server::{Ending, write_line};
 use std::alloc::Global;
 
 /// Audits the rows that are kept, and writes the report once the whole of it is made.

@@ -3,12 +3,11 @@
 
 ghost use Rattle.std.specs.Prelude.{◌≤◌};
 ghost use Rattle.ob_io.specs.Cause.{Rose};
-ghost use Rattle.stockd.specs.Ending.{EndsTelling};
+ghost use Rattle.stockd.specs.Telling.{EndsTelling};
 
-use crate::ending::Ending;
-use crate::output::write_all;
 use ob_base::NoMemory;
 use ob_io::{Failed, Sink};
+use ob_server::{Ending, write_all};
 use ob_words::{VERSION, help_text};
 use std::alloc::Global;
 

@@ -1,6 +1,6 @@
 //! A run of the program, from its words to its status. What is done in which order stands
-//! here; what a session does is settled in `session`, what connections get in `serving`, and what
-//! modules mean in `ob_load`.
+//! here; what a session does and what connections get is settled in `ob_server`, and what modules
+//! mean in `ob_load`.
 
 ghost use Rattle.std.specs.Prelude.{◌≡◌, ◌≤◌, ◌⊎◌, ℕ, ℤ, List, Option, Some, ⊤, IfErr, IfOk, IfSome, option_map};
 ghost use Rattle.ob_access.specs.Policies.{IsPolicyOver};
@@ -14,25 +14,24 @@ ghost use Rattle.ob_words.specs.Values.{audit, serve};
 ghost use Rattle.ob_words.specs.Views.{command_view};
 ghost use Rattle.ob_words.specs.Words.{AsksFor, AsksNoRun, AsksToBeTold, Command as Meant, IsUsage, asked_of};
 ghost use Rattle.ob_schema.specs.Tables.{Tables};
-ghost use Rattle.stockd.specs.Ending.{HasReason, WritesLast, last_line, status_of};
-ghost use Rattle.stockd.specs.Opening.{ServesDoor, ServesLines};
-ghost use Rattle.stockd.specs.Outside.{Doorway, doorway, outside, surroundings};
+ghost use Rattle.ob_server.specs.Ending.{HasReason, WritesLast, last_line, status_of};
+ghost use Rattle.ob_server.specs.Opening.{ServesDoor, ServesLines};
+ghost use Rattle.ob_server.specs.Outside.{Doorway, doorway, surroundings};
+ghost use Rattle.ob_server.specs.Session.{StandsFor};
+ghost use Rattle.stockd.specs.Outside.{outside};
 ghost use Rattle.stockd.specs.Program.{AreLoadedBy, EndsAction, EndsAudit, EndsCall, EndsServe, HasCauses, IsUntouched, KeepsOthers, Runs};
-ghost use Rattle.stockd.specs.Session.{StandsFor};
 ghost use Rattle.stockd.specs.Setup.{setup_of};
 ghost use Rattle.stockd.specs.Store.{IsOpeningEnding, MayEndLoading, MayEndOpening, EndsLoading, EndsOpening, TellsFault};
 
 use crate::auditing::audited;
-use crate::ending::Ending;
 use crate::help::{told_help, told_version};
-use crate::opening::{filled_connections, filled_lines};
-use crate::terms::Terms;
 use ob_base::{NoMemory, Word};
 use ob_cache::{Engine, OpenFault};
 use ob_io::{Clock, Door, Files, Keeper, Sink, Source};
 use ob_load::{FaultyModule, LoadFault, Loaded, load};
 use ob_orm::cell_text;
 use ob_schema::Schema;
+use ob_server::{Ending, Terms, filled_connections, filled_lines};
 use ob_words::{Action, Asked, Command, asked_of};
 use std::alloc::Global;
 

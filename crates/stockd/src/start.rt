@@ -7,13 +7,13 @@ ghost use Rattle.std.specs.Prelude.{◌≡◌, ◌⊎◌, [], drop, IfOk, IsErr,
 ghost use Rattle.std.specs.IoError.{error_kind};
 ghost use Rattle.std.specs.Vec.Iter.{into_iter_items};
 ghost use Rattle.ob_words.specs.Words.{IsUsage};
-ghost use Rattle.stockd.specs.declared.ending.Ending.{Ending};
-ghost use Rattle.stockd.specs.Ending.{status_of};
+ghost use Rattle.ob_server.specs.declared.ending.Ending.{Ending};
+ghost use Rattle.ob_server.specs.Ending.{status_of};
 
-use crate::ending::Ending;
 use crate::run::run;
 use ob_base::NoMemory;
 use ob_io::{DiskFiles, HostClock, Keeper, StdSink, StdSource, SureKeeper, TcpDoor};
+use ob_server::Ending;
 use ob_sqlite::keeper_at;
 use ob_words::{Store, Usage, address_of, store_of};
 use std::alloc::Global;

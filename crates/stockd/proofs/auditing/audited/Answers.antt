@@ -2,8 +2,8 @@
 use Rattle.std.proofs.Common.{[], refl}
 use Rattle.ob_audit.specs.Report.{IsReport}
 use Rattle.ob_io.specs.Store.{Store}
-use Rattle.stockd.proofs.ReportWritten.{at_told, reason_weaker, report_told}
-use Rattle.stockd.proofs.WrittenParts.{nothing_written}
+use Rattle.ob_server.proofs.CallerLemmas.{nothing_written, reason_weaker}
+use Rattle.stockd.proofs.ReportWritten.{at_told, report_told}
 use Rattle.stockd.proofs.auditing.audited.Goals as goal
 
 pub returns-in-Ok-clause-told : goal.returns-in-Ok-clause-told

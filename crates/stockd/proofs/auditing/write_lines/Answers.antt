@@ -1,7 +1,7 @@
 -- A line goes behind those before it, or a front of it does, where the sink fails.
 use Rattle.std.proofs.Common.{arith}
+use Rattle.ob_server.proofs.CallerLemmas.{at_any_error}
 use Rattle.stockd.proofs.ReportWritten.{cut_in_line, line_more}
-use Rattle.stockd.proofs.WrittenParts.{at_any_error}
 use Rattle.stockd.proofs.auditing.write_lines.Goals as goal
 
 pub returns-in_err-write_line-clause-err : goal.returns-in_err-write_line-clause-err

@@ -1,6 +1,6 @@
 -- The lines so far were written after what stood before.
 use Rattle.std.proofs.Common.{◌≡◌, ◌≤◌, ◌++◌, take, option_map}
-use Rattle.stockd.specs.Session.{reply_lines}
+use Rattle.ob_server.specs.Session.{reply_lines}
 use Rattle.stockd.proofs.auditing.write_lines.Given as goal
 
 abbrev pub invariant-loop-line : goal.invariant-loop-line

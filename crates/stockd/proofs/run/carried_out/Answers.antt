@@ -1,9 +1,8 @@
 -- What the action does is what is done.
 use Rattle.std.proofs.Common.{ap, inl}
 use Rattle.ob_words.specs.Views.{action_view}
-use Rattle.stockd.proofs.ReceptionOpened.{of_door, of_source, served}
-use Rattle.stockd.proofs.ReportWritten.{reason_weaker}
-use Rattle.stockd.proofs.WholeCall.{called, audited}
+use Rattle.ob_server.proofs.CallerLemmas.{reason_weaker}
+use Rattle.stockd.proofs.WholeCall.{audited, called, of_door, of_source, served}
 use Rattle.stockd.proofs.run.carried_out.Goals as goal
 
 pub returns-in-Call-clause-outcome : goal.returns-in-Call-clause-outcome

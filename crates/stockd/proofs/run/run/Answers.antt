@@ -2,7 +2,7 @@
 use Rattle.std.proofs.Common.{◌≡◌, ap, arith, inl, inr, refl, sym, ◌∙◌}
 use Rattle.ob_words.specs.Views.{command_view}
 use Rattle.ob_words.specs.Words.{Command}
-use Rattle.stockd.specs.declared.ending.Ending.TheVariants as ending
+use Rattle.ob_server.specs.declared.ending.Ending.TheVariants as ending
 use Rattle.stockd.proofs.WholeCall.{not_begun}
 use Rattle.stockd.proofs.WordsAsked.{no_command, no_room, none_told, not_told, run_asked, some_asked, told_causes, told_status}
 use Rattle.stockd.proofs.run.run.Goals as goal
